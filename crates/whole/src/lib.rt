@@ -1,0 +1,15 @@
+// Whole numbers: quotients rounded up and cut toward zero, sign and size of a signed number, and
+// the largest leg in the kVA circle. Nothing here knows of batteries.
+mod circle;
+mod quotients;
+mod sign;
+
+pub use circle::leg;
+pub use quotients::cut;
+pub use quotients::up;
+pub use sign::below_zero32;
+pub use sign::below_zero64;
+pub use sign::signed32;
+pub use sign::signed64;
+pub use sign::size32;
+pub use sign::size64;
