@@ -2,18 +2,18 @@
 -- A signed local holds bits, so each value that is read is `toZ w (ofZ w z)`, which is z where z fits (`toZ-ofZ`). Assumes nothing.
 use mathlib.Core.Path.{_≡_, refl, sym, ap, _∙_, subst, subst⁻¹}
 use mathlib.Core.Bool.{Bool, true, false, not}
-use Prim.Native.Nat.{ℕ, zero, suc, _+_, _-_, _*_, _^_, _<_}
-use native.Mathlib.Nat.{zero-add, lt-trans, lt-suc-self}
+use Prim.Native.Nat.{ℕ, zero, suc, _+_, _-_, _*_, _^_, _≤_, _<_}
+use native.Mathlib.Nat.{zero-add, add-comm, lt-trans, lt-suc-self, le-refl, le-trans, le-of-eq}
 use native.Mathlib.Numerals.{add-one}
 use native.Mathlib.Omega.{arith}
 use lib.IntN.{ℤ, pos, negsuc, negℤ, natAbs, _+ℤ_, _-ℤ_, subℕ}
-use lib.Signed.{mag, ltZ, nonNeg}
+use lib.Signed.{mag, ltZ, nonNeg, natAbs-le}
 use lib.Dec.{T, ltb, leb·suc-zero}
-use borrow.Author.Tests.{le-ltb, not-true, not-false}
+use borrow.Author.Tests.{le-ltb, ltb-true, not-true, not-false}
 use mir.Syntax.{Width}
 use mir.Val.{bits, hbits, Fits, SFits, toZ, ofZ}
 use mir.ValLaws.{toZ-ofZ, toZ-pos, half-full, pow-bits}
-use Rattle.whole.proofs.Choice.{passed-failed}
+use Rattle.whole.proofs.Choice.{by-test, passed-failed}
 use Rattle.whole.specs.Signed.{negative, signed}
 
 -- ---- a number is its sign and its size
@@ -32,6 +32,13 @@ sub-one-more n = simp (le-ltb (suc n) 1 (omega arith)) (ap pos less)
   where
     less : suc n - 1 ≡ n
     less = omega arith
+
+-- a difference of two sizes is no larger than both together
+size-sub-le : (a b : ℕ) → natAbs (subℕ a b) ≤ a + b
+size-sub-le a b =
+    by-test (λ (z : ℤ). natAbs z ≤ a + b) (ltb a b) (negsuc (b - suc a)) (pos (a - b))
+    (λ t. let l : a < b = ltb-true a b t in omega arith)
+    (λ t. omega arith)
 
 below-pos : (a : ℕ) → ltZ (pos a) (pos 0) ≡ false
 below-pos a = leb·suc-zero a
@@ -133,3 +140,25 @@ pub signed-fits : (w : Width) (b : Bool) (n : ℕ) → n < 2 ^ hbits w → SFits
 signed-fits w false n h = record { sfits = h }
 signed-fits w true zero h = record { sfits = h }
 signed-fits w true (suc n) h = record { sfits = lt-trans (lt-suc-self n) h }
+
+-- ---- signed numbers in code: what is read back, compared, added, widened
+
+-- a number that fits is read back from its bits
+pub read : (w : Width) (z : ℤ) → mag z < 2 ^ hbits w → toZ w (ofZ w z) ≡ z
+read w z h = toZ-ofZ w z (record { sfits = h })
+
+-- a number whose size is below the half fits
+pub size-fits : (w : Width) (z : ℤ) → natAbs z < 2 ^ hbits w → SFits w z
+size-fits w (pos n) h = record { sfits = h }
+size-fits w (negsuc n) h = record { sfits = lt-trans (lt-suc-self n) h }
+
+-- the size of a number that fits
+pub fits-size : (w : Width) (z : ℤ) → SFits w z → natAbs z ≤ 2 ^ hbits w
+fits-size w z f = natAbs-le z (f .sfits)
+
+-- a sum is no larger than the sizes together
+pub size-sum : (x y : ℤ) → natAbs (x +ℤ y) ≤ natAbs x + natAbs y
+size-sum (pos a) (pos b) = le-refl (a + b)
+size-sum (pos a) (negsuc b) = size-sub-le a (suc b)
+size-sum (negsuc a) (pos b) = le-trans (size-sub-le b (suc a)) (le-of-eq (add-comm b (suc a)))
+size-sum (negsuc a) (negsuc b) = omega arith

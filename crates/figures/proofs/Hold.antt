@@ -1,0 +1,9 @@
+-- Every figure of the table is as document 01 states it: the definitions compute it. Assumes nothing.
+use mathlib.Core.List.{List, map}
+use mathlib.Core.Path.{_≡_, refl}
+use lib.IntN.{ℤ}
+use Rattle.figures.specs.Table.{Figure, table}
+
+pub figures-hold : map (λ (f : Figure). f .given) table ≡ map (λ (f : Figure). f .stated) table
+unfolding table
+figures-hold = refl

@@ -1,0 +1,2 @@
+-- The bench figures of document 01.
+pub mod Table

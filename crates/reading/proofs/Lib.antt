@@ -1,0 +1,4 @@
+-- Laws about the conversion and the phase choice, for this crate's proofs and for those above it.
+pub mod NearestLaws
+pub mod DoubleLaws
+pub mod ChoiceLaws

@@ -1,0 +1,4 @@
+-- A reading: three phase powers in kW, the whole watts that each becomes, the choice among them, and watts as a kW double.
+pub mod Conversion
+pub mod Choice
+pub mod Kilowatts

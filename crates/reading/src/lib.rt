@@ -1,0 +1,37 @@
+// A reading of the meter: three phase powers in kW as doubles, or none. Each power becomes whole
+// watts or is refused; then one measure is chosen of the three.
+mod choosing;
+mod convert;
+mod kilowatts;
+
+pub use choosing::refusal;
+pub use choosing::regulated;
+pub use convert::converted;
+pub use convert::watts_of_bits;
+pub use kilowatts::kw;
+pub use kilowatts::kw_bits;
+
+// What a kW double becomes: whole watts, at most 10^8 in size, or nothing that can be used.
+pub enum Watts {
+    Whole(i32),
+    Refused,
+}
+
+// The powers of the three phases, in kW, as the meter wrote them.
+pub struct Phases {
+    pub first: f64,
+    pub second: f64,
+    pub third: f64,
+}
+
+// A step's reading: the meter wrote nothing, or three powers.
+pub enum Reading {
+    Missing,
+    Power(Phases),
+}
+
+// The regulated measure in watts, or the number of the refusal.
+pub enum Measure {
+    Chosen(i64),
+    RefusedBy(u8),
+}

@@ -1,0 +1,17 @@
+//! The rules of document 01 in ordinary Rust.
+//!
+//! This crate is written from the document and from nothing else, so that it can disagree with the
+//! proved library. Where there is a choice of method it takes the plainest one, and a different one
+//! from what a quick program would take. It answers any input; a refusal is the document's number.
+
+pub mod natural;
+pub mod octets;
+pub mod reading;
+pub mod samples;
+pub mod whole;
+
+/// A value outside its range.
+pub const OUT_OF_RANGE: u32 = 5;
+
+/// A reading refused by the conversion.
+pub const READING_NOT_USABLE: u32 = 6;

@@ -1,0 +1,31 @@
+#!/bin/bash
+# Builds the C programs over the archive into build/x86_64/, and beside them build/watts, the command that
+# people call. The archive must be there already.
+set -eu
+cd "$(dirname "${BASH_SOURCE[0]}")/.."
+. tools/env.sh
+yb_toolchain || { echo "$YB_CC_WHY" >&2; exit 1; }
+
+programs='host test_surface watts'
+commands='watts'
+
+# Nothing of an earlier build may stand in for what fails to build now.
+for name in $programs $commands; do
+    rm -f "build/x86_64/$name" "build/$name"
+done
+[ -f "$YB_ARCHIVE" ] || { echo "no archive at $YB_ARCHIVE" >&2; exit 1; }
+
+mkdir -p build/x86_64
+for name in $programs; do
+    # shellcheck disable=SC2086 # YB_STATIC may be no word
+    "$YB_CC" -O2 -Wall -Wextra -Werror -std=c11 $YB_STATIC -o "build/x86_64/$name" "c/$name.c" "$YB_ARCHIVE"
+done
+
+for name in $commands; do
+    if [ -z "$YB_EMULATOR" ]; then
+        cp "build/x86_64/$name" "build/$name"
+    else
+        sed "s/@NAME@/$name/g" tools/emulated.in >"build/$name"
+        chmod +x "build/$name"
+    fi
+done
