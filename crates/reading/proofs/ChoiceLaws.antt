@@ -2,14 +2,14 @@
 use mathlib.Core.Path.{_≡_, refl, sym, ap, ap₂, _∙_, subst⁻¹}
 use mathlib.Core.Bool.{Bool, true, false, cond}
 use Prim.Native.Nat.{ℕ, _+_, _^_, _≤_, _<_}
-use native.Mathlib.Nat.{le-trans, lt-trans, lt-of-le-of-lt, add-le-add}
+use native.Mathlib.Nat.{le-trans, lt-of-le-of-lt, add-le-add}
 use lib.Dec.{lit<}
 use lib.IntN.{ℤ, _+ℤ_, natAbs}
-use lib.Signed.{leZ, mag, natAbs-le}
+use lib.Signed.{leZ, mag}
 use borrow.Author.Tests.{ne-eqb, le-leb, lt-leb}
 use mir.Syntax.{Width, w32, w64}
 use mir.Val.{SFits, hbits, toZ, ofZ}
-use Rattle.whole.proofs.SignLaws.{read, size-sum, size-fits}
+use Rattle.whole.proofs.SignLaws.{read, size-sum, size-fits, wide-is, wide-size}
 use Rattle.reading.specs.declared.Phases.{Phases}
 use Rattle.reading.specs.declared.Watts.{Watts}
 use Rattle.reading.specs.declared.Watts.the-variants.{Whole, Refused}
@@ -132,20 +132,13 @@ module _ (p : Phases) (phase : ℕ) (h : phase ≤ 5) (x : Watts) (ex : x ≡ wa
       pub all-taken : (c : ℤ) → z ≡ Whole c → Chosen (choiceOf phase a b c) ≡ measureOf p phase
       all-taken c e = sym (measure-is y z ey ez ∙ ap₂ (λ (v w : Watts). chosenOf phase v w z) ea eb ∙ ap (chosenOf phase (Whole a) (Whole b)) e)
 
--- a 32-bit number widened to 64 bits is itself, and its size is known
-module _ (a : ℤ) (h : mag a < 2 ^ 31) where
-  pub widen-fits : SFits w64 (toZ w32 (ofZ w32 a))
-  widen-fits = subst⁻¹ (SFits w64) (read w32 a h) (record { sfits = lt-trans h (lit< tt) })
-
-  pub widen-is : back (toZ w32 (ofZ w32 a)) ≡ a
-  widen-is = read w64 (toZ w32 (ofZ w32 a)) (widen-fits .sfits) ∙ read w32 a h
-
-  pub widen-size : natAbs (back (toZ w32 (ofZ w32 a))) ≤ 2147483648
-  widen-size = subst⁻¹ (λ (z : ℤ). natAbs z ≤ 2147483648) widen-is (natAbs-le a h)
+-- the sizes that the choice asks for, of numbers widened from 32 bits
+pub widened-size : (a : ℤ) → mag a < 2 ^ 31 → natAbs (back (toZ w32 (ofZ w32 a))) ≤ 2147483648
+widened-size a h = subst⁻¹ (λ (z : ℤ). natAbs z ≤ 2147483648) (wide-is a h) (wide-size a h)
 
 pub choice-widened : (phase : ℕ) (a b c : ℤ) → mag a < 2 ^ 31 → mag b < 2 ^ 31 → mag c < 2 ^ 31
     → choiceOf phase (back (toZ w32 (ofZ w32 a))) (back (toZ w32 (ofZ w32 b))) (back (toZ w32 (ofZ w32 c))) ≡ choiceOf phase a b c
-choice-widened phase a b c ha hb hc = cc (widen-is a ha, widen-is b hb, widen-is c hc)
+choice-widened phase a b c ha hb hc = cc (wide-is a ha, wide-is b hb, wide-is c hc)
 
 -- ---- whether a reading can be used: what the measure of any phase, here the sum, is refused by
 pub none-missing : (r : Reading) → r ≡ Missing → 0 ≡ refusalOf r

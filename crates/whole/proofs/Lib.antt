@@ -3,3 +3,4 @@ pub mod Choice
 pub mod SignLaws
 pub mod QuotientLaws
 pub mod LargestLaws
+pub mod OverLaws

@@ -5,11 +5,12 @@ use lib.IntN.{ℤ, pos, negsuc, negℤ, natAbs}
 use mir.Syntax.{Width}
 use mir.Val.{SFits, hbits, toZ, ofZ}
 use mir.ValLaws.{toZ-ofZ}
-use mathlib.Core.Bool.{Bool}
+use mathlib.Core.Bool.{Bool, true}
 use lib.Signed.{mag}
 use mathlib.Core.Logic.{_↔_}
-use native.Mathlib.Nat.{div-lt-iff-lt-mul, le-div-iff-mul-le, div-add-mod', mul-add-div-right, one-mul, add-zero, mod-lt, div-eq-of-lt, div-zero, div-le-self, suc-mul, mul-le-mul-left, lt-of-le-of-lt, le-of-suc-le-suc}
+use native.Mathlib.Nat.{div-lt-iff-lt-mul, le-div-iff-mul-le, div-add-mod', mul-add-div-right, one-mul, add-zero, mod-lt, div-eq-of-lt, div-zero, div-le-self, suc-mul, mul-le-mul-left, lt-of-le-of-lt, le-of-suc-le-suc, le-trans, le-of-eq}
 use native.Mathlib.Omega.{arith}
+use Rattle.whole.proofs.SignLaws.{size-signed}
 use Rattle.whole.specs.Quotient.{ceil, cut}
 use Rattle.whole.specs.Signed.{negative, signed}
 
@@ -106,3 +107,9 @@ module _ (w : Width) (z : ℤ) (b : ℕ) (f : SFits w z) (n : Bool) (s : ℕ) (s
 
   pub cut-is : (r : ℤ) → mag r < 2 ^ hbits w → r ≡ signed n (s / b) → toZ w (ofZ w r) ≡ cut z b
   cut-is r ok e = toZ-ofZ w r (record { sfits = ok }) ∙ e ∙ is-cut
+
+-- a quotient is no larger than what is divided
+pub cut-size : (z : ℤ) (b : ℕ) → natAbs (cut z b) ≤ natAbs z
+unfolding cut
+cut-size (pos a) b = div-le-self a b
+cut-size (negsuc a) b = le-trans (le-of-eq (size-signed true (suc a / b))) (div-le-self (suc a) b)

@@ -1,16 +1,16 @@
 -- Sign and size at every width: what the machine's signed operations give on the way from a number to its sign and size, and back.
 -- A signed local holds bits, so each value that is read is `toZ w (ofZ w z)`, which is z where z fits (`toZ-ofZ`). Assumes nothing.
-use mathlib.Core.Path.{_≡_, refl, sym, ap, _∙_, subst, subst⁻¹}
+use mathlib.Core.Path.{_≡_, refl, sym, ap, ap₂, _∙_, subst, subst⁻¹}
 use mathlib.Core.Bool.{Bool, true, false, not}
 use Prim.Native.Nat.{ℕ, zero, suc, _+_, _-_, _*_, _^_, _≤_, _<_}
-use native.Mathlib.Nat.{zero-add, add-comm, lt-trans, lt-suc-self, le-refl, le-trans, le-of-eq}
+use native.Mathlib.Nat.{zero-add, add-comm, lt-trans, lt-suc-self, le-refl, le-trans, le-of-eq, lt-of-le-of-lt}
 use native.Mathlib.Numerals.{add-one}
 use native.Mathlib.Omega.{arith}
-use lib.IntN.{ℤ, pos, negsuc, negℤ, natAbs, _+ℤ_, _-ℤ_, subℕ}
+use lib.IntN.{ℤ, pos, negsuc, negℤ, natAbs, _+ℤ_, _-ℤ_, _*ℤ_, subℕ}
 use lib.Signed.{mag, ltZ, nonNeg, natAbs-le}
-use lib.Dec.{T, ltb, leb·suc-zero}
+use lib.Dec.{T, ltb, leb·suc-zero, lit<}
 use borrow.Author.Tests.{le-ltb, ltb-true, not-true, not-false}
-use mir.Syntax.{Width}
+use mir.Syntax.{Width, w32, w64}
 use mir.Val.{bits, hbits, Fits, SFits, toZ, ofZ}
 use mir.ValLaws.{toZ-ofZ, toZ-pos, half-full, pow-bits}
 use Rattle.whole.proofs.Choice.{by-test, passed-failed}
@@ -162,3 +162,59 @@ size-sum (pos a) (pos b) = le-refl (a + b)
 size-sum (pos a) (negsuc b) = size-sub-le a (suc b)
 size-sum (negsuc a) (pos b) = le-trans (size-sub-le b (suc a)) (le-of-eq (add-comm b (suc a)))
 size-sum (negsuc a) (negsuc b) = omega arith
+
+-- what the code computes is z: it fits where z's size is below the half, and is read back as z
+pub made-fits : (w : Width) (z made : ℤ) → made ≡ z → natAbs z < 2 ^ hbits w → SFits w made
+made-fits w z made e h = subst⁻¹ (SFits w) e (size-fits w z h)
+
+pub made-is : (w : Width) (z made : ℤ) → made ≡ z → natAbs z < 2 ^ hbits w → toZ w (ofZ w made) ≡ z
+made-is w z made e h = toZ-ofZ w made (made-fits w z made e h) ∙ e
+
+-- a 32-bit number widened to 64 bits
+pub wide-fits : (z : ℤ) → mag z < 2 ^ 31 → SFits w64 (toZ w32 (ofZ w32 z))
+wide-fits z h = subst⁻¹ (SFits w64) (read w32 z h) (record { sfits = lt-trans h (lit< tt) })
+
+pub wide-is : (z : ℤ) → mag z < 2 ^ 31 → toZ w64 (ofZ w64 (toZ w32 (ofZ w32 z))) ≡ z
+wide-is z h = toZ-ofZ w64 (toZ w32 (ofZ w32 z)) (wide-fits z h) ∙ read w32 z h
+
+pub wide-size : (z : ℤ) → mag z < 2 ^ 31 → natAbs z ≤ 2147483648
+wide-size z h = natAbs-le z h
+
+-- sums, differences and products of what was read back, where the sizes leave room
+pub size-neg : (z : ℤ) → natAbs (negℤ z) ≡ natAbs z
+size-neg (pos zero) = refl
+size-neg (pos (suc n)) = refl
+size-neg (negsuc n) = refl
+
+pub size-product : (x y : ℤ) → natAbs (x *ℤ y) ≡ natAbs x * natAbs y
+size-product (pos a) (pos b) = refl
+size-product (pos a) (negsuc b) = size-neg (pos (a * suc b))
+size-product (negsuc a) (pos b) = size-neg (pos (suc a * b))
+size-product (negsuc a) (negsuc b) = refl
+
+module _ (w : Width) (x y x′ y′ : ℤ) (ex : x′ ≡ x) (ey : y′ ≡ y) where
+  module _ (room : natAbs x + natAbs y < 2 ^ hbits w) where
+    pub plus-fits : SFits w (x′ +ℤ y′)
+    plus-fits = made-fits w (x +ℤ y) (x′ +ℤ y′) (ap₂ _+ℤ_ ex ey) (lt-of-le-of-lt (size-sum x y) room)
+
+    pub plus-is : toZ w (ofZ w (x′ +ℤ y′)) ≡ x +ℤ y
+    plus-is = made-is w (x +ℤ y) (x′ +ℤ y′) (ap₂ _+ℤ_ ex ey) (lt-of-le-of-lt (size-sum x y) room)
+
+    minus-size : natAbs (x -ℤ y) < 2 ^ hbits w
+    minus-size = lt-of-le-of-lt (size-sum x (negℤ y)) (subst⁻¹ (λ (n : ℕ). natAbs x + n < 2 ^ hbits w) (size-neg y) room)
+
+    pub minus-fits : SFits w (x′ -ℤ y′)
+    minus-fits = made-fits w (x -ℤ y) (x′ -ℤ y′) (ap₂ _-ℤ_ ex ey) minus-size
+
+    pub minus-is : toZ w (ofZ w (x′ -ℤ y′)) ≡ x -ℤ y
+    minus-is = made-is w (x -ℤ y) (x′ -ℤ y′) (ap₂ _-ℤ_ ex ey) minus-size
+
+  module _ (room : natAbs x * natAbs y < 2 ^ hbits w) where
+    times-size : natAbs (x *ℤ y) < 2 ^ hbits w
+    times-size = subst⁻¹ (λ (n : ℕ). n < 2 ^ hbits w) (size-product x y) room
+
+    pub times-fits : SFits w (x′ *ℤ y′)
+    times-fits = made-fits w (x *ℤ y) (x′ *ℤ y′) (ap₂ _*ℤ_ ex ey) times-size
+
+    pub times-is : toZ w (ofZ w (x′ *ℤ y′)) ≡ x *ℤ y
+    times-is = made-is w (x *ℤ y) (x′ *ℤ y′) (ap₂ _*ℤ_ ex ey) times-size

@@ -2,3 +2,4 @@
 pub mod Quotient
 pub mod Signed
 pub mod Largest
+pub mod Over

@@ -2,9 +2,9 @@
 use borrow.Author.Needs.{needs}
 use mathlib.Core.Path.{ap, _∙_}
 use mir.Syntax.{w64}
-use Rattle.whole.proofs.SignLaws.{read}
+use Rattle.whole.proofs.SignLaws.{read, wide-fits}
 use Rattle.reading.specs.declared.Measure.the-variants.{Chosen}
-use Rattle.reading.proofs.ChoiceLaws.{no-phase, first-refused, second-refused, third-refused, all-taken, widen-fits, widen-size, choice-widened}
+use Rattle.reading.proofs.ChoiceLaws.{no-phase, first-refused, second-refused, third-refused, all-taken, widened-size, choice-widened}
 use Rattle.reading.proofs.choosing.regulated.Statement.{statement}
 use Rattle.reading.proofs.choosing.regulated.Tie as tie
 
@@ -66,22 +66,22 @@ returns-4 c =
     (b .b .given .0 .0) (b .b .given .1) (z .converted3 .result) (z .converted3 .ensures) (c .enum-told3 .given .1)
 
 cast-choice : tie.Need-cast-choice
-cast-choice c = let k = c .before .before .before .before .before .before .before .before in widen-fits (k .before .a .given .0 .0) (k .known-told .given .0 .1)
+cast-choice c = let k = c .before .before .before .before .before .before .before .before in wide-fits (k .before .a .given .0 .0) (k .known-told .given .0 .1)
 
 cast-choice-2 : tie.Need-cast-choice-2
-cast-choice-2 c = let k = c .before .before .before .before in widen-fits (k .before .b .given .0 .0) (k .known-told2 .given .0 .1)
+cast-choice-2 c = let k = c .before .before .before .before in wide-fits (k .before .b .given .0 .0) (k .known-told2 .given .0 .1)
 
 cast-choice-3 : tie.Need-cast-choice-3
-cast-choice-3 c = widen-fits (c .before .c .given .0 .0) (c .known-told3 .given .0 .1)
+cast-choice-3 c = wide-fits (c .before .c .given .0 .0) (c .known-told3 .given .0 .1)
 
 choice-requires : tie.Need-choice-requires
 choice-requires c κs =
     let l = c .before .before .before .before in
     let k = l .before .before .before .before in (
-      widen-size (k .before .a .given .0 .0) (k .known-told .given .0 .1),
+      widened-size (k .before .a .given .0 .0) (k .known-told .given .0 .1),
       (
-        widen-size (l .before .b .given .0 .0) (l .known-told2 .given .0 .1),
-        widen-size (c .before .c .given .0 .0) (c .known-told3 .given .0 .1),
+        widened-size (l .before .b .given .0 .0) (l .known-told2 .given .0 .1),
+        widened-size (c .before .c .given .0 .0) (c .known-told3 .given .0 .1),
       ),
     )
 
