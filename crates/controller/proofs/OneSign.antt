@@ -1,0 +1,80 @@
+-- "Requests of both signs never arise": a pass on requests that are not of both signs gives requests that are not either. A pass that leaves them
+-- keeps their signs, one that clears them leaves 0, and rule 6 lets nothing against the mode through. Assumes nothing.
+use mathlib.Core.Path.{_≡_, refl, sym, ap, _∙_, subst}
+use mathlib.Core.Bool.{Bool, true, false, cond, _&&_}
+use mathlib.Core.List.{List}
+use Prim.Native.Nat.{ℕ, _<_}
+use lib.IntN.{ℤ, pos, _+ℤ_}
+use lib.ListN.{length, getD}
+use lib.Signed.{ltZ}
+use Rattle.whole.specs.Over.{each}
+use Rattle.whole.proofs.Choice.{by-test}
+use Rattle.whole.proofs.OverLaws.{none-of, each-length, each-at}
+use Rattle.controller.specs.declared.Settings.{Settings}
+use Rattle.controller.specs.Ranges.{Fleet, someAbove, someBelow}
+use Rattle.controller.specs.Pass.{total, charges, needOf, rests, spent, inBand, shareOf, limited, withMode, requestAfter, passOf}
+
+-- not requests of both signs
+abbrev pub OneSign : List ℤ → Type 0
+OneSign rs = (someAbove rs && someBelow rs) ≡ false
+
+left-none : (a b : Bool) → a ≡ false → (a && b) ≡ false
+left-none a b e = ap (λ (x : Bool). x && b) e
+
+right-none : (a b : Bool) → b ≡ false → (a && b) ≡ false
+right-none true b e = e
+right-none false b e = refl
+
+-- a list each of whose elements is replaced by one that is not above 0; that is not below 0
+module _ (f : ℕ → ℤ → ℤ) (rs : List ℤ) where
+  none-above : ((i : ℕ) (r : ℤ) → ltZ (pos 0) (f i r) ≡ false) → OneSign (each f rs)
+  unfolding someAbove
+  none-above h =
+      left-none (someAbove (each f rs)) (someBelow (each f rs))
+      (none-of (length (each f rs)) (λ (i : ℕ). ltZ (pos 0) (getD (each f rs) i (pos 0)))
+      (λ i l. ap (ltZ (pos 0)) (each-at f rs i (pos 0) (subst (λ (n : ℕ). i < n) (each-length f rs) l)) ∙ h i (getD rs i (pos 0))))
+
+  none-below : ((i : ℕ) (r : ℤ) → ltZ (f i r) (pos 0) ≡ false) → OneSign (each f rs)
+  unfolding someBelow
+  none-below h =
+      right-none (someAbove (each f rs)) (someBelow (each f rs))
+      (none-of (length (each f rs)) (λ (i : ℕ). ltZ (getD (each f rs) i (pos 0)) (pos 0))
+      (λ i l. ap (λ (z : ℤ). ltZ z (pos 0)) (each-at f rs i (pos 0) (subst (λ (n : ℕ). i < n) (each-length f rs) l)) ∙ h i (getD rs i (pos 0))))
+
+-- nothing against the mode
+not-above : (z : ℤ) → ltZ (pos 0) (withMode true z) ≡ false
+unfolding withMode
+not-above z = by-test (λ (x : ℤ). ltZ (pos 0) x ≡ false) (ltZ (pos 0) z) (pos 0) z (λ t. refl) (λ t. t)
+
+not-below : (z : ℤ) → ltZ (withMode false z) (pos 0) ≡ false
+unfolding withMode
+not-below z = by-test (λ (x : ℤ). ltZ x (pos 0) ≡ false) (ltZ z (pos 0)) (pos 0) z (λ t. refl) (λ t. t)
+
+-- what rule 6 makes of the requests
+mode-rules : (s : Settings) (n : ℕ) (f : Fleet) (need : ℤ) (i : ℕ) (r : ℤ)
+    → requestAfter s n f need i r ≡ withMode (charges (s .mode)) (limited (getD (f .rating) i 0) (r +ℤ shareOf (s .factor) need (getD (f .weight) i 0) (total n (f .weight))))
+unfolding requestAfter
+mode-rules s n f need i r = refl
+
+shared : (s : Settings) (n : ℕ) (f : Fleet) (need : ℤ) (rs : List ℤ) (c : Bool) → charges (s .mode) ≡ c → OneSign (each (requestAfter s n f need) rs)
+shared s n f need rs true e =
+    none-above (requestAfter s n f need) rs
+    (λ i r.
+    let z = limited (getD (f .rating) i 0) (r +ℤ shareOf (s .factor) need (getD (f .weight) i 0) (total n (f .weight))) in
+    ap (ltZ (pos 0)) (mode-rules s n f need i r ∙ ap (λ (b : Bool). withMode b z) e) ∙ not-above z)
+shared s n f need rs false e =
+    none-below (requestAfter s n f need) rs
+    (λ i r.
+    let z = limited (getD (f .rating) i 0) (r +ℤ shareOf (s .factor) need (getD (f .weight) i 0) (total n (f .weight))) in
+    ap (λ (x : ℤ). ltZ x (pos 0)) (mode-rules s n f need i r ∙ ap (λ (b : Bool). withMode b z) e) ∙ not-below z)
+
+pub one-sign : (s : Settings) (m : ℤ) (f : Fleet) (rs : List ℤ) → OneSign rs → OneSign (passOf s m f rs)
+unfolding passOf
+one-sign s m f rs h =
+    by-test OneSign (rests (charges (s .mode)) (needOf s m rs) rs) rs
+    (cond (spent (charges (s .mode)) (length rs) f) (each (λ (i : ℕ) (r : ℤ). pos 0) rs) (cond (inBand (s .band) (needOf s m rs)) rs (each (requestAfter s (length rs) f (needOf s m rs)) rs)))
+    (λ t. h)
+    (λ t.
+    by-test OneSign (spent (charges (s .mode)) (length rs) f) (each (λ (i : ℕ) (r : ℤ). pos 0) rs) (cond (inBand (s .band) (needOf s m rs)) rs (each (requestAfter s (length rs) f (needOf s m rs)) rs))
+    (λ u. none-above (λ (i : ℕ) (r : ℤ). pos 0) rs (λ i r. refl))
+    (λ u. by-test OneSign (inBand (s .band) (needOf s m rs)) rs (each (requestAfter s (length rs) f (needOf s m rs)) rs) (λ v. h) (λ v. shared s (length rs) f (needOf s m rs) rs (charges (s .mode)) refl)))

@@ -1,0 +1,145 @@
+-- A pass as the code goes through it: each way out leaves what the definition says. Assumes nothing.
+use mathlib.Core.Path.{_≡_, refl, sym, ap, ap₂, _∙_, subst, subst⁻¹}
+use mathlib.Core.Bool.{Bool, true, false, not, cond, _&&_}
+use mathlib.Core.List.{List}
+use Prim.Native.Nat.{ℕ, _≤_, _<_, _^_}
+use native.Mathlib.Nat.{le-trans, lt-of-le-of-lt}
+use lib.Dec.{leb, eqb, lit<, lit≤}
+use lib.IntN.{ℤ, pos, natAbs, _+ℤ_}
+use lib.ListN.{length, getD}
+use lib.Signed.{leZ}
+use Rattle.whole.specs.Over.{each}
+use Rattle.whole.proofs.OverLaws.{none-of}
+use Rattle.controller.specs.declared.Settings.{Settings}
+use Rattle.controller.specs.declared.Asked.{Asked}
+use Rattle.controller.specs.declared.Passed.{Passed}
+use Rattle.controller.specs.Ranges.{Fleet, someAbove, someBelow}
+use Rattle.controller.specs.Pass.{total, charges, plainNeed, sumOfAll, needOf, rests, spent, inBand, unitAfter, requestAfter, passOf, differ, changedOf}
+use Rattle.controller.specs.Posts.{AskedOf, SameLengths, Energies, Addable, Sharing, Sound, DonePass, needFrom, restsBy, spentBy, unitsAfter}
+use Rattle.controller.proofs.DifferLaws.{same-same}
+use Rattle.controller.proofs.RuleLaws.{back64, read-sized, need-size}
+
+-- requests that stay do not change
+pub no-change : (rs : List ℤ) → changedOf rs rs ≡ false
+unfolding changedOf
+no-change rs = none-of (length rs) (λ (i : ℕ). differ (getD rs i (pos 0)) (getD rs i (pos 0))) (λ i h. same-same (getD rs i (pos 0)))
+
+module _ (s : Settings) (m : ℤ) (f : Fleet) (rs : List ℤ) (sound : Sound s m f (length rs)) (a : Asked) (ea : AskedOf rs a)
+    (need : ℤ) (en : need ≡ needFrom s (back64 m) a) where
+  -- ---- the code's rules are the definition's
+  measure-read : back64 m ≡ m
+  measure-read = read-sized m (lt-of-le-of-lt (sound .measure-small) (lit< tt))
+
+  from-is : needFrom s m a ≡ needOf s m rs
+  unfolding needFrom needOf
+  from-is = agree (a .above) (a .below) (a .sum) (ea .above) (ea .below) (ea .sum)
+    where
+      agree : (u d : Bool) (z : ℤ) → u ≡ someAbove rs → d ≡ someBelow rs → z ≡ sumOfAll rs
+          → cond (cond (charges (s .mode)) u d) (plainNeed s m +ℤ z) (plainNeed s m)
+          ≡ cond (cond (charges (s .mode)) (someAbove rs) (someBelow rs)) (plainNeed s m +ℤ sumOfAll rs) (plainNeed s m)
+      agree u d z eu ed ez = cc
+
+  need-agrees : need ≡ needOf s m rs
+  need-agrees = en ∙ ap (λ (z : ℤ). needFrom s z a) measure-read ∙ from-is
+
+  small : natAbs need ≤ 400000000000
+  small =
+      subst⁻¹ (λ (z : ℤ). natAbs z ≤ 400000000000) (en ∙ ap (λ (z : ℤ). needFrom s z a) measure-read)
+      (need-size s m a (sound .measure-small) (le-trans (ea .bounded) (lit≤ tt)) (sound .target-small) (plainNeed s (back64 m)) refl (ea .bounded))
+
+  need-read : back64 need ≡ need
+  need-read = read-sized need (lt-of-le-of-lt small (lit< tt))
+
+  pub need-small : natAbs (back64 need) ≤ 400000000000
+  need-small = subst⁻¹ (λ (z : ℤ). natAbs z ≤ 400000000000) need-read small
+
+  both : back64 need ≡ needOf s m rs
+  both = need-read ∙ need-agrees
+
+  module _ (resting : Bool) (er : resting ≡ restsBy (eqb (s .mode) 3) (back64 need) a) where
+    rests-agrees : resting ≡ rests (charges (s .mode)) (needOf s m rs) rs
+    unfolding restsBy rests
+    rests-agrees = er ∙ agree (a .above) (a .below) (back64 need) (ea .above) (ea .below) both
+      where
+        agree : (u d : Bool) (z : ℤ) → u ≡ someAbove rs → d ≡ someBelow rs → z ≡ needOf s m rs
+            → (not (cond (charges (s .mode)) d u) && cond (charges (s .mode)) (leZ (pos 0) z) (leZ z (pos 0)))
+            ≡ (not (cond (charges (s .mode)) (someBelow rs) (someAbove rs)) && cond (charges (s .mode)) (leZ (pos 0) (needOf s m rs)) (leZ (needOf s m rs) (pos 0)))
+        agree u d z eu ed ez = cc
+
+    -- ---- rule 3
+    pub done-rests : resting ≡ true → DonePass s m f rs rs (record { need = back64 need; changed = false })
+    unfolding passOf
+    done-rests t = record {
+      requests = sym (ap (λ (b : Bool). cond b rs (cond (spent (charges (s .mode)) (length rs) f) (each (λ (i : ℕ) (r : ℤ). pos 0) rs) (cond (inBand (s .band) (needOf s m rs)) rs (each (requestAfter s (length rs) f (needOf s m rs)) rs)))) (sym rests-agrees ∙ t));
+      need = both;
+      changed = sym (no-change rs);
+    }
+
+    module _ (going : resting ≡ false) (empty : Bool) (ee : empty ≡ spentBy (eqb (s .mode) 3) (f .rated) (f .reserve) (f .stored)) where
+      goes : passOf s m f rs
+          ≡ cond (spent (charges (s .mode)) (length rs) f) (each (λ (i : ℕ) (r : ℤ). pos 0) rs) (cond (inBand (s .band) (needOf s m rs)) rs (each (requestAfter s (length rs) f (needOf s m rs)) rs))
+      unfolding passOf
+      goes = ap (λ (b : Bool). cond b rs (cond (spent (charges (s .mode)) (length rs) f) (each (λ (i : ℕ) (r : ℤ). pos 0) rs) (cond (inBand (s .band) (needOf s m rs)) rs (each (requestAfter s (length rs) f (needOf s m rs)) rs)))) (sym rests-agrees ∙ going)
+
+      spent-agrees : empty ≡ spent (charges (s .mode)) (length rs) f
+      unfolding spentBy spent
+      spent-agrees = ee ∙ agree (length (f .rated)) (length (f .reserve)) (length (f .stored)) (sound .lengths .rated) (sound .lengths .reserve) (sound .lengths .stored)
+        where
+          agree : (x y z : ℕ) → x ≡ length rs → y ≡ length rs → z ≡ length rs
+              → cond (eqb (s .mode) 3) (eqb (total z (f .stored)) (total x (f .rated))) (leb (total z (f .stored)) (total y (f .reserve)))
+              ≡ cond (charges (s .mode)) (eqb (total (length rs) (f .stored)) (total (length rs) (f .rated))) (leb (total (length rs) (f .stored)) (total (length rs) (f .reserve)))
+          agree x y z ex ey ez =
+              ap₂ (λ (u v : ℕ). cond (eqb (s .mode) 3) (eqb (total v (f .stored)) (total u (f .rated))) (leb (total v (f .stored)) (total y (f .reserve)))) ex ez
+              ∙ ap (λ (w : ℕ). cond (eqb (s .mode) 3) (eqb (total (length rs) (f .stored)) (total (length rs) (f .rated))) (leb (total (length rs) (f .stored)) (total w (f .reserve)))) ey
+
+      -- ---- rule 4
+      pub done-clear : empty ≡ true → (after : List ℤ) (changed : Bool) → after ≡ each (λ (i : ℕ) (r : ℤ). pos 0) rs → changed ≡ changedOf rs after
+          → DonePass s m f rs after (record { need = back64 need; changed = changed })
+      done-clear t after changed e h = record {
+        requests = e ∙ sym (goes ∙ ap (λ (b : Bool). cond b (each (λ (i : ℕ) (r : ℤ). pos 0) rs) (cond (inBand (s .band) (needOf s m rs)) rs (each (requestAfter s (length rs) f (needOf s m rs)) rs))) (sym spent-agrees ∙ t));
+        need = both;
+        changed = h;
+      }
+
+      module _ (able : empty ≡ false) (close : Bool) (ec : close ≡ inBand (s .band) (back64 need)) where
+        goes-on : passOf s m f rs ≡ cond close rs (each (requestAfter s (length rs) f (needOf s m rs)) rs)
+        goes-on =
+            goes
+            ∙ ap (λ (b : Bool). cond b (each (λ (i : ℕ) (r : ℤ). pos 0) rs) (cond (inBand (s .band) (needOf s m rs)) rs (each (requestAfter s (length rs) f (needOf s m rs)) rs))) (sym spent-agrees ∙ able)
+            ∙ ap (λ (b : Bool). cond b rs (each (requestAfter s (length rs) f (needOf s m rs)) rs)) (sym (ec ∙ ap (inBand (s .band)) both))
+
+        -- ---- rule 5
+        pub done-band : close ≡ true → DonePass s m f rs rs (record { need = back64 need; changed = false })
+        done-band t = record {
+          requests = sym (goes-on ∙ ap (λ (b : Bool). cond b rs (each (requestAfter s (length rs) f (needOf s m rs)) rs)) t);
+          need = both;
+          changed = sym (no-change rs);
+        }
+
+        -- ---- rule 6
+        shared-is : each (unitsAfter (eqb (s .mode) 3) (s .factor) (back64 need) (f .rating) (f .weight)) rs ≡ each (requestAfter s (length rs) f (needOf s m rs)) rs
+        unfolding requestAfter
+        shared-is =
+            ap₂ (λ (z : ℤ) (n : ℕ). each (λ (i : ℕ) (r : ℤ). unitAfter (eqb (s .mode) 3) (s .factor) z (total n (f .weight)) (getD (f .rating) i 0) (getD (f .weight) i 0) r) rs)
+            both (sound .lengths .weight)
+
+        pub done-shares : close ≡ false → (after : List ℤ) (changed : Bool)
+            → after ≡ each (unitsAfter (eqb (s .mode) 3) (s .factor) (back64 need) (f .rating) (f .weight)) rs → changed ≡ changedOf rs after
+            → DonePass s m f rs after (record { need = back64 need; changed = changed })
+        done-shares t after changed e h = record {
+          requests = e ∙ shared-is ∙ sym (goes-on ∙ ap (λ (b : Bool). cond b rs (each (requestAfter s (length rs) f (needOf s m rs)) rs)) t);
+          need = both;
+          changed = h;
+        }
+
+-- what rule 6 asks for
+pub sharing : (s : Settings) (m : ℤ) (f : Fleet) (n : ℕ) → Sound s m f n → (need : ℤ) → natAbs need ≤ 400000000000 → Sharing (s .factor) need (f .rating) (f .weight) n
+sharing s m f n sound need h = record {
+  need-small = h;
+  factor-small = sound .factor-small;
+  ratings = sound .lengths .rating;
+  weights = sound .lengths .weight;
+  few = sound .few;
+  rating-small = sound .rating-small;
+  weight-small = sound .weight-small;
+}

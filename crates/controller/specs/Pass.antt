@@ -1,0 +1,98 @@
+-- One controller pass: document 01's rules 1 to 6, in its order. F is the sum of all requests. The fleet is discharging if some request is
+-- above 0, charging if some is below 0, else idle. Modes 1 and 2 discharge, 3 charges.
+use Prim.Native.Nat.{ℕ, _+_, _*_, min}
+use mathlib.Core.Bool.{Bool, not, cond, _&&_}
+use mathlib.Core.List.{List}
+use lib.Dec.{leb, eqb}
+use lib.IntN.{ℤ, pos, natAbs, _+ℤ_, _-ℤ_, _*ℤ_}
+use lib.ListN.{length, getD}
+use lib.Signed.{ltZ, leZ}
+use Rattle.whole.specs.Over.{sumOf, sumOfℤ, someOf, each}
+use Rattle.whole.specs.Quotient.{cut}
+use Rattle.whole.specs.Signed.{negative, signed}
+use Rattle.controller.specs.declared.Settings.{Settings}
+use Rattle.controller.specs.Ranges.{Fleet, someAbove, someBelow}
+
+-- the sum of a list's n values
+abbrev pub total : ℕ → List ℕ → ℕ
+total n xs = sumOf n (λ (i : ℕ). getD xs i 0)
+
+-- F
+unfoldable pub sumOfAll : List ℤ → ℤ
+unfolding sumOfℤ
+sumOfAll rs = sumOfℤ (length rs) (λ (i : ℕ). getD rs i (pos 0))
+
+-- whether a mode charges
+abbrev pub charges : ℕ → Bool
+charges mode = eqb mode 3
+
+-- the fleet is in the mode's own state; it is in the other one
+abbrev pub ownState : Bool → List ℤ → Bool
+ownState charging rs = cond charging (someBelow rs) (someAbove rs)
+
+abbrev pub otherState : Bool → List ℤ → Bool
+otherState charging rs = cond charging (someAbove rs) (someBelow rs)
+
+-- 1. "Need is M - target in modes 1 and 3, M + target in mode 2."
+unfoldable pub plainNeed : Settings → ℤ → ℤ
+plainNeed s m = cond (eqb (s .mode) 2) (m +ℤ s .target) (m -ℤ s .target)
+
+-- 2. "In a discharging mode with a charging fleet, or the reverse, F is added to need. This updated need is used from here on."
+unfoldable pub needOf : Settings → ℤ → List ℤ → ℤ
+unfolding plainNeed sumOfAll someAbove someBelow
+needOf s m rs = cond (otherState (charges (s .mode)) rs) (plainNeed s m +ℤ sumOfAll rs) (plainNeed s m)
+
+-- 3. "Unless the fleet is already in the mode's own state, a discharging mode does nothing at need <= 0, the charging mode at need >= 0."
+unfoldable pub rests : Bool → ℤ → List ℤ → Bool
+unfolding someAbove someBelow
+rests charging need rs = not (ownState charging rs) && cond charging (leZ (pos 0) need) (leZ need (pos 0))
+
+-- 4. "If total stored <= total reserve (charging: total stored = total rated), all requests become 0."
+unfoldable pub spent : Bool → ℕ → Fleet → Bool
+unfolding sumOf
+spent charging n f = cond charging (eqb (total n (f .stored)) (total n (f .rated))) (leb (total n (f .stored)) (total n (f .reserve)))
+
+-- 5. "Otherwise, if 2 x |need| <= band, nothing changes."
+unfoldable pub inBand : ℕ → ℤ → Bool
+inBand band need = leb (2 * natAbs need) band
+
+-- 6. "Otherwise unit i's share is need x weight x factor / (sum of all weights x 1,000), cut toward zero."
+unfoldable pub shareOf : ℕ → ℤ → ℕ → ℕ → ℤ
+unfolding cut
+shareOf factor need weight weights = cut (need *ℤ pos weight *ℤ pos factor) (weights * 1000)
+
+-- "Request + share is limited to R in size. A result against the mode (below 0 discharging, above 0 charging) becomes 0."
+unfoldable pub limited : ℕ → ℤ → ℤ
+limited R z = signed (negative z) (min (natAbs z) R)
+
+unfoldable pub withMode : Bool → ℤ → ℤ
+withMode charging z = cond (cond charging (ltZ (pos 0) z) (ltZ z (pos 0))) (pos 0) z
+
+-- what a unit's request becomes under rule 6, with its rating, its weight and the sum of all weights
+unfoldable pub unitAfter : Bool → ℕ → ℤ → ℕ → ℕ → ℕ → ℤ → ℤ
+unfolding shareOf limited withMode
+unitAfter charging factor need weights rating weight request = withMode charging (limited rating (request +ℤ shareOf factor need weight weights))
+
+unfoldable pub requestAfter : Settings → ℕ → Fleet → ℤ → ℕ → ℤ → ℤ
+unfolding unitAfter sumOf
+requestAfter s n f need i request =
+    unitAfter (charges (s .mode)) (s .factor) need (total n (f .weight)) (getD (f .rating) i 0) (getD (f .weight) i 0) request
+
+-- the requests after a pass
+unfoldable pub passOf : Settings → ℤ → Fleet → List ℤ → List ℤ
+unfolding needOf rests spent inBand requestAfter each
+passOf s m f rs =
+    let need = needOf s m rs in
+    let charging = charges (s .mode) in
+    cond (rests charging need rs) rs
+    (cond (spent charging (length rs) f) (each (λ (i : ℕ) (r : ℤ). pos 0) rs)
+    (cond (inBand (s .band) need) rs (each (requestAfter s (length rs) f need) rs)))
+
+-- two signed numbers differ
+abbrev pub differ : ℤ → ℤ → Bool
+differ a b = not (leZ a b && leZ b a)
+
+-- a pass changed a request
+unfoldable pub changedOf : List ℤ → List ℤ → Bool
+unfolding someOf
+changedOf before after = someOf (length before) (λ (i : ℕ). differ (getD before i (pos 0)) (getD after i (pos 0)))

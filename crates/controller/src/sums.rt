@@ -1,0 +1,65 @@
+ghost use mathlib.Core.Path.{_≡_};
+ghost use Prim.Native.Nat.{_≤_};
+ghost use lib.ListN.{length};
+ghost use lib.IntN.{natAbs};
+ghost use Rattle.controller.specs.Pass.{total};
+ghost use Rattle.controller.specs.Posts.{WithRequest, AskedOf, Addable};
+use super::Asked;
+
+// The sum of a fleet's energies.
+pub fn energy(xs: &[u64]) -> u64
+    requires { ⌜ Addable (now xs) ⌝ }
+    ensures { λ r. ⌜ r ≡ total (length (now (xs .entry))) (now (xs .entry)) ⌝ }
+{
+    let mut sum: u64 = 0;
+    let mut i = 0;
+    while i < xs.len() {
+        sum += xs[i];
+        i += 1;
+    }
+    sum
+}
+
+// The sum of all weights.
+pub fn weights(xs: &[u16]) -> u64
+    requires { ⌜ length (now xs) ≤ 64 ⌝ }
+    ensures { λ r. ⌜ r ≡ total (length (now (xs .entry))) (now (xs .entry)) ⌝ }
+{
+    let mut sum: u64 = 0;
+    let mut i = 0;
+    while i < xs.len() {
+        sum += xs[i] as u64;
+        i += 1;
+    }
+    sum
+}
+
+// What is asked with one request more.
+fn with_request(a: Asked, r: i32) -> Asked
+    requires { ⌜ natAbs (a .sum) ≤ 1000000000000 ⌝ }
+    ensures { λ b. ⌜ WithRequest a r b ⌝ }
+{
+    Asked {
+        sum: a.sum + (r as i64),
+        above: a.above | (0 < r),
+        below: a.below | (r < 0),
+    }
+}
+
+// F, and whether some request is above 0 and some below.
+pub fn asked(requests: &[i32]) -> Asked
+    requires { ⌜ length (now requests) ≤ 64 ⌝ }
+    ensures { λ r. ⌜ AskedOf (now (requests .entry)) r ⌝ }
+{
+    let mut a = Asked {
+        sum: 0,
+        above: false,
+        below: false,
+    };
+    let mut i = 0;
+    while i < requests.len() {
+        a = with_request(a, requests[i]);
+        i += 1;
+    }
+    a
+}
