@@ -17,8 +17,14 @@
 /* Larger than any frame of the tests; a broken length is caught before it is believed. */
 #define MOST_PAYLOAD (64u << 20)
 
-/* What an out-number holds before a call, so that a test can see that it was left alone. */
+/* What an out-number holds before a call, so that a test can see that it was left alone; all of its bytes
+** are equal, for numbers of other widths.
+*/
 #define LEFT_ALONE 0x5A5A5A5A
+
+/* The guard bytes before and after lent memory, and what they hold. */
+#define GUARD 64
+#define GUARD_BYTE 0xA5
 
 static _Noreturn void give_up(const char *why)
 {
@@ -67,11 +73,159 @@ static void call_watts(const uint8_t *payload, size_t length)
     }
 }
 
+/* What is left of a payload. */
+struct rest {
+    const uint8_t *bytes;
+    size_t length;
+    const char *too_short;
+};
+
+static const uint8_t *take(struct rest *rest, uint64_t length)
+{
+    const uint8_t *taken = rest->bytes;
+    if (rest->length < length)
+        give_up(rest->too_short);
+    rest->bytes += length;
+    rest->length -= length;
+    return taken;
+}
+
+static uint64_t take_number(struct rest *rest, int width)
+{
+    return number_at(take(rest, (uint64_t)width), width);
+}
+
+/* Memory to lend, between guards, and a copy of all of it from before the call. */
+struct lent {
+    uint8_t *memory, *copy;
+    size_t length, room;
+};
+
+/* The six lists of a fleet in the order of the calls, and the two out-numbers after them. */
+enum { RATED, RESERVE, STORED, RATING, WEIGHT, REQUESTS, LISTS, FIRST = LISTS, SECOND, ALL_LENT };
+
+static const size_t widths[LISTS] = {8, 8, 8, 4, 2, 4};
+static struct lent lent[ALL_LENT];
+
+/* Puts bytes between guards and gives the address to lend. The archive's numbers are little-endian in
+** memory, as those of a frame are.
+*/
+static void *lend(struct lent *lent, const uint8_t *bytes, size_t length)
+{
+    size_t whole = length + 2 * GUARD;
+    if (lent->room < whole) {
+        lent->room = 2 * whole;
+        lent->memory = realloc(lent->memory, lent->room);
+        lent->copy = realloc(lent->copy, lent->room);
+        if (lent->memory == NULL || lent->copy == NULL)
+            give_up("no memory to lend");
+    }
+    lent->length = length;
+    memset(lent->memory, GUARD_BYTE, whole);
+    if (length != 0)
+        memcpy(lent->memory + GUARD, bytes, length);
+    memcpy(lent->copy, lent->memory, whole);
+    return lent->memory + GUARD;
+}
+
+static void *lend_number(struct lent *lent, size_t width)
+{
+    static const uint64_t left_alone = (uint64_t)LEFT_ALONE << 32 | LEFT_ALONE;
+    return lend(lent, (const uint8_t *)&left_alone, width);
+}
+
+/* 1 if a read-only list or a guard byte is other than before the call. */
+static int disturbed(void)
+{
+    for (int i = 0; i < ALL_LENT; i++) {
+        const struct lent *l = &lent[i];
+        int same = i < REQUESTS
+            ? memcmp(l->memory, l->copy, l->length + 2 * GUARD) == 0
+            : memcmp(l->memory, l->copy, GUARD) == 0 &&
+                memcmp(l->memory + GUARD + l->length, l->copy + GUARD + l->length, GUARD) == 0;
+        if (!same)
+            return 1;
+    }
+    return 0;
+}
+
+/* The lists of a call: their six lengths in elements, u32, and the elements of each list in turn. */
+static void take_lists(struct rest *rest, void *lists[LISTS], size_t lengths[LISTS])
+{
+    for (int i = 0; i < LISTS; i++)
+        lengths[i] = take_number(rest, 4);
+    for (int i = 0; i < LISTS; i++) {
+        size_t bytes = lengths[i] * widths[i];
+        lists[i] = lend(&lent[i], take(rest, bytes), bytes);
+    }
+}
+
+/* What a call over a fleet left: the number, u32; 1 if it wrote where it may not, u8; the two out-numbers
+** in their own widths; the requests, i32.
+*/
+static void put_lent(uint32_t number)
+{
+    put(number, 4);
+    put((uint64_t)disturbed(), 1);
+    for (int i = FIRST; i <= SECOND; i++)
+        put(number_at(lent[i].memory + GUARD, (int)lent[i].length), (int)lent[i].length);
+    for (size_t at = 0; at < lent[REQUESTS].length; at += 4)
+        put(number_at(lent[REQUESTS].memory + GUARD + at, 4), 4);
+}
+
+/* 'P': any number of passes. Each is mode u8, target i32, band u32, factor u16, measure i64, the lists;
+** for each what it left, the need i64 and changed u8.
+*/
+static void call_pass(const uint8_t *payload, size_t length)
+{
+    struct rest rest = {payload, length, "op P: the payload is no row of passes"};
+    while (rest.length != 0) {
+        void *list[LISTS];
+        size_t n[LISTS];
+        uint8_t mode = (uint8_t)take_number(&rest, 1);
+        int32_t target = (int32_t)take_number(&rest, 4);
+        uint32_t band = (uint32_t)take_number(&rest, 4);
+        uint16_t factor = (uint16_t)take_number(&rest, 2);
+        int64_t measure = (int64_t)take_number(&rest, 8);
+        take_lists(&rest, list, n);
+        int64_t *need = lend_number(&lent[FIRST], sizeof *need);
+        uint8_t *changed = lend_number(&lent[SECOND], sizeof *changed);
+        put_lent(yb_pass(mode, target, band, factor, measure, list[RATED], n[RATED], list[RESERVE], n[RESERVE],
+            list[STORED], n[STORED], list[RATING], n[RATING], list[WEIGHT], n[WEIGHT], list[REQUESTS],
+            n[REQUESTS], need, changed));
+    }
+}
+
+/* 'T': any number of settling studies. Each is load i64, target i32, band u32, factor u16, budget u32, the
+** lists; for each what it left, settled u8 and the passes u32.
+*/
+static void call_settle(const uint8_t *payload, size_t length)
+{
+    struct rest rest = {payload, length, "op T: the payload is no row of studies"};
+    while (rest.length != 0) {
+        void *list[LISTS];
+        size_t n[LISTS];
+        int64_t load = (int64_t)take_number(&rest, 8);
+        int32_t target = (int32_t)take_number(&rest, 4);
+        uint32_t band = (uint32_t)take_number(&rest, 4);
+        uint16_t factor = (uint16_t)take_number(&rest, 2);
+        uint32_t budget = (uint32_t)take_number(&rest, 4);
+        take_lists(&rest, list, n);
+        uint8_t *settled = lend_number(&lent[FIRST], sizeof *settled);
+        uint32_t *passes = lend_number(&lent[SECOND], sizeof *passes);
+        put_lent(yb_settle(load, target, band, factor, budget, list[RATED], n[RATED], list[RESERVE], n[RESERVE],
+            list[STORED], n[STORED], list[RATING], n[RATING], list[WEIGHT], n[WEIGHT], list[REQUESTS],
+            n[REQUESTS], settled, passes));
+    }
+}
+
 static const struct {
     uint8_t op;
     void (*call)(const uint8_t *payload, size_t length);
 } ops[] = {
     {'W', call_watts},
+    {'P', call_pass},
+    {'T', call_settle},
 };
 
 static void dispatch(uint8_t op, const uint8_t *payload, size_t length)

@@ -159,6 +159,364 @@ static void test_powers_of_two(void)
     }
 }
 
+/* The lists of a fleet as they are lent. Place 0 of each is a guard, and so are all places past its length;
+** there is room for a fleet that is too large.
+*/
+#define PLACES 72
+
+enum { RATED, RESERVE, STORED, RATING, WEIGHT, REQUESTS, LISTS };
+
+struct lists {
+    uint64_t rated[PLACES], reserve[PLACES], stored[PLACES];
+    uint32_t rating[PLACES];
+    uint16_t weight[PLACES];
+    int32_t requests[PLACES];
+    size_t length[LISTS];
+};
+
+/* The numbers of a pass or a study beside the lists; a study has no mode, and its load is the measure. */
+struct numbers {
+    uint8_t mode;
+    int32_t target;
+    uint32_t band;
+    uint16_t factor;
+    int64_t measure;
+    uint32_t budget;
+};
+
+/* Units that hold more than their reserve and less than they can, at rest. */
+static struct lists fleet_of(size_t units)
+{
+    struct lists lists;
+    memset(&lists, 0xA5, sizeof lists);
+    for (size_t i = 1; i <= units; i++) {
+        lists.rated[i] = 1000;
+        lists.reserve[i] = 100;
+        lists.stored[i] = 500;
+        lists.rating[i] = 1000;
+        lists.weight[i] = 1;
+        lists.requests[i] = 0;
+    }
+    for (int k = 0; k < LISTS; k++)
+        lists.length[k] = units;
+    return lists;
+}
+
+/* The address of a list of which any number of elements is lent; of none it may be NULL. */
+#define LENT(lists, name, k, null) ((null) && (lists)->length[k] == 0 ? NULL : (lists)->name + 1)
+#define LENT_LISTS(l, null)                                                                                     \
+    LENT(l, rated, RATED, null), (l)->length[RATED], LENT(l, reserve, RESERVE, null), (l)->length[RESERVE],     \
+        LENT(l, stored, STORED, null), (l)->length[STORED], LENT(l, rating, RATING, null), (l)->length[RATING], \
+        LENT(l, weight, WEIGHT, null), (l)->length[WEIGHT], LENT(l, requests, REQUESTS, null),                  \
+        (l)->length[REQUESTS]
+
+static void tell_lists(const char *call, const struct numbers *n, const struct lists *lists)
+{
+    fprintf(stderr,
+        "%s: mode %d, target %" PRId32 ", band %" PRIu32 ", factor %u, measure or load %" PRId64
+        ", budget %" PRIu32 ", lengths",
+        call, n->mode, n->target, n->band, (unsigned)n->factor, n->measure, n->budget);
+    for (int k = 0; k < LISTS; k++)
+        fprintf(stderr, " %zu", lists->length[k]);
+    fprintf(stderr, "\n");
+}
+
+/* The lists as they must be after the call: as before, but with the new requests where it was accepted. */
+static int lists_as_expected(const struct lists *after, const struct lists *before, uint32_t number,
+    const int32_t *requests)
+{
+    struct lists expected;
+    memcpy(&expected, before, sizeof expected);
+    if (number == 0)
+        memcpy(expected.requests + 1, requests, before->length[REQUESTS] * sizeof *requests);
+    return memcmp(after, &expected, sizeof expected) == 0;
+}
+
+/* One pass, made twice over different memory: the number, what it stores, and everything else as it was. */
+static void check_pass(const struct numbers *n, const struct lists *before, uint32_t number, int64_t need,
+    uint8_t changed, const int32_t *requests)
+{
+    for (int i = 0; i < 2; i++) {
+        int64_t fill = i == 0 ? INT64_C(0x5A5A5A5A5A5A5A5A) : -1;
+        struct lists lists;
+        int64_t needs[3] = {fill, fill, fill};
+        uint8_t changes[3] = {(uint8_t)fill, (uint8_t)fill, (uint8_t)fill};
+        memcpy(&lists, before, sizeof lists);
+        uint32_t got = yb_pass(n->mode, n->target, n->band, n->factor, n->measure, LENT_LISTS(&lists, i),
+            &needs[1], &changes[1]);
+        int good = got == number && lists_as_expected(&lists, before, number, requests) &&
+            needs[1] == (number == 0 ? need : fill) && changes[1] == (number == 0 ? changed : (uint8_t)fill) &&
+            needs[0] == fill && needs[2] == fill && changes[0] == (uint8_t)fill && changes[2] == (uint8_t)fill;
+        if (!good) {
+            wrong++;
+            tell_lists("yb_pass", n, before);
+            fprintf(stderr,
+                "    number %" PRIu32 ", need %" PRId64 ", changed %d, first request %" PRId32 "; expected %" PRIu32
+                ", %" PRId64 ", %d\n",
+                got, needs[1], changes[1], lists.requests[1], number, need, changed);
+        }
+    }
+}
+
+/* The same for a study. */
+static void check_settle(const struct numbers *n, const struct lists *before, uint32_t number, uint8_t settled,
+    uint32_t passes, const int32_t *requests)
+{
+    for (int i = 0; i < 2; i++) {
+        uint32_t fill = i == 0 ? 0x5A5A5A5A : UINT32_MAX;
+        struct lists lists;
+        uint32_t counts[3] = {fill, fill, fill};
+        uint8_t settles[3] = {(uint8_t)fill, (uint8_t)fill, (uint8_t)fill};
+        memcpy(&lists, before, sizeof lists);
+        uint32_t got = yb_settle(n->measure, n->target, n->band, n->factor, n->budget, LENT_LISTS(&lists, i),
+            &settles[1], &counts[1]);
+        int good = got == number && lists_as_expected(&lists, before, number, requests) &&
+            counts[1] == (number == 0 ? passes : fill) && settles[1] == (number == 0 ? settled : (uint8_t)fill) &&
+            counts[0] == fill && counts[2] == fill && settles[0] == (uint8_t)fill && settles[2] == (uint8_t)fill;
+        if (!good) {
+            wrong++;
+            tell_lists("yb_settle", n, before);
+            fprintf(stderr,
+                "    number %" PRIu32 ", settled %d, passes %" PRIu32 ", first request %" PRId32
+                "; expected %" PRIu32 ", %d, %" PRIu32 "\n",
+                got, settles[1], counts[1], lists.requests[1], number, settled, passes);
+        }
+    }
+}
+
+/* Both are refused with the number. */
+static void refused_fleet(const struct numbers *n, const struct lists *lists, uint32_t number)
+{
+    check_pass(n, lists, number, 0, 0, NULL);
+    check_settle(n, lists, number, 0, 0, NULL);
+}
+
+static const struct numbers plain = {1, 0, 0, 1000, 100, 10};
+
+static void test_pass_figures(void)
+{
+    struct numbers n = plain;
+    struct lists three = fleet_of(3), two = fleet_of(2), one = fleet_of(1);
+    two.weight[1] = 2;
+    check_pass(&n, &three, 0, 100, 1, (int32_t[]){33, 33, 33});
+    check_pass(&n, &two, 0, 100, 1, (int32_t[]){66, 33});
+    n.factor = 500;
+    check_pass(&n, &three, 0, 100, 1, (int32_t[]){16, 16, 16});
+    n.mode = 3;
+    n.measure = -100;
+    check_pass(&n, &three, 0, -100, 1, (int32_t[]){-16, -16, -16});
+    n.factor = 1000;
+    check_pass(&n, &three, 0, -100, 1, (int32_t[]){-33, -33, -33});
+
+    n = plain;
+    n.band = 20;
+    n.measure = 10;
+    check_pass(&n, &one, 0, 10, 0, (int32_t[]){0});
+    n.measure = 11;
+    check_pass(&n, &one, 0, 11, 1, (int32_t[]){11});
+
+    one.requests[1] = -600;
+    n.measure = 500;
+    check_pass(&n, &one, 0, -100, 0, (int32_t[]){-600});
+    n.measure = 700;
+    check_pass(&n, &one, 0, 100, 1, (int32_t[]){0});
+}
+
+static void test_settle_figure(void)
+{
+    static const int32_t seconds[] = {150, 175, 187, 193, 193, 193};
+    struct numbers n = {0, 700, 20, 1000, 1000, 0};
+    struct lists two = fleet_of(2);
+    two.rating[1] = 100;
+    for (n.budget = 1; n.budget <= 6; n.budget++) {
+        const int32_t requests[] = {100, seconds[n.budget - 1]};
+        two.requests[1] = INT32_MIN;
+        two.requests[2] = (int32_t)n.budget;
+        check_settle(&n, &two, 0, n.budget > 4, n.budget < 4 ? n.budget : 4, requests);
+    }
+    n.budget = 10000;
+    check_settle(&n, &two, 0, 1, 4, (int32_t[]){100, 193});
+}
+
+/* The whole fleet with everything as large as it can be. */
+static void test_largest_fleet(void)
+{
+    struct lists fleet = fleet_of(64);
+    int32_t all_rated[64], none[64], shares[64];
+    struct numbers n = {3, 100000000, 200000000, 1000, -300000000, 10000};
+    for (int i = 0; i < 64; i++) {
+        fleet.rated[i + 1] = UINT64_C(10000000000000);
+        fleet.reserve[i + 1] = UINT64_C(10000000000000) - (i == 63);
+        fleet.stored[i + 1] = UINT64_C(10000000000000);
+        fleet.rating[i + 1] = 100000000;
+        fleet.weight[i + 1] = 10000;
+        fleet.requests[i + 1] = -100000000;
+        all_rated[i] = -100000000;
+        none[i] = 0;
+        shares[i] = -6250000;
+    }
+    /* Full to the last joule, and not. */
+    check_pass(&n, &fleet, 0, -400000000, 1, none);
+    fleet.stored[64]--;
+    fleet.reserve[64]--;
+    check_pass(&n, &fleet, 0, -400000000, 0, all_rated);
+    memset(&fleet.requests[1], 0, sizeof none);
+    check_pass(&n, &fleet, 0, -400000000, 1, shares);
+
+    /* A need that takes more than 32 bits, both ways. */
+    memcpy(&fleet.requests[1], all_rated, sizeof all_rated);
+    n.mode = 1;
+    n.target = -100000000;
+    n.measure = 300000000;
+    check_pass(&n, &fleet, 0, INT64_C(-6000000000), 0, all_rated);
+    n.mode = 2;
+    n.measure = -300000000;
+    check_pass(&n, &fleet, 0, INT64_C(-6800000000), 0, all_rated);
+    for (int i = 0; i < 64; i++) {
+        all_rated[i] = 100000000;
+        shares[i] = 100000000 - 6250000;
+    }
+    memcpy(&fleet.requests[1], all_rated, sizeof all_rated);
+    check_pass(&n, &fleet, 0, -400000000, 1, shares);
+    /* Down to the last joule of the reserve. */
+    fleet.reserve[64]++;
+    check_pass(&n, &fleet, 0, -400000000, 1, none);
+    fleet.reserve[64]--;
+    n.mode = 3;
+    n.target = -100000000;
+    n.measure = 300000000;
+    check_pass(&n, &fleet, 0, INT64_C(6800000000), 0, all_rated);
+
+    /* The study takes all of it in one pass, whatever the requests held. */
+    n.measure = 100000000;
+    for (int i = 0; i < 64; i++)
+        shares[i] = 3125000;
+    check_settle(&n, &fleet, 0, 1, 1, shares);
+}
+
+static void test_wrong_lengths(void)
+{
+    static const size_t lengths[] = {0, 1, 2, 4, 64, 65, 70};
+    for (int k = 0; k < LISTS; k++)
+        for (size_t j = 0; j < sizeof lengths / sizeof lengths[0]; j++) {
+            struct numbers n = plain;
+            struct lists fleet = fleet_of(3);
+            fleet.length[k] = lengths[j];
+            refused_fleet(&n, &fleet, 10);
+            /* Wrong values and requests come after the lengths. */
+            n.target = INT32_MIN;
+            fleet.weight[1] = 0;
+            fleet.requests[1] = INT32_MIN;
+            refused_fleet(&n, &fleet, 10);
+
+            fleet = fleet_of(lengths[j]);
+            fleet.length[k] = 3;
+            refused_fleet(&plain, &fleet, 10);
+        }
+    for (size_t units = 65; units <= 70; units++) {
+        struct lists fleet = fleet_of(units);
+        refused_fleet(&plain, &fleet, 10);
+    }
+    struct lists none = fleet_of(0);
+    refused_fleet(&plain, &none, 10);
+}
+
+static void test_wrong_settings(void)
+{
+    static const int32_t targets[] = {INT32_MIN, -100000001, 100000001, INT32_MAX};
+    static const uint32_t bands[] = {200000001, INT32_MAX, UINT32_C(1) << 31, UINT32_MAX};
+    static const uint16_t factors[] = {0, 1001, 1 << 15, UINT16_MAX};
+    static const int64_t measures[] = {INT64_MIN, -(INT64_C(1) << 32), -300000001, 300000001, INT64_C(1) << 32,
+        (INT64_C(1) << 32) + 100, INT64_MAX};
+    static const int64_t loads[] = {INT64_MIN, -1, 100000001, INT64_C(1) << 32, INT64_MAX};
+    static const uint32_t budgets[] = {0, 10001, 1 << 16, UINT32_MAX};
+    struct lists fleet = fleet_of(2);
+    struct numbers n = plain;
+    /* Wrong requests come after the values. */
+    fleet.requests[1] = INT32_MIN;
+    fleet.requests[2] = INT32_MAX;
+    for (int mode = 0; mode <= UINT8_MAX; mode++) {
+        n.mode = (uint8_t)mode;
+        check_pass(&n, &fleet, mode >= 1 && mode <= 3 ? 10 : 5, 0, 0, NULL);
+    }
+    for (int i = 0; i < 4; i++) {
+        n = plain;
+        n.target = targets[i];
+        refused_fleet(&n, &fleet, 5);
+        n = plain;
+        n.band = bands[i];
+        refused_fleet(&n, &fleet, 5);
+        n = plain;
+        n.factor = factors[i];
+        refused_fleet(&n, &fleet, 5);
+        n = plain;
+        n.budget = budgets[i];
+        check_settle(&n, &fleet, 5, 0, 0, NULL);
+    }
+    n = plain;
+    for (size_t i = 0; i < sizeof measures / sizeof measures[0]; i++) {
+        n.measure = measures[i];
+        check_pass(&n, &fleet, 5, 0, 0, NULL);
+    }
+    for (size_t i = 0; i < sizeof loads / sizeof loads[0]; i++) {
+        n.measure = loads[i];
+        check_settle(&n, &fleet, 5, 0, 0, NULL);
+    }
+}
+
+static void test_wrong_units(void)
+{
+    static const uint64_t rateds[] = {0, UINT64_C(10000000000001), UINT64_C(1) << 63, UINT64_MAX};
+    static const uint64_t energies[] = {1001, UINT64_C(1) << 32, UINT64_C(1) << 63, UINT64_MAX};
+    static const uint32_t ratings[] = {0, 100000001, UINT32_C(1) << 31, UINT32_MAX};
+    static const uint16_t weights[] = {0, 10001, 1 << 15, UINT16_MAX};
+    for (size_t unit = 1; unit <= 64; unit += 21)
+        for (int i = 0; i < 4; i++) {
+            struct lists fleet = fleet_of(64);
+            fleet.requests[unit] = -1;
+            fleet.requests[1 + unit % 64] = 1;
+            fleet.rated[unit] = rateds[i];
+            if (i == 0)
+                fleet.reserve[unit] = fleet.stored[unit] = 0;
+            refused_fleet(&plain, &fleet, 5);
+            fleet = fleet_of(64);
+            fleet.reserve[unit] = energies[i];
+            refused_fleet(&plain, &fleet, 5);
+            fleet = fleet_of(64);
+            fleet.stored[unit] = energies[i];
+            refused_fleet(&plain, &fleet, 5);
+            fleet = fleet_of(64);
+            fleet.rating[unit] = ratings[i];
+            refused_fleet(&plain, &fleet, 5);
+            fleet = fleet_of(64);
+            fleet.weight[unit] = weights[i];
+            refused_fleet(&plain, &fleet, 5);
+        }
+}
+
+/* A study does not look at the requests that it is lent. */
+static void test_wrong_requests(void)
+{
+    static const int32_t beyond[] = {1001, -1001, INT32_MAX, INT32_MIN, -INT32_MAX};
+    int32_t ones[64];
+    struct numbers n = plain;
+    n.measure = 64;
+    for (int i = 0; i < 64; i++)
+        ones[i] = 1;
+    for (size_t unit = 1; unit <= 64; unit++) {
+        struct lists fleet = fleet_of(64);
+        for (size_t i = 0; i < sizeof beyond / sizeof beyond[0]; i++) {
+            fleet.requests[unit] = beyond[i];
+            check_pass(&n, &fleet, 10, 0, 0, NULL);
+            check_settle(&n, &fleet, 0, 1, 1, ones);
+        }
+        fleet.requests[unit] = 1000;
+        fleet.requests[1 + unit % 64] = -1;
+        check_pass(&n, &fleet, 10, 0, 0, NULL);
+        check_settle(&n, &fleet, 0, 1, 1, ones);
+    }
+}
+
 static const struct {
     const char *name;
     void (*run)(void);
@@ -170,6 +528,13 @@ static const struct {
     {"yb_watts: wide results", test_wide_results},
     {"yb_watts: infinities and NaN", test_no_number},
     {"yb_watts: a power of two at every exponent", test_powers_of_two},
+    {"yb_pass: the document's figures B1 to B5", test_pass_figures},
+    {"yb_settle: the document's figure C1", test_settle_figure},
+    {"yb_pass, yb_settle: the largest fleet", test_largest_fleet},
+    {"yb_pass, yb_settle: wrong lengths", test_wrong_lengths},
+    {"yb_pass, yb_settle: settings outside their ranges", test_wrong_settings},
+    {"yb_pass, yb_settle: units outside their ranges", test_wrong_units},
+    {"yb_pass, yb_settle: wrong requests", test_wrong_requests},
 };
 
 int main(void)

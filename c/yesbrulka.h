@@ -2,11 +2,16 @@
 **
 ** Every function answers for any numbers and for any memory that is lent to it, and returns 0 or the
 ** number of a refusal. On a refusal nothing that was lent has changed. A lent pointer points to memory
-** that holds what it is declared to hold. Nothing is kept after a call and nothing is allocated.
+** that holds what it is declared to hold, and no two of a call's lent things overlap. A lent list is a
+** pointer and the number of its elements; the pointer of a list of none may be NULL. Nothing is kept after
+** a call and nothing is allocated.
+**
+** Power is in whole watts, positive for discharge; energy is in whole joules.
 */
 #ifndef YESBRULKA_H
 #define YESBRULKA_H
 
+#include <stddef.h>
 #include <stdint.h>
 
 #ifdef __cplusplus
@@ -23,6 +28,50 @@ extern "C" {
 ** written only when 0 is returned.
 */
 uint32_t yb_watts(double kw, int32_t *watts);
+
+/* Make one controller pass over a fleet.
+**
+** mode is 1 PeakShave, 2 Support or 3 PeakShaveLow; target is -100,000,000 to 100,000,000 W, band 0 to
+** 200,000,000 W, factor 1 to 1,000 thousandths, measure -300,000,000 to 300,000,000 W.
+**
+** The six lists have an element for each unit of the fleet, 1 to 64 of them: rated is 1 to 10^13 J, reserve
+** and stored 0 to rated, rating 1 to 100,000,000 W, weight 1 to 10,000. A request is within its unit's
+** rating in size, and no two are of different signs.
+**
+** Stores the new requests over the old ones, in *need the need in W that the pass found, and in *changed 1
+** if a request is another than before, else 0.
+**
+** Returns 0, or the first of these that holds:
+**    10  the lists are not of one length, or it is 0 or above 64
+**     5  a value is outside its range
+**    10  a request is beyond its unit's rating, or there are requests of both signs
+** requests, *need and *changed are written only when 0 is returned.
+*/
+uint32_t yb_pass(uint8_t mode, int32_t target, uint32_t band, uint16_t factor, int64_t measure,
+    const uint64_t *rated, size_t rated_len, const uint64_t *reserve, size_t reserve_len,
+    const uint64_t *stored, size_t stored_len, const uint32_t *rating, size_t rating_len,
+    const uint16_t *weight, size_t weight_len, int32_t *requests, size_t requests_len,
+    int64_t *need, uint8_t *changed);
+
+/* Study where a fleet settles over a fixed load.
+**
+** Makes passes in mode 1 from requests of zero, each over a measure of the load less the sum of all
+** requests, until one changes nothing or budget passes are made. load is 0 to 100,000,000 W, budget 1 to
+** 10,000; the other values are as for yb_pass. What requests holds before the call does not matter.
+**
+** Stores the last requests in requests, in *settled 1 if the last pass changed nothing, else 0, and in
+** *passes the number of passes that changed a request.
+**
+** Returns 0, or the first of these that holds:
+**    10  the lists are not of one length, or it is 0 or above 64
+**     5  a value is outside its range
+** requests, *settled and *passes are written only when 0 is returned.
+*/
+uint32_t yb_settle(int64_t load, int32_t target, uint32_t band, uint16_t factor, uint32_t budget,
+    const uint64_t *rated, size_t rated_len, const uint64_t *reserve, size_t reserve_len,
+    const uint64_t *stored, size_t stored_len, const uint32_t *rating, size_t rating_len,
+    const uint16_t *weight, size_t weight_len, int32_t *requests, size_t requests_len,
+    uint8_t *settled, uint32_t *passes);
 
 #ifdef __cplusplus
 }

@@ -1,4 +1,7 @@
-//! Inputs to try: one generator with a fixed seed, and the doubles where a conversion goes wrong.
+//! Inputs to try: one generator with a fixed seed, and the doubles where a conversion goes wrong; in modules
+//! of their own, the calls of the other functions.
+
+pub mod fleets;
 
 /// The splitmix64 generator: the same numbers from the same seed on every machine.
 pub struct Draw(u64);

@@ -2,6 +2,7 @@
 // A case is a kind byte, a two-byte length and that many bytes; the answer is the refusal's number
 // and, where that is 0, the results. `reference/` writes the cases and the answers that rt ci
 // compares with: the proved functions are held to a second opinion on every check.
+mod fleets;
 mod readings;
 mod say;
 mod wholes;
@@ -11,6 +12,8 @@ fn answer(kind: u8, value: &[u8]) {
         b'W' => readings::watts(value),
         b'M' => readings::measure(value),
         b'K' => readings::kilowatts(value),
+        b'P' => fleets::pass(value),
+        b'T' => fleets::study(value),
         b'L' => wholes::leg(value),
         b'U' => wholes::up(value),
         b'Z' => wholes::cut(value),

@@ -4,13 +4,19 @@ use mathlib.Core.List.{List, [], _∷_}
 use Prim.Native.Nat.{ℕ}
 use lib.IntN.{ℤ, pos, negℤ}
 use lib.Ieee.{binary64, ofBits}
+use mathlib.Core.Bool.{cond}
+use lib.ListN.{length, replicate}
 use Rattle.whole.specs.Largest.{legOf}
+use Rattle.controller.specs.declared.Settings.{Settings}
+use Rattle.controller.specs.Ranges.{Fleet, fleetOf}
+use Rattle.controller.specs.Pass.{needOf, passOf, changedOf}
+use Rattle.controller.specs.Study.{passes, studyOf}
 use Rattle.reading.specs.declared.Watts.{Watts}
 use Rattle.reading.specs.declared.Watts.the-variants.{Whole, Refused}
 use Rattle.reading.specs.Conversion.{wattsOf, numberOf}
 
 pub data Name : Type 0 where
-  A1 A2 A3 A4 E1 : Name
+  A1 A2 A3 A4 B1 B2 B3 B4 B5 C1 E1 : Name
 
 pub record Figure : Type 0 where
   pub name : Name
@@ -41,8 +47,48 @@ unfoldable pub leg : ℕ → ℕ → List ℤ
 unfolding legOf
 leg S y = value (pos (legOf S y))
 
+-- the answer of a pass: need, 1 where a request changed, and the requests
+unfoldable pub pass : Settings → ℤ → Fleet → List ℤ → List ℤ
+unfolding needOf passOf changedOf
+pass s m f rs = let after = passOf s m f rs in pos 0 ∷ needOf s m rs ∷ pos (cond (changedOf rs after) 1 0) ∷ after
+
+-- a fleet of n units of weight 1, each rated at 10 MJ with 5 MJ stored, no reserve, and a rating of 1 MW; or with other ratings and weights
+abbrev pub units : List ℕ → List ℕ → Fleet
+units ratings weights =
+    let n = length ratings in
+    fleetOf (replicate n 10000000) (replicate n 0) (replicate n 5000000) ratings weights
+
+abbrev pub set : ℕ → ℤ → ℕ → ℕ → Settings
+set mode target band factor = record { mode = mode; target = target; band = band; factor = factor }
+
+-- the requests after k passes of a study, from 0; and the whole study's answer: 1 where it settled, the changing passes, the requests
+unfoldable pub after : Settings → ℤ → Fleet → ℕ → ℕ → List ℤ
+unfolding passes
+after s load f n k = passes s load f k (replicate n (pos 0))
+
+unfoldable pub study : Settings → ℤ → Fleet → ℕ → ℕ → List ℤ
+unfolding studyOf
+study s load f budget n = let r = studyOf s load f budget n in pos 0 ∷ pos (cond (r .settled) 1 0) ∷ pos (r .changing) ∷ r .requests
+
+-- the fleets of the figures: three units of weight 1; two of weights 2 and 1; one; and C1's two with ratings of 100 and 1,000 W
+abbrev pub three : Fleet
+three = units (replicate 3 1000000) (replicate 3 1)
+
+abbrev pub two : Fleet
+two = units (replicate 2 1000000) (2 ∷ 1 ∷ [])
+
+abbrev pub single : Fleet
+single = units (1000000 ∷ []) (1 ∷ [])
+
+abbrev pub pair : Fleet
+pair = units (100 ∷ 1000 ∷ []) (1 ∷ 1 ∷ [])
+
+-- C1's settings: mode 1, target 700 W, band 20 W, factor 1,000
+abbrev pub settling : Settings
+settling = set 1 (pos 700) 20 1000
+
 unfoldable pub table : List Figure
-unfolding kilowatts leg
+unfolding kilowatts leg pass after study
 table =
     figure A1 (kilowatts 0x3ff8_0000_0000_0000) (value (pos 1500))
     ∷ figure A2 (kilowatts 0x3fb0_0000_0000_0000) (value (pos 63))
@@ -51,6 +97,20 @@ table =
     ∷ figure A3 (kilowatts 0x3f50_0000_0000_0000) (value (pos 1))
     ∷ figure A4 (kilowatts 0x40f8_6a00_0000_0000) (value (pos 100000000))
     ∷ figure A4 (kilowatts 0x40f8_6a01_0000_0000) (refused 6)
+    ∷ figure B1 (pass (set 1 (pos 0) 0 1000) (pos 100) three (replicate 3 (pos 0))) (pos 0 ∷ pos 100 ∷ pos 1 ∷ replicate 3 (pos 33))
+    ∷ figure B1 (pass (set 3 (pos 0) 0 1000) (negℤ (pos 100)) three (replicate 3 (pos 0))) (pos 0 ∷ negℤ (pos 100) ∷ pos 1 ∷ replicate 3 (negℤ (pos 33)))
+    ∷ figure B2 (pass (set 1 (pos 0) 0 1000) (pos 100) two (replicate 2 (pos 0))) (pos 0 ∷ pos 100 ∷ pos 1 ∷ pos 66 ∷ pos 33 ∷ [])
+    ∷ figure B3 (pass (set 1 (pos 0) 0 500) (pos 100) three (replicate 3 (pos 0))) (pos 0 ∷ pos 100 ∷ pos 1 ∷ replicate 3 (pos 16))
+    ∷ figure B4 (pass (set 1 (pos 0) 20 1000) (pos 10) single (pos 0 ∷ [])) (pos 0 ∷ pos 10 ∷ pos 0 ∷ pos 0 ∷ [])
+    ∷ figure B4 (pass (set 1 (pos 0) 20 1000) (pos 11) single (pos 0 ∷ [])) (pos 0 ∷ pos 11 ∷ pos 1 ∷ pos 11 ∷ [])
+    ∷ figure B5 (pass (set 1 (pos 0) 20 1000) (pos 500) single (negℤ (pos 600) ∷ [])) (pos 0 ∷ negℤ (pos 100) ∷ pos 0 ∷ negℤ (pos 600) ∷ [])
+    ∷ figure B5 (pass (set 1 (pos 0) 20 1000) (pos 700) single (negℤ (pos 600) ∷ [])) (pos 0 ∷ pos 100 ∷ pos 1 ∷ pos 0 ∷ [])
+    ∷ figure C1 (after settling (pos 1000) pair 2 1) (pos 100 ∷ pos 150 ∷ [])
+    ∷ figure C1 (after settling (pos 1000) pair 2 2) (pos 100 ∷ pos 175 ∷ [])
+    ∷ figure C1 (after settling (pos 1000) pair 2 3) (pos 100 ∷ pos 187 ∷ [])
+    ∷ figure C1 (after settling (pos 1000) pair 2 4) (pos 100 ∷ pos 193 ∷ [])
+    ∷ figure C1 (study settling (pos 1000) pair 10 2) (pos 0 ∷ pos 1 ∷ pos 4 ∷ pos 100 ∷ pos 193 ∷ [])
+    ∷ figure C1 (pass settling (pos 707) pair (pos 100 ∷ pos 193 ∷ [])) (pos 0 ∷ pos 7 ∷ pos 0 ∷ pos 100 ∷ pos 193 ∷ [])
     ∷ figure E1 (leg 5 3) (value (pos 4))
     ∷ figure E1 (leg 10 7) (value (pos 7))
     ∷ []

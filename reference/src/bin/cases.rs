@@ -8,8 +8,10 @@ use std::fmt::Display;
 use std::process::ExitCode;
 use std::{env, fs};
 
+use yesbrulka_reference::controller::{self, Fleet};
 use yesbrulka_reference::octets::{put_i32, put_u16, put_u32, put_u64, put_u8};
 use yesbrulka_reference::reading::{self, Phases};
+use yesbrulka_reference::samples::fleets::{self, PassCall, StudyCall};
 use yesbrulka_reference::samples::{self, Draw};
 use yesbrulka_reference::whole;
 
@@ -89,6 +91,65 @@ impl Cases {
         put_u64(&mut payload, b);
         self.add(b'Z', &payload, Ok(&[whole::quotient_cut(a, b)]));
     }
+
+    /// 'P': mode u8, target i32, band u32, factor u16, measure i64, the number of units u8, and for each
+    /// unit rated, reserve and stored u64, rating u32, weight u16, request i32; the need, whether a request
+    /// changed as 0 or 1, and the requests.
+    fn pass(&mut self, call: &PassCall) {
+        let mut payload = Vec::new();
+        put_u8(&mut payload, call.settings.mode);
+        put_i32(&mut payload, call.settings.target);
+        put_u32(&mut payload, call.settings.band);
+        put_u16(&mut payload, call.settings.factor);
+        put_u64(&mut payload, call.measure as u64);
+        put_u8(&mut payload, u8::try_from(call.requests.len()).expect("a fleet's size fits a byte"));
+        for (unit, &request) in call.requests.iter().enumerate() {
+            put_unit(&mut payload, &call.fleet, unit);
+            put_i32(&mut payload, request);
+        }
+        let mut requests = call.requests.clone();
+        let passed = controller::pass(&call.settings, call.measure, &call.fleet, &mut requests);
+        let answer = passed.map(|passed| with_requests(&[passed.need, passed.changed.into()], &requests));
+        self.add(b'P', &payload, list(&answer));
+    }
+
+    /// 'T': load i64, target i32, band u32, factor u16, budget u32, the number of units u8, and for each
+    /// unit what a pass has without the request; whether it settled as 0 or 1, the passes that changed a
+    /// request, and the requests.
+    fn study(&mut self, call: &StudyCall) {
+        let mut payload = Vec::new();
+        put_u64(&mut payload, call.load as u64);
+        put_i32(&mut payload, call.target);
+        put_u32(&mut payload, call.band);
+        put_u16(&mut payload, call.factor);
+        put_u32(&mut payload, call.budget);
+        put_u8(&mut payload, u8::try_from(call.requests.len()).expect("a fleet's size fits a byte"));
+        for unit in 0..call.requests.len() {
+            put_unit(&mut payload, &call.fleet, unit);
+        }
+        let mut call = call.clone();
+        let answer = call
+            .settle()
+            .map(|study| with_requests(&[study.settled.into(), study.passes.into()], &call.requests));
+        self.add(b'T', &payload, list(&answer));
+    }
+}
+
+fn put_unit(payload: &mut Vec<u8>, fleet: &Fleet, unit: usize) {
+    put_u64(payload, fleet.rated[unit]);
+    put_u64(payload, fleet.reserve[unit]);
+    put_u64(payload, fleet.stored[unit]);
+    put_u32(payload, fleet.rating[unit]);
+    put_u16(payload, fleet.weight[unit]);
+}
+
+/// Results and the requests after them.
+fn with_requests(results: &[i64], requests: &[i32]) -> Vec<i64> {
+    results.iter().copied().chain(requests.iter().map(|&request| request.into())).collect()
+}
+
+fn list<T>(answer: &Result<Vec<T>, u32>) -> Result<&[T], u32> {
+    answer.as_deref().map_err(|&number| number)
 }
 
 /// A single result as a list of one.
@@ -259,6 +320,90 @@ fn cut_cases(cases: &mut Cases) {
     }
 }
 
+/// Fleets are small for the most part, to keep the stored files so.
+fn pass_cases(cases: &mut Cases) {
+    let mut draw = Draw::from_seed(7);
+    for call in fleets::figure_passes() {
+        cases.pass(&call);
+    }
+    for most in [1, 2, 3, 4] {
+        let call = fleets::pass_call(most, &mut draw);
+        let unit = draw.below(call.requests.len() as u64) as usize;
+        for end in fleets::PASS_ENDS.iter().chain(&fleets::BAD_PASS) {
+            cases.pass(&call.with(end));
+        }
+        for end in fleets::FLEET_ENDS {
+            cases.pass(&call.with(|call| call.fleet_value(end, unit)));
+        }
+        for spoil in fleets::BAD_FLEET {
+            cases.pass(&call.with(|call| spoil(&mut call.fleet, unit)));
+        }
+        for spoil in fleets::BAD_REQUEST {
+            cases.pass(&call.with(|call| spoil(call, unit)));
+        }
+        // Two things wrong: the value comes before the request, and the lengths come before both.
+        for spoil in fleets::BAD_REQUEST {
+            let mut call = call.with(|call| spoil(call, unit));
+            draw.one_of(&fleets::BAD_FLEET)(&mut call.fleet, unit);
+            cases.pass(&call);
+        }
+        for units in [0, 65] {
+            let mut call = call.clone();
+            if most % 2 == 0 {
+                draw.one_of(&fleets::BAD_PASS)(&mut call);
+            }
+            call.resize([units; 6], &mut draw);
+            cases.pass(&call);
+        }
+    }
+    for _ in 0..1_100 {
+        cases.pass(&fleets::pass_call(4, &mut draw));
+    }
+    for _ in 0..80 {
+        cases.pass(&fleets::pass_call(64, &mut draw));
+    }
+}
+
+fn study_cases(cases: &mut Cases) {
+    let mut draw = Draw::from_seed(8);
+    for budget in [1, 2, 3, 4, 5, 6, 10_000] {
+        cases.study(&fleets::figure_study(budget));
+    }
+    for most in [1, 3] {
+        let call = fleets::study_call(most, 20, &mut draw);
+        let unit = draw.below(call.requests.len() as u64) as usize;
+        for end in fleets::STUDY_ENDS.iter().chain(&fleets::BAD_STUDY) {
+            cases.study(&call.with(end));
+        }
+        for end in fleets::FLEET_ENDS.iter().chain(&fleets::BAD_FLEET) {
+            cases.study(&call.with(|call| end(&mut call.fleet, unit)));
+        }
+        for units in [0, 65] {
+            let mut call = call.with(|call| call.load = if most == 1 { -1 } else { call.load });
+            call.resize([units; 6], &mut draw);
+            cases.study(&call);
+        }
+    }
+    for _ in 0..170 {
+        cases.study(&fleets::study_call(4, 30, &mut draw));
+    }
+    for _ in 0..15 {
+        cases.study(&fleets::study_call(64, 20, &mut draw));
+    }
+    // Long ones: a small factor, and a budget that is reached or not.
+    for budget in [1_000, 9_999, 10_000] {
+        cases.study(&StudyCall {
+            load: 100_000_000,
+            target: 0,
+            band: 0,
+            factor: 1,
+            budget,
+            fleet: fleets::half_full(&[100_000_000], &[1]),
+            requests: vec![0],
+        });
+    }
+}
+
 fn main() -> ExitCode {
     let names: Vec<_> = env::args_os().skip(1).collect();
     if names.len() != 2 {
@@ -272,6 +417,8 @@ fn main() -> ExitCode {
     leg_cases(&mut cases);
     up_cases(&mut cases);
     cut_cases(&mut cases);
+    pass_cases(&mut cases);
+    study_cases(&mut cases);
     for (name, bytes) in names.iter().zip([cases.records.as_slice(), cases.answers.as_bytes()]) {
         if let Err(error) = fs::write(name, bytes) {
             eprintln!("cases: {}: {error}", name.to_string_lossy());

@@ -1,6 +1,6 @@
 -- Watts are 32-bit numbers, which 64 bits hold.
 use borrow.Author.Needs.{needs}
-use Rattle.reading.proofs.ChoiceLaws.{widen-fits}
+use Rattle.whole.proofs.SignLaws.{wide-fits}
 use Rattle.cases.proofs.readings.watts.Statement.{statement}
 use Rattle.cases.proofs.readings.watts.Tie as tie
 
@@ -23,7 +23,7 @@ refusal-requires : tie.Need-refusal-requires
 refusal-requires c κs = search needs
 
 cast-signed : tie.Need-cast-signed
-cast-signed c = let w = c .before in widen-fits (w .before .w .given .0 .0) (w .known-told .given .0 .1)
+cast-signed c = let w = c .before in wide-fits (w .before .w .given .0 .0) (w .known-told .given .0 .1)
 
 signed-requires : tie.Need-signed-requires
 signed-requires c κs = search needs

@@ -1,0 +1,2 @@
+-- Laws about the calls of the C surface.
+pub mod CallLaws

@@ -1,0 +1,426 @@
+//! The controller: its settings, one pass over a fleet, and the settling study.
+
+use crate::ranges::{self, BAND, BUDGET, FACTOR, LOAD, MEASURE, MODE, RATING, TARGET, UNITS, WEIGHT};
+use crate::whole::quotient_cut;
+use crate::{LISTS_OR_REQUESTS, OUT_OF_RANGE};
+
+#[derive(Clone, Copy, Debug, PartialEq, Eq)]
+pub struct Settings {
+    /// 1 PeakShave and 2 Support discharge, 3 PeakShaveLow charges.
+    pub mode: u8,
+    /// Watts.
+    pub target: i32,
+    /// Watts.
+    pub band: u32,
+    /// Thousandths.
+    pub factor: u16,
+}
+
+impl Settings {
+    fn in_range(&self) -> bool {
+        MODE.contains(&self.mode)
+            && TARGET.contains(&self.target)
+            && BAND.contains(&self.band)
+            && FACTOR.contains(&self.factor)
+    }
+}
+
+/// What a pass knows of a fleet's units, a list for each quantity. Nothing says that they are of equal
+/// length; a pass does.
+#[derive(Clone, Debug, Default, PartialEq, Eq)]
+pub struct Fleet {
+    pub rated: Vec<u64>,
+    pub reserve: Vec<u64>,
+    pub stored: Vec<u64>,
+    pub rating: Vec<u32>,
+    pub weight: Vec<u16>,
+}
+
+impl Fleet {
+    /// The five lists and the list of requests are of one length, and it is a fleet's.
+    fn lengths_fit(&self, requests: usize) -> bool {
+        let lengths =
+            [self.rated.len(), self.reserve.len(), self.stored.len(), self.rating.len(), self.weight.len()];
+        UNITS.contains(&requests) && lengths.iter().all(|&length| length == requests)
+    }
+
+    fn in_range(&self) -> bool {
+        (0..self.rated.len()).all(|i| {
+            ranges::energies_fit(self.rated[i], self.reserve[i], self.stored[i])
+                && RATING.contains(&self.rating[i])
+                && WEIGHT.contains(&self.weight[i])
+        })
+    }
+
+    /// No request is beyond its unit's rating in size, and no two are of different signs.
+    fn takes(&self, requests: &[i32]) -> bool {
+        let beyond = requests.iter().zip(&self.rating).any(|(r, &rating)| r.unsigned_abs() > rating);
+        let both_signs = requests.iter().any(|&r| r > 0) && requests.iter().any(|&r| r < 0);
+        !beyond && !both_signs
+    }
+}
+
+#[derive(Clone, Copy, Debug, PartialEq, Eq)]
+pub enum State {
+    Idle,
+    Discharging,
+    Charging,
+}
+
+impl State {
+    pub fn of(requests: &[i32]) -> State {
+        if requests.iter().any(|&request| request > 0) {
+            State::Discharging
+        } else if requests.iter().any(|&request| request < 0) {
+            State::Charging
+        } else {
+            State::Idle
+        }
+    }
+}
+
+/// What a pass reports.
+#[derive(Clone, Copy, Debug, PartialEq, Eq)]
+pub struct Passed {
+    pub need: i64,
+    pub changed: bool,
+    /// The number of the rule that decided, 3 to 6. It is no part of the answer; tests count with it.
+    pub rule: u8,
+}
+
+/// One pass. The requests become the new ones, or on a refusal stay as they were.
+pub fn pass(settings: &Settings, measure: i64, fleet: &Fleet, requests: &mut [i32]) -> Result<Passed, u32> {
+    if !fleet.lengths_fit(requests.len()) {
+        return Err(LISTS_OR_REQUESTS);
+    }
+    if !(settings.in_range() && MEASURE.contains(&measure) && fleet.in_range()) {
+        return Err(OUT_OF_RANGE);
+    }
+    if !fleet.takes(requests) {
+        return Err(LISTS_OR_REQUESTS);
+    }
+    Ok(accepted_pass(settings, measure, fleet, requests))
+}
+
+fn accepted_pass(settings: &Settings, measure: i64, fleet: &Fleet, requests: &mut [i32]) -> Passed {
+    let (need, rule, new) = rules(settings, measure, fleet, requests);
+    let changed = new != requests;
+    requests.copy_from_slice(&new);
+    Passed { need, changed, rule }
+}
+
+/// The six rules in their order: the need, the rule that decided, and the new requests.
+fn rules(settings: &Settings, measure: i64, fleet: &Fleet, requests: &[i32]) -> (i64, u8, Vec<i32>) {
+    let own = if settings.mode == 3 { State::Charging } else { State::Discharging };
+    let state = State::of(requests);
+    let fleet_power: i64 = requests.iter().map(|&request| i64::from(request)).sum();
+    let target = i64::from(settings.target);
+
+    // 1. The need.
+    let mut need = if settings.mode == 2 { measure + target } else { measure - target };
+
+    // 2. A fleet that runs against the mode.
+    if state != own && state != State::Idle {
+        need += fleet_power;
+    }
+
+    // 3. Nothing to start with.
+    let wanted = if own == State::Charging { need < 0 } else { need > 0 };
+    if state != own && !wanted {
+        return (need, 3, requests.to_vec());
+    }
+
+    // 4. Nothing to give, or no room to take.
+    let total = |list: &[u64]| list.iter().map(|&joules| u128::from(joules)).sum::<u128>();
+    let stored = total(&fleet.stored);
+    let exhausted =
+        if own == State::Charging { stored == total(&fleet.rated) } else { stored <= total(&fleet.reserve) };
+    if exhausted {
+        return (need, 4, vec![0; requests.len()]);
+    }
+
+    // 5. Within half the band on either side.
+    if 2 * need.abs() <= i64::from(settings.band) {
+        return (need, 5, requests.to_vec());
+    }
+
+    // 6. The shares.
+    let weights: u64 = fleet.weight.iter().map(|&weight| u64::from(weight)).sum();
+    let mut new = Vec::new();
+    for (i, &request) in requests.iter().enumerate() {
+        let portion = need * i64::from(fleet.weight[i]) * i64::from(settings.factor);
+        let share = quotient_cut(portion, weights * 1_000);
+        let rating = i64::from(fleet.rating[i]);
+        let limited = (i64::from(request) + share).clamp(-rating, rating);
+        let against = if own == State::Charging { limited > 0 } else { limited < 0 };
+        new.push(if against { 0 } else { limited as i32 });
+    }
+    (need, 6, new)
+}
+
+/// What a settling study reports.
+#[derive(Clone, Copy, Debug, PartialEq, Eq)]
+pub struct Study {
+    pub settled: bool,
+    /// The passes that changed a request.
+    pub passes: u32,
+}
+
+/// The settling study: passes in mode 1 over a fixed load, from requests of zero whatever was lent. The
+/// requests become the last ones, or on a refusal stay as they were.
+pub fn settle(
+    load: i64,
+    target: i32,
+    band: u32,
+    factor: u16,
+    budget: u32,
+    fleet: &Fleet,
+    requests: &mut [i32],
+) -> Result<Study, u32> {
+    let settings = Settings { mode: 1, target, band, factor };
+    if !fleet.lengths_fit(requests.len()) {
+        return Err(LISTS_OR_REQUESTS);
+    }
+    if !(LOAD.contains(&load) && settings.in_range() && BUDGET.contains(&budget) && fleet.in_range()) {
+        return Err(OUT_OF_RANGE);
+    }
+    requests.fill(0);
+    let mut passes = 0;
+    for _ in 0..budget {
+        let fleet_power: i64 = requests.iter().map(|&request| i64::from(request)).sum();
+        if !accepted_pass(&settings, load - fleet_power, fleet, requests).changed {
+            return Ok(Study { settled: true, passes });
+        }
+        passes += 1;
+    }
+    Ok(Study { settled: false, passes })
+}
+
+#[cfg(test)]
+mod tests {
+    use super::*;
+    use crate::samples::fleets::{self, half_full, PassCall, StudyCall};
+    use crate::samples::Draw;
+
+    fn settings(mode: u8, target: i32, band: u32, factor: u16) -> Settings {
+        Settings { mode, target, band, factor }
+    }
+
+    /// The shares of a need, from requests of zero in the mode that takes it.
+    fn shares(need: i64, weight: &[u16], factor: u16) -> Vec<i32> {
+        let mut requests = vec![0; weight.len()];
+        let mode = if need < 0 { 3 } else { 1 };
+        let fleet = half_full(&vec![1_000; weight.len()], weight);
+        let passed = pass(&settings(mode, 0, 0, factor), need, &fleet, &mut requests).unwrap();
+        assert_eq!((passed.need, passed.rule), (need, 6));
+        requests
+    }
+
+    #[test]
+    fn b1() {
+        assert_eq!(shares(100, &[1, 1, 1], 1_000), [33, 33, 33]);
+        assert_eq!(shares(-100, &[1, 1, 1], 1_000), [-33, -33, -33]);
+    }
+
+    #[test]
+    fn b2() {
+        assert_eq!(shares(100, &[2, 1], 1_000), [66, 33]);
+        assert_eq!(shares(-100, &[2, 1], 1_000), [-66, -33]);
+    }
+
+    #[test]
+    fn b3() {
+        assert_eq!(shares(100, &[1, 1, 1], 500), [16, 16, 16]);
+        assert_eq!(shares(-100, &[1, 1, 1], 500), [-16, -16, -16]);
+    }
+
+    #[test]
+    fn b4() {
+        let fleet = half_full(&[1_000], &[1]);
+        let mut requests = [0];
+        let passed = pass(&settings(1, 0, 20, 1_000), 10, &fleet, &mut requests).unwrap();
+        assert_eq!((passed, requests), (Passed { need: 10, changed: false, rule: 5 }, [0]));
+        let passed = pass(&settings(1, 0, 20, 1_000), 11, &fleet, &mut requests).unwrap();
+        assert_eq!((passed, requests), (Passed { need: 11, changed: true, rule: 6 }, [11]));
+    }
+
+    #[test]
+    fn b5() {
+        let fleet = half_full(&[1_000], &[1]);
+        let mut requests = [-600];
+        let passed = pass(&settings(1, 200, 20, 1_000), 700, &fleet, &mut requests).unwrap();
+        assert_eq!((passed, requests), (Passed { need: -100, changed: false, rule: 3 }, [-600]));
+        let passed = pass(&settings(1, 200, 20, 1_000), 900, &fleet, &mut requests).unwrap();
+        assert_eq!((passed, requests), (Passed { need: 100, changed: true, rule: 6 }, [0]));
+    }
+
+    #[test]
+    fn c1() {
+        let fleet = half_full(&[100, 1_000], &[1, 1]);
+        let mut requests = [0, 0];
+        for second in [150, 175, 187, 193] {
+            let measure = 1_000 - i64::from(requests[0]) - i64::from(requests[1]);
+            let passed = pass(&settings(1, 700, 20, 1_000), measure, &fleet, &mut requests).unwrap();
+            assert!(passed.changed);
+            assert_eq!(requests, [100, second]);
+        }
+        let passed = pass(&settings(1, 700, 20, 1_000), 1_000 - 293, &fleet, &mut requests).unwrap();
+        assert_eq!((passed, requests), (Passed { need: 7, changed: false, rule: 5 }, [100, 193]));
+
+        let mut requests = [7, -7];
+        let study = settle(1_000, 700, 20, 1_000, 10_000, &fleet, &mut requests);
+        assert_eq!((study, requests), (Ok(Study { settled: true, passes: 4 }), [100, 193]));
+    }
+
+    /// A budget that ends on a changing pass has not shown a settled fleet; one pass more has.
+    #[test]
+    fn a_budget_must_reach_the_pass_that_changes_nothing() {
+        let fleet = half_full(&[100, 1_000], &[1, 1]);
+        let answers = [(1, 150), (2, 175), (3, 187), (4, 193), (5, 193), (6, 193)];
+        for (budget, second) in answers {
+            let mut requests = [0, 0];
+            let study = settle(1_000, 700, 20, 1_000, budget, &fleet, &mut requests);
+            let expected = Study { settled: budget > 4, passes: budget.min(4) };
+            assert_eq!((study, requests), (Ok(expected), [100, second]));
+        }
+    }
+
+    /// The fleet's own state keeps it in the rules at a need that would not start it.
+    #[test]
+    fn a_need_of_the_other_sign_takes_back() {
+        let fleet = half_full(&[1_000, 1_000], &[1, 1]);
+        let mut requests = [30, 500];
+        let passed = pass(&settings(2, -300, 0, 1_000), 200, &fleet, &mut requests).unwrap();
+        assert_eq!((passed, requests), (Passed { need: -100, changed: true, rule: 6 }, [0, 450]));
+        let mut requests = [-30, -500];
+        let passed = pass(&settings(3, -300, 0, 1_000), -200, &fleet, &mut requests).unwrap();
+        assert_eq!((passed, requests), (Passed { need: 100, changed: true, rule: 6 }, [0, -450]));
+    }
+
+    #[test]
+    fn an_exhausted_fleet_stops() {
+        let mut fleet = half_full(&[1_000, 1_000], &[1, 1]);
+        fleet.reserve = vec![300, 700];
+        let mut requests = [5, 0];
+        let passed = pass(&settings(1, 0, 20, 1_000), 0, &fleet, &mut requests).unwrap();
+        assert_eq!((passed, requests), (Passed { need: 0, changed: true, rule: 4 }, [0, 0]));
+        let passed = pass(&settings(1, 0, 20, 1_000), 1, &fleet, &mut requests).unwrap();
+        assert_eq!((passed, requests), (Passed { need: 1, changed: false, rule: 4 }, [0, 0]));
+        fleet.reserve = vec![300, 699];
+        let passed = pass(&settings(1, 0, 20, 1_000), 1, &fleet, &mut requests).unwrap();
+        assert_eq!(passed.rule, 5);
+
+        fleet.stored = vec![1_000, 1_000];
+        let mut requests = [0, -5];
+        let passed = pass(&settings(3, 0, 20, 1_000), 0, &fleet, &mut requests).unwrap();
+        assert_eq!((passed, requests), (Passed { need: 0, changed: true, rule: 4 }, [0, 0]));
+        fleet.stored = vec![1_000, 999];
+        let passed = pass(&settings(3, 0, 20, 1_000), -1, &fleet, &mut requests).unwrap();
+        assert_eq!(passed.rule, 5);
+    }
+
+    fn refused_pass(mut call: PassCall) -> Option<u32> {
+        let before = call.requests.clone();
+        let number = pass(&call.settings, call.measure, &call.fleet, &mut call.requests).err();
+        assert!(number.is_none() || call.requests == before);
+        number
+    }
+
+    fn refused_study(mut call: StudyCall) -> Option<u32> {
+        let before = call.requests.clone();
+        let number = call.settle().err();
+        assert!(number.is_none() || call.requests == before);
+        number
+    }
+
+    #[test]
+    fn values_are_refused_beside_the_ends_of_their_ranges_and_not_at_them() {
+        let mut draw = Draw::from_seed(51);
+        for _ in 0..200 {
+            let call = fleets::pass_call(5, &mut draw);
+            let unit = draw.below(call.requests.len() as u64) as usize;
+            assert_eq!(refused_pass(call.clone()), None);
+            for end in fleets::PASS_ENDS {
+                assert_eq!(refused_pass(call.with(end)), None);
+            }
+            for spoil in fleets::BAD_PASS {
+                assert_eq!(refused_pass(call.with(spoil)), Some(5));
+            }
+            for end in fleets::FLEET_ENDS {
+                assert_eq!(refused_pass(call.with(|call| call.fleet_value(end, unit))), None);
+            }
+            for spoil in fleets::BAD_FLEET {
+                assert_eq!(refused_pass(call.with(|call| spoil(&mut call.fleet, unit))), Some(5));
+            }
+            for spoil in fleets::BAD_REQUEST {
+                assert_eq!(refused_pass(call.with(|call| spoil(call, unit))), Some(10));
+            }
+
+            let call = fleets::study_call(5, 20, &mut draw);
+            let unit = draw.below(call.requests.len() as u64) as usize;
+            assert_eq!(refused_study(call.clone()), None);
+            for end in fleets::STUDY_ENDS {
+                assert_eq!(refused_study(call.with(end)), None);
+            }
+            for spoil in fleets::BAD_STUDY {
+                assert_eq!(refused_study(call.with(spoil)), Some(5));
+            }
+            for end in fleets::FLEET_ENDS {
+                assert_eq!(refused_study(call.with(|call| end(&mut call.fleet, unit))), None);
+            }
+            for spoil in fleets::BAD_FLEET {
+                assert_eq!(refused_study(call.with(|call| spoil(&mut call.fleet, unit))), Some(5));
+            }
+        }
+    }
+
+    #[test]
+    fn lengths_come_first_then_values_then_requests() {
+        let mut draw = Draw::from_seed(52);
+        for _ in 0..200 {
+            let call = fleets::pass_call(5, &mut draw);
+            let study = fleets::study_call(5, 20, &mut draw);
+            for lengths in fleets::bad_lengths(call.requests.len(), &mut draw) {
+                let mut call = call.clone();
+                call.settings.mode = 0;
+                call.resize(lengths, &mut draw);
+                assert_eq!(refused_pass(call), Some(10), "{lengths:?}");
+            }
+            for lengths in fleets::bad_lengths(study.requests.len(), &mut draw) {
+                let mut study = study.clone();
+                study.load = -1;
+                study.resize(lengths, &mut draw);
+                assert_eq!(refused_study(study), Some(10), "{lengths:?}");
+            }
+            for spoil in fleets::BAD_REQUEST {
+                let mut call = call.with(|call| spoil(call, 0));
+                call.measure = 300_000_001;
+                assert_eq!(refused_pass(call), Some(5));
+            }
+        }
+    }
+
+    /// A study's measure stays within what a pass may be handed, so that a pass by hand says the same.
+    #[test]
+    fn a_study_is_its_passes() {
+        let mut draw = Draw::from_seed(53);
+        for _ in 0..2_000 {
+            let mut call = fleets::study_call(6, 60, &mut draw);
+            let mut requests = vec![0; call.requests.len()];
+            let settings = settings(1, call.target, call.band, call.factor);
+            let mut changes = Vec::new();
+            for _ in 0..call.budget {
+                let fleet_power: i64 = requests.iter().map(|&request| i64::from(request)).sum();
+                let passed = pass(&settings, call.load - fleet_power, &call.fleet, &mut requests).unwrap();
+                changes.push(passed.changed);
+                if !passed.changed {
+                    break;
+                }
+            }
+            let passes = changes.iter().filter(|&&changed| changed).count() as u32;
+            let settled = changes.last() == Some(&false);
+            assert_eq!(call.settle(), Ok(Study { settled, passes }));
+            assert_eq!(call.requests, requests);
+        }
+    }
+}

@@ -1,0 +1,40 @@
+//! The ranges of the document's quantities, each in its own unit.
+
+use std::ops::RangeInclusive;
+
+/// The units in a fleet.
+pub const UNITS: RangeInclusive<usize> = 1..=64;
+
+/// Joules.
+pub const RATED: RangeInclusive<u64> = 1..=10_000_000_000_000;
+
+/// The power rating R in watts.
+pub const RATING: RangeInclusive<u32> = 1..=100_000_000;
+
+pub const WEIGHT: RangeInclusive<u16> = 1..=10_000;
+
+/// 1 PeakShave, 2 Support, 3 PeakShaveLow.
+pub const MODE: RangeInclusive<u8> = 1..=3;
+
+/// Watts.
+pub const TARGET: RangeInclusive<i32> = -100_000_000..=100_000_000;
+
+/// Watts.
+pub const BAND: RangeInclusive<u32> = 0..=200_000_000;
+
+/// Thousandths.
+pub const FACTOR: RangeInclusive<u16> = 1..=1_000;
+
+/// Watts, of a measure that is handed straight to a pass.
+pub const MEASURE: RangeInclusive<i64> = -300_000_000..=300_000_000;
+
+/// Watts, of the fixed load of a study.
+pub const LOAD: RangeInclusive<i64> = 0..=100_000_000;
+
+/// Passes of a study.
+pub const BUDGET: RangeInclusive<u32> = 1..=10_000;
+
+/// A unit's three energies: the rated energy in its range, and reserve and stored from 0 to it.
+pub fn energies_fit(rated: u64, reserve: u64, stored: u64) -> bool {
+    RATED.contains(&rated) && reserve <= rated && stored <= rated
+}
