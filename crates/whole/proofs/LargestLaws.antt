@@ -2,7 +2,7 @@
 use mathlib.Core.Path.{_≡_, refl, sym, ap, _∙_, subst}
 use mathlib.Core.Bool.{Bool, true, false, cond}
 use mathlib.Core.Logic.{_⊎_, inl, inr, ⊎-elim}
-use Prim.Native.Nat.{ℕ, zero, suc, _+_, _-_, _*_, _^_, _≤_, _<_, zero-le}
+use Prim.Native.Nat.{ℕ, zero, suc, _+_, _-_, _*_, _^_, _≤_, _<_, zero-le, min}
 use native.Mathlib.Nat.{le-refl, le-step, not-suc-le-zero, le-antisymm, mul-le-mul, mul-suc, suc-mul, le-suc-iff, eq-zero-or-pos, lt-of-le-of-lt}
 use native.Mathlib.Omega.{arith}
 use lib.Dec.{leb, lit<}
@@ -47,6 +47,21 @@ module _ (ok : ℕ → Bool) where
       under : (x ≡ 0) ⊎ (0 < x) → x ≤ largest ok n
       under (inl e) = omega arith
       under (inr p) = largest-tops n x h (t p)
+
+  -- where the test is a bound, it is the bound or n
+  pub largest-upto : (n B : ℕ) → ((x : ℕ) → 0 < x → ok x ≡ leb x B) → largest ok n ≡ min n B
+  largest-upto n B same =
+      largest-is n (min n B) (omega arith)
+      (λ h. same (min n B) h ∙ le-leb (min n B) B (omega arith))
+      (λ j l m. same j (omega arith) ∙ lt-leb j B (omega arith))
+
+-- two tests of order that pass together are one
+pub leb-same : (a b c d : ℕ) → (a ≤ b → c ≤ d) → (c ≤ d → a ≤ b) → leb a b ≡ leb c d
+leb-same a b c d f g = go (leb c d) refl
+  where
+    go : (t : Bool) → leb c d ≡ t → leb a b ≡ leb c d
+    go true e = le-leb a b (g (leb-true c d e)) ∙ sym e
+    go false e = lt-leb a b (let no : ¬ (a ≤ b) = (λ h. passed-failed (le-leb c d (f h)) e) in omega arith) ∙ sym e
 
 -- ---- the leg
 pub square-le : {a b : ℕ} → a ≤ b → a * a ≤ b * b

@@ -1,4 +1,4 @@
--- The two laws by which callers know a quotient, and what the code's way of rounding up gives. Assumes nothing.
+-- The laws by which callers know a quotient, and what the code's way of rounding up gives. Assumes nothing.
 use mathlib.Core.Path.{_≡_, refl, sym, ap, _∙_, subst⁻¹}
 use Prim.Native.Nat.{ℕ, zero, suc, _+_, _-_, _*_, _/_, _%_, _^_, _≤_, _<_, zero-le}
 use lib.IntN.{ℤ, pos, negsuc, negℤ, natAbs}
@@ -8,7 +8,7 @@ use mir.ValLaws.{toZ-ofZ}
 use mathlib.Core.Bool.{Bool, true}
 use lib.Signed.{mag}
 use mathlib.Core.Logic.{_↔_}
-use native.Mathlib.Nat.{div-lt-iff-lt-mul, le-div-iff-mul-le, div-add-mod', mul-add-div-right, one-mul, add-zero, mod-lt, div-eq-of-lt, div-zero, div-le-self, suc-mul, mul-le-mul-left, lt-of-le-of-lt, le-of-suc-le-suc, le-trans, le-of-eq}
+use native.Mathlib.Nat.{div-lt-iff-lt-mul, le-div-iff-mul-le, div-add-mod', mul-add-div-right, one-mul, add-zero, mod-lt, div-eq-of-lt, div-zero, div-le-self, suc-mul, mul-le-mul-left, mul-le-mul-right, lt-of-le-of-lt, le-of-suc-le-suc, le-trans, le-of-eq}
 use native.Mathlib.Omega.{arith}
 use Rattle.whole.proofs.SignLaws.{size-signed}
 use Rattle.whole.specs.Quotient.{ceil, cut}
@@ -17,6 +17,26 @@ use Rattle.whole.specs.Signed.{negative, signed}
 -- ⌊a/b⌋ ≥ c exactly when a ≥ c × b
 pub floor-from : {a b c : ℕ} → 0 < b → (c ≤ a / b) ↔ (c * b ≤ a)
 floor-from h = le-div-iff-mul-le h
+
+-- ⌊a/b⌋ ≤ c exactly when a ≤ (c + 1) × b - 1
+pub floor-upto : (a b c : ℕ) → 0 < b → (a / b ≤ c) ↔ (a ≤ (c + 1) * b - 1)
+floor-upto a b c h = (there, back)
+  where
+    there : a / b ≤ c → a ≤ (c + 1) * b - 1
+    there l =
+        let k : a / b < c + 1 = omega arith in
+        let m : a < (c + 1) * b = div-lt-iff-lt-mul h .0 k in
+        omega arith
+
+    some : 0 < (c + 1) * b
+    some = let m : 1 * b ≤ (c + 1) * b = mul-le-mul-right b (omega arith) in omega arith
+
+    back : a ≤ (c + 1) * b - 1 → a / b ≤ c
+    back l =
+        let z : 0 < (c + 1) * b = some in
+        let m : a < (c + 1) * b = omega arith in
+        let k : a / b < c + 1 = div-lt-iff-lt-mul h .1 m in
+        omega arith
 
 -- ⌈a/b⌉ ≤ c exactly when a ≤ c × b
 pub ceil-upto : {a b c : ℕ} → 0 < b → (ceil a b ≤ c) ↔ (a ≤ c * b)

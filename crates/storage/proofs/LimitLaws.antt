@@ -1,0 +1,115 @@
+-- What limits a step, by the definitions: the held request is at most what is asked and at most S, and both energy limits are quotients. Assumes nothing.
+use mathlib.Core.Path.{_≡_, sym, ap, _∙_}
+use mathlib.Core.Logic.{_⊎_, inl, inr}
+use mathlib.Core.Bool.{Bool}
+use Prim.Native.Nat.{ℕ, _+_, _-_, _*_, _/_, _≤_, _<_, _^_, min}
+use native.Mathlib.Nat.{mul-le-mul, zero-mul, eq-zero-or-pos}
+use native.Mathlib.Omega.{arith}
+use lib.Dec.{leb, eqb}
+use lib.IntN.{ℤ, natAbs}
+use lib.Signed.{mag}
+use mir.Syntax.{w32}
+use mir.Val.{toZ, ofZ}
+use borrow.Author.Tests.{leb-true, eq-eqb, ne-eqb}
+use Rattle.whole.proofs.Choice.{by-test}
+use Rattle.whole.proofs.LargestLaws.{largest-le, largest-passes, largest-upto}
+use Rattle.whole.proofs.SignLaws.{read}
+use Rattle.whole.specs.Largest.{legOf}
+use Rattle.whole.specs.Signed.{negative, signed}
+use Rattle.storage.proofs.RangeLaws.{Bounds}
+use Rattle.storage.proofs.EnergyLaws.{removed-test, added-test, added-none, drawn-none, drawable-most}
+use Rattle.storage.specs.declared.Unit.{Unit}
+use Rattle.storage.specs.Step.{heldSize, varsOf, removedBy, addedBy, deliverable, takeable}
+
+-- ---- the size of a number that was read back from its bits
+pub sized : (z : ℤ) (n : ℕ) → mag z < 2 ^ 31 → n ≡ natAbs (toZ w32 (ofZ w32 z)) → n ≡ natAbs z
+sized z n h e = e ∙ ap natAbs (read w32 z h)
+
+-- ---- the held request
+module _ (u : Unit) (request : ℤ) where
+  pub held-beside : u .priority ≡ 1
+      → min (min (natAbs request) (u .kva)) (legOf (u .kva) (min (natAbs (u .«var_request»)) (u .kva))) ≡ heldSize u request
+  unfolding heldSize
+  held-beside e = simp (eq-eqb (u .priority) 1 e)
+
+  pub held-first : (u .priority ≡ 1 → ⊥) → min (natAbs request) (u .kva) ≡ heldSize u request
+  unfolding heldSize
+  held-first e = simp (ne-eqb (u .priority) 1 e)
+
+  pub held-read : (n : ℕ) → mag request < 2 ^ 31 → n ≡ heldSize u (toZ w32 (ofZ w32 request)) → n ≡ heldSize u request
+  held-read n h e = e ∙ ap (heldSize u) (read w32 request h)
+
+  pub held-most : (heldSize u request ≤ natAbs request) × (heldSize u request ≤ u .kva)
+  unfolding heldSize
+  held-most =
+      let p = min (natAbs request) (u .kva) in
+      by-test (λ (n : ℕ). (n ≤ natAbs request) × (n ≤ u .kva)) (eqb (u .priority) 1) (min p (legOf (u .kva) (min (natAbs (u .«var_request»)) (u .kva)))) p
+      (λ t. omega arith)
+      (λ t. omega arith)
+
+-- ---- the vars, from the sign, the size and the leg that the code has
+pub vars-are : (u : Unit) (watts : ℤ) → mag (u .«var_request») < 2 ^ 31 → mag watts < 2 ^ 31 → (below : Bool) (size side leg q : ℕ)
+    → below ≡ negative (toZ w32 (ofZ w32 (u .«var_request»))) → size ≡ natAbs (toZ w32 (ofZ w32 (u .«var_request»)))
+    → side ≡ natAbs (toZ w32 (ofZ w32 watts)) → leg ≡ legOf (u .kva) side → q ≡ min size leg → signed below q ≡ varsOf u watts
+unfolding varsOf
+vars-are u watts hv hw below size side leg q eb es ed el eq = cc (read w32 (u .«var_request») hv, read w32 watts hw)
+
+-- ---- the energy limits
+pub deliverable-most : (u : Unit) (s p : ℕ) → deliverable u s p ≤ p
+unfolding deliverable
+deliverable-most u s p = largest-le (λ (x : ℕ). leb (removedBy u s x) (u .stored - u .reserve)) p
+
+pub takeable-most : (u : Unit) (s p : ℕ) → takeable u s p ≤ p
+unfolding takeable
+takeable-most u s p = largest-le (λ (x : ℕ). leb (addedBy u s x) (u .rated - u .stored)) p
+
+-- what is delivered leaves the reserve, and what is taken has room
+pub deliverable-within : (u : Unit) (s p : ℕ) → 0 < deliverable u s p → removedBy u s (deliverable u s p) ≤ u .stored - u .reserve
+unfolding deliverable
+deliverable-within u s p h =
+    leb-true (removedBy u s (deliverable u s p)) (u .stored - u .reserve) (largest-passes (λ (x : ℕ). leb (removedBy u s x) (u .stored - u .reserve)) p h)
+
+pub takeable-within : (u : Unit) (s p : ℕ) → addedBy u s (takeable u s p) ≤ u .rated - u .stored
+unfolding takeable addedBy
+takeable-within u s p = go (eq-zero-or-pos (takeable u s p))
+  where
+    nothing : (x : ℕ) → x ≡ 0 → x * u .inverter / 10000 - u .«idle_loss» ≡ 0
+    nothing x e = let m : x * u .inverter ≡ 0 = ap (λ (n : ℕ). n * u .inverter) e ∙ zero-mul (u .inverter) in omega arith
+
+    go : (takeable u s p ≡ 0) ⊎ (0 < takeable u s p) → addedBy u s (takeable u s p) ≤ u .rated - u .stored
+    go (inl e) = let z : 0 ≡ addedBy u s (takeable u s p) = added-none (takeable u s p * u .inverter / 10000 - u .«idle_loss») s (u .charge) (nothing (takeable u s p) e) in omega arith
+    go (inr h) = leb-true (addedBy u s (takeable u s p)) (u .rated - u .stored) (largest-passes (λ (x : ℕ). leb (addedBy u s x) (u .rated - u .stored)) p h)
+
+module _ (u : Unit) (s p : ℕ) (b : Bounds u s) where
+  some-inverter : 0 < u .inverter
+  some-inverter = omega arith
+
+  pub deliverable-is : deliverable u s p
+      ≡ min p (((u .stored - u .reserve) * u .discharge / (s * 10000) - u .«idle_loss») * u .inverter / 10000)
+  unfolding deliverable
+  deliverable-is =
+      largest-upto (λ (x : ℕ). leb (removedBy u s x) (u .stored - u .reserve)) p
+      (((u .stored - u .reserve) * u .discharge / (s * 10000) - u .«idle_loss») * u .inverter / 10000)
+      (λ x h. removed-test x (u .inverter) (u .«idle_loss») s (u .discharge) (u .stored - u .reserve) (omega arith) (omega arith) (omega arith) h)
+
+  pub takeable-is : takeable u s p
+      ≡ min p (((((u .rated - u .stored + 1) * 10000 - 1) / (s * u .charge) + u .«idle_loss» + 1) * 10000 - 1) / u .inverter)
+  unfolding takeable
+  takeable-is =
+      largest-upto (λ (x : ℕ). leb (addedBy u s x) (u .rated - u .stored)) p
+      (((((u .rated - u .stored + 1) * 10000 - 1) / (s * u .charge) + u .«idle_loss» + 1) * 10000 - 1) / u .inverter)
+      (λ x h. added-test x (u .inverter) (u .«idle_loss») s (u .charge) (u .rated - u .stored) some-inverter some)
+    where
+      some : 0 < s * u .charge
+      some = let m : 1 * 1000 ≤ s * u .charge = mul-le-mul (b .seconds-least) (b .charge-least) in omega arith
+
+  -- none where no more than the idle loss can be drawn
+  pub deliverable-none : (u .stored - u .reserve) * u .discharge / (s * 10000) ≤ u .«idle_loss» → 0 ≡ deliverable u s p
+  deliverable-none h =
+      drawn-none p ((u .stored - u .reserve) * u .discharge / (s * 10000) - u .«idle_loss») (u .inverter) (omega arith) ∙ sym deliverable-is
+
+  -- nor where nothing lies above the reserve
+  pub deliverable-empty : u .stored ≤ u .reserve → 0 ≡ deliverable u s p
+  deliverable-empty h =
+      let m = drawable-most (u .stored - u .reserve) (u .discharge) s (b .discharge-most) (b .seconds-least) in
+      deliverable-none (omega arith)

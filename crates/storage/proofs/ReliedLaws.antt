@@ -1,0 +1,76 @@
+-- What a planner relies on, of each flow that is at most the held size: what it removes lies above the reserve and what it adds has room, the loss
+-- is the difference from what passes the grid, which is never below 0, and the vars are at most the leg that the watts leave. Assumes nothing.
+use mathlib.Core.Path.{_≡_, refl}
+use Prim.Native.Nat.{ℕ, zero, suc, _+_, _*_, _≤_, min}
+use native.Mathlib.Nat.{le-trans, le-of-eq, min-le-right}
+use native.Mathlib.Omega.{arith}
+use lib.Dec.{le→leb}
+use lib.IntN.{ℤ, pos, negℤ, natAbs}
+use lib.Signed.{_≤ℤ_}
+use Rattle.whole.proofs.LargestLaws.{square-le, leg-in}
+use Rattle.whole.proofs.SignLaws.{size-signed, size-neg}
+use Rattle.whole.specs.Largest.{legOf}
+use Rattle.whole.specs.Signed.{negative}
+use Rattle.storage.proofs.RangeLaws.{Bounds}
+use Rattle.storage.proofs.StepLaws.{Able, removal-covers, addition-covered}
+use Rattle.storage.specs.declared.Unit.{Unit}
+use Rattle.storage.specs.declared.Flow.{Flow}
+use Rattle.storage.specs.declared.Flow.the-variants.{Out, In, Idle}
+use Rattle.storage.specs.Ranges.{idleDraw}
+use Rattle.storage.specs.Relied.{Conserved}
+use Rattle.storage.specs.Step.{removedBy, addedBy, wattsOf, storedOf, lossOf, varsOf, outcomeOf}
+
+-- ---- the vars leave the watts in the circle
+pub vars-in-circle : (u : Unit) (watts : ℤ) → natAbs watts ≤ u .kva
+    → natAbs watts * natAbs watts + natAbs (varsOf u watts) * natAbs (varsOf u watts) ≤ u .kva * u .kva
+unfolding varsOf
+vars-in-circle u watts h =
+    let leg = legOf (u .kva) (natAbs watts) in
+    let q = min (natAbs (u .«var_request»)) leg in
+    let v : natAbs (varsOf u watts) ≤ leg = le-trans (le-of-eq (size-signed (negative (u .«var_request»)) q)) (min-le-right (natAbs (u .«var_request»)) leg) in
+    let s : natAbs (varsOf u watts) * natAbs (varsOf u watts) ≤ leg * leg = square-le v in
+    let c : leg * leg + natAbs watts * natAbs watts ≤ u .kva * u .kva = leg-in (u .kva) (natAbs watts) h in
+    omega arith
+
+-- ---- charging and idling both draw from the grid. A draw of d watts: its size, that it is below whatever is asked, and that energy is conserved
+-- where what is stored and lost is what was stored and drawn; each also where d is 0
+draw-size : (d n : ℕ) → d ≤ n → natAbs (negℤ (pos d)) ≤ n
+draw-size d n h = le-trans (le-of-eq (size-neg (pos d))) h
+
+draw-below : (d n : ℕ) → negℤ (pos d) ≤ℤ pos n
+draw-below zero n = record { le = le→leb 0 n (omega arith) }
+draw-below (suc d) n = record { le = tt }
+
+drawn : (seconds stored d : ℕ) (vars : ℤ) (after loss : ℕ) → after + loss ≡ stored + d * seconds
+    → Conserved seconds stored (record { watts = negℤ (pos d); vars = vars; stored = after; loss = loss })
+drawn seconds stored zero vars after loss e = omega arith
+drawn seconds stored (suc d) vars after loss e = e
+
+-- ---- a flow of at most p, for which the store has enough above the reserve, or room
+module _ (u : Unit) (seconds p : ℕ) where
+  module _ (b : Bounds u seconds) where
+    pub stays : u .reserve ≤ u .stored → (f : Flow) → Able u seconds p f → (u .reserve ≤ storedOf u seconds f) × (storedOf u seconds f ≤ u .rated)
+    unfolding storedOf
+    stays r (Out x) a = omega arith
+    stays r (In x) a = omega arith
+    stays r Idle a = omega arith
+
+    pub watts-le : p ≤ u .kva → (f : Flow) → Able u seconds p f → natAbs (wattsOf u f) ≤ u .kva
+    unfolding wattsOf
+    watts-le h (Out x) a = le-trans (a .0) h
+    watts-le h (In x) a = draw-size x (u .kva) (le-trans (a .0) h)
+    watts-le h Idle a = draw-size (idleDraw u) (u .kva) (b .draw-most)
+
+    pub conserves : (f : Flow) → Able u seconds p f → Conserved seconds (u .stored) (outcomeOf u seconds f)
+    unfolding outcomeOf
+    conserves (Out x) a = let l : x * seconds ≤ removedBy u seconds x = removal-covers u seconds x b in omega arith
+    conserves (In x) a =
+        let l : addedBy u seconds x ≤ x * seconds = addition-covered u seconds x b in
+        drawn seconds (u .stored) x (varsOf u (wattsOf u (In x))) (storedOf u seconds (In x)) (lossOf u seconds (In x)) (omega arith)
+    conserves Idle a = drawn seconds (u .stored) (idleDraw u) (varsOf u (wattsOf u Idle)) (u .stored) (lossOf u seconds Idle) refl
+
+  pub no-more : (n : ℕ) → p ≤ n → (f : Flow) → Able u seconds p f → wattsOf u f ≤ℤ pos n
+  unfolding wattsOf
+  no-more n h (Out x) a = record { le = le→leb x n (le-trans (a .0) h) }
+  no-more n h (In x) a = draw-below x n
+  no-more n h Idle a = draw-below (idleDraw u) n

@@ -1,0 +1,30 @@
+-- What a planner relies on holds of a step, since the store has what flows or has room for it, and what flows is at most the held size, which is
+-- at most the request and at most S. Assumes nothing.
+use mathlib.Core.Path.{_≡_, ap}
+use mathlib.Core.Bool.{true}
+use Prim.Native.Nat.{ℕ}
+use native.Mathlib.Nat.{le-trans, le-of-eq}
+use lib.IntN.{ℤ, natAbs}
+use Rattle.storage.proofs.RangeLaws.{bounds}
+use Rattle.storage.proofs.LimitLaws.{held-most}
+use Rattle.storage.proofs.StepLaws.{flow-able}
+use Rattle.storage.proofs.ReliedLaws.{vars-in-circle, no-more, watts-le, stays, conserves}
+use Rattle.storage.specs.declared.Unit.{Unit}
+use Rattle.storage.specs.Ranges.{unitIn, secondsIn}
+use Rattle.storage.specs.Relied.{Relied}
+use Rattle.storage.specs.Step.{heldSize, flowOf, wattsOf, stepOf}
+
+pub relied : (u : Unit) (seconds : ℕ) (request : ℤ) → unitIn u ≡ true → secondsIn seconds ≡ true → Relied u seconds request
+unfolding stepOf
+relied u seconds request e t =
+    let p = heldSize u request in
+    let f = flowOf u seconds request in
+    let a = flow-able u seconds request in
+    let b = bounds {u = u} {seconds = seconds} (record { unit = e; seconds-in = t }) in
+    let (asked, rated) = held-most u request in
+    record {
+      staysWithin = λ r. stays u seconds p b r f a;
+      inCircle = vars-in-circle u (wattsOf u f) (watts-le u seconds p b rated f a);
+      conserved = conserves u seconds p b f a;
+      noMoreThanAsked = λ x q. no-more u seconds p x (le-trans asked (le-of-eq (ap natAbs q))) f a;
+    }

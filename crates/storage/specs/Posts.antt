@@ -1,0 +1,20 @@
+-- The parts of contracts by name: what the code of a step may count on.
+use Prim.Native.Nat.{ℕ, _-_, _≤_}
+use mathlib.Core.Bool.{true}
+use mathlib.Core.Path.{_≡_}
+use Rattle.storage.specs.declared.Unit.{Unit}
+use Rattle.storage.specs.declared.Flow.{Flow}
+use Rattle.storage.specs.declared.Flow.the-variants.{Out, In, Idle}
+use Rattle.storage.specs.Ranges.{unitIn, secondsIn}
+use Rattle.storage.specs.Step.{removedBy, addedBy}
+
+-- a unit and a step length in their ranges
+pub record Ranged (u : Unit) (seconds : ℕ) : Type 0 where
+  pub unit : unitIn u ≡ true
+  pub seconds-in : secondsIn seconds ≡ true
+
+-- a flow that the unit can carry: at most S, and no more than the store holds above 0 or has room for
+abbrev pub Carried : Unit → ℕ → Flow → Type 0
+Carried u seconds (Out x) = (x ≤ u .kva) × (removedBy u seconds x ≤ u .stored)
+Carried u seconds (In x) = (x ≤ u .kva) × (addedBy u seconds x ≤ u .rated - u .stored)
+Carried u seconds Idle = 0 ≤ 0

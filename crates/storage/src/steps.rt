@@ -1,0 +1,37 @@
+ghost use mathlib.Core.Path.{_≡_};
+ghost use Rattle.storage.specs.Step.{stepOf, steppedOf};
+ghost use Rattle.storage.specs.Posts.{Ranged};
+use super::Outcome;
+use super::Stepped;
+use super::Unit;
+use super::flows;
+use super::limits;
+use super::ranges;
+
+// One step of a unit that is in its ranges.
+pub fn step_within(u: Unit, seconds: u32, request: i32) -> Outcome
+    requires { ⌜ Ranged u seconds ⌝ }
+    ensures { λ r. ⌜ r ≡ stepOf u seconds request ⌝ }
+{
+    let flow = flows::flow(u, seconds, request);
+    let watts = flows::watts(u, seconds, flow);
+    Outcome {
+        watts,
+        vars: limits::vars(u, watts),
+        stored: flows::stored(u, seconds, flow),
+        loss: flows::loss(u, seconds, flow),
+    }
+}
+
+// One step of any numbers: refused are values out of range (5) and a request beyond the rating (10).
+pub fn step(u: Unit, seconds: u32, request: i32) -> Stepped
+    ensures { λ r. ⌜ r ≡ steppedOf u seconds request ⌝ }
+{
+    if !(ranges::seconds_in(seconds) & ranges::unit_in(u)) {
+        return Stepped::RefusedBy(5);
+    }
+    if u.rating < whole::size32(request) {
+        return Stepped::RefusedBy(10);
+    }
+    Stepped::Done(step_within(u, seconds, request))
+}
