@@ -101,8 +101,8 @@ struct lent {
     size_t length, room;
 };
 
-/* The six lists of a fleet in the order of the calls, and the two out-numbers after them. */
-enum { RATED, RESERVE, STORED, RATING, WEIGHT, REQUESTS, LISTS, FIRST = LISTS, SECOND, ALL_LENT };
+/* The six lists of a fleet in the order of the calls, and up to four out-numbers after them. */
+enum { RATED, RESERVE, STORED, RATING, WEIGHT, REQUESTS, LISTS, FIRST = LISTS, SECOND, THIRD, FOURTH, ALL_LENT };
 
 static const size_t widths[LISTS] = {8, 8, 8, 4, 2, 4};
 static struct lent lent[ALL_LENT];
@@ -134,10 +134,10 @@ static void *lend_number(struct lent *lent, size_t width)
     return lend(lent, (const uint8_t *)&left_alone, width);
 }
 
-/* 1 if a read-only list or a guard byte is other than before the call. */
-static int disturbed(void)
+/* 1 if a read-only list or a guard byte is other than before the call, among what was lent to it. */
+static int disturbed(int from, int to)
 {
-    for (int i = 0; i < ALL_LENT; i++) {
+    for (int i = from; i <= to; i++) {
         const struct lent *l = &lent[i];
         int same = i < REQUESTS
             ? memcmp(l->memory, l->copy, l->length + 2 * GUARD) == 0
@@ -160,15 +160,21 @@ static void take_lists(struct rest *rest, void *lists[LISTS], size_t lengths[LIS
     }
 }
 
-/* What a call over a fleet left: the number, u32; 1 if it wrote where it may not, u8; the two out-numbers
-** in their own widths; the requests, i32.
+/* What a call left: the number, u32; 1 if it wrote where it may not, u8; the out-numbers in their own
+** widths. What was lent goes from one place to another.
 */
-static void put_lent(uint32_t number)
+static void put_left(uint32_t number, int from, int to)
 {
     put(number, 4);
-    put((uint64_t)disturbed(), 1);
-    for (int i = FIRST; i <= SECOND; i++)
+    put((uint64_t)disturbed(from, to), 1);
+    for (int i = FIRST; i <= to; i++)
         put(number_at(lent[i].memory + GUARD, (int)lent[i].length), (int)lent[i].length);
+}
+
+/* What a call over a fleet left: the above, and the requests, i32. */
+static void put_fleet_left(uint32_t number)
+{
+    put_left(number, RATED, SECOND);
     for (size_t at = 0; at < lent[REQUESTS].length; at += 4)
         put(number_at(lent[REQUESTS].memory + GUARD + at, 4), 4);
 }
@@ -190,9 +196,9 @@ static void call_pass(const uint8_t *payload, size_t length)
         take_lists(&rest, list, n);
         int64_t *need = lend_number(&lent[FIRST], sizeof *need);
         uint8_t *changed = lend_number(&lent[SECOND], sizeof *changed);
-        put_lent(yb_pass(mode, target, band, factor, measure, list[RATED], n[RATED], list[RESERVE], n[RESERVE],
-            list[STORED], n[STORED], list[RATING], n[RATING], list[WEIGHT], n[WEIGHT], list[REQUESTS],
-            n[REQUESTS], need, changed));
+        put_fleet_left(yb_pass(mode, target, band, factor, measure, list[RATED], n[RATED], list[RESERVE],
+            n[RESERVE], list[STORED], n[STORED], list[RATING], n[RATING], list[WEIGHT], n[WEIGHT],
+            list[REQUESTS], n[REQUESTS], need, changed));
     }
 }
 
@@ -213,9 +219,41 @@ static void call_settle(const uint8_t *payload, size_t length)
         take_lists(&rest, list, n);
         uint8_t *settled = lend_number(&lent[FIRST], sizeof *settled);
         uint32_t *passes = lend_number(&lent[SECOND], sizeof *passes);
-        put_lent(yb_settle(load, target, band, factor, budget, list[RATED], n[RATED], list[RESERVE], n[RESERVE],
-            list[STORED], n[STORED], list[RATING], n[RATING], list[WEIGHT], n[WEIGHT], list[REQUESTS],
-            n[REQUESTS], settled, passes));
+        put_fleet_left(yb_settle(load, target, band, factor, budget, list[RATED], n[RATED], list[RESERVE],
+            n[RESERVE], list[STORED], n[STORED], list[RATING], n[RATING], list[WEIGHT], n[WEIGHT],
+            list[REQUESTS], n[REQUESTS], settled, passes));
+    }
+}
+
+/* 'S': any number of steps. Each is seconds u32, rated, reserve and stored u64, rating, kva and idle loss u32,
+** var request i32, weight, inverter, charge and discharge u16, priority u8, request i32; for each what it
+** left, watts and vars i32, stored after and loss u64.
+*/
+static void call_step(const uint8_t *payload, size_t length)
+{
+    struct rest rest = {payload, length, "op S: the payload is no row of steps"};
+    while (rest.length != 0) {
+        uint32_t seconds = (uint32_t)take_number(&rest, 4);
+        uint64_t rated = take_number(&rest, 8);
+        uint64_t reserve = take_number(&rest, 8);
+        uint64_t stored = take_number(&rest, 8);
+        uint32_t rating = (uint32_t)take_number(&rest, 4);
+        uint32_t kva = (uint32_t)take_number(&rest, 4);
+        uint32_t idle_loss = (uint32_t)take_number(&rest, 4);
+        int32_t var_request = (int32_t)take_number(&rest, 4);
+        uint16_t weight = (uint16_t)take_number(&rest, 2);
+        uint16_t inverter = (uint16_t)take_number(&rest, 2);
+        uint16_t charge = (uint16_t)take_number(&rest, 2);
+        uint16_t discharge = (uint16_t)take_number(&rest, 2);
+        uint8_t priority = (uint8_t)take_number(&rest, 1);
+        int32_t request = (int32_t)take_number(&rest, 4);
+        int32_t *watts = lend_number(&lent[FIRST], sizeof *watts);
+        int32_t *vars = lend_number(&lent[SECOND], sizeof *vars);
+        uint64_t *stored_after = lend_number(&lent[THIRD], sizeof *stored_after);
+        uint64_t *loss = lend_number(&lent[FOURTH], sizeof *loss);
+        uint32_t number = yb_step(seconds, rated, reserve, stored, rating, kva, idle_loss, var_request, weight,
+            inverter, charge, discharge, priority, request, watts, vars, stored_after, loss);
+        put_left(number, FIRST, FOURTH);
     }
 }
 
@@ -226,6 +264,7 @@ static const struct {
     {'W', call_watts},
     {'P', call_pass},
     {'T', call_settle},
+    {'S', call_step},
 };
 
 static void dispatch(uint8_t op, const uint8_t *payload, size_t length)

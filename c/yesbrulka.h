@@ -73,6 +73,28 @@ uint32_t yb_settle(int64_t load, int32_t target, uint32_t band, uint16_t factor,
     const uint16_t *weight, size_t weight_len, int32_t *requests, size_t requests_len,
     uint8_t *settled, uint32_t *passes);
 
+/* Take one storage unit through one step of the given length, at a request in W.
+**
+** seconds is 1 to 86,400; rated is 1 to 10^13 J, reserve and stored 0 to rated; rating is 1 to 100,000,000 W,
+** kva 1 to 100,000,000 VA, idle_loss 0 to 10,000,000 W, var_request -100,000,000 to 100,000,000 var, weight 1
+** to 10,000; inverter, charge and discharge are efficiencies of 1,000 to 10,000 parts in 10,000; priority is 0
+** for watts, 1 for vars. What the idling unit draws from the grid, idle_loss by the inverter's efficiency
+** rounded up, is no more than kva. request is within rating in size.
+**
+** Stores in *watts and *vars what the unit gives, in *stored_after the energy that it then holds, and in *loss
+** the energy lost, in J. A unit that cannot do what it is asked, or is asked nothing, idles: *watts is then its
+** draw, negative, and the store stays as it is.
+**
+** Returns 0, or the first of these that holds:
+**     5  a value is outside its range
+**    10  the request is beyond the rating
+** The four are written only when 0 is returned.
+*/
+uint32_t yb_step(uint32_t seconds, uint64_t rated, uint64_t reserve, uint64_t stored,
+    uint32_t rating, uint32_t kva, uint32_t idle_loss, int32_t var_request, uint16_t weight,
+    uint16_t inverter, uint16_t charge, uint16_t discharge, uint8_t priority, int32_t request,
+    int32_t *watts, int32_t *vars, uint64_t *stored_after, uint64_t *loss);
+
 #ifdef __cplusplus
 }
 #endif

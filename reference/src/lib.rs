@@ -10,6 +10,7 @@ pub mod octets;
 pub mod ranges;
 pub mod reading;
 pub mod samples;
+pub mod storage;
 pub mod whole;
 
 /// A value outside its range.

@@ -5,13 +5,30 @@ use std::ops::RangeInclusive;
 /// The units in a fleet.
 pub const UNITS: RangeInclusive<usize> = 1..=64;
 
+/// The step length in seconds.
+pub const SECONDS: RangeInclusive<u32> = 1..=86_400;
+
 /// Joules.
 pub const RATED: RangeInclusive<u64> = 1..=10_000_000_000_000;
 
 /// The power rating R in watts.
 pub const RATING: RangeInclusive<u32> = 1..=100_000_000;
 
+/// The kVA rating S in VA.
+pub const KVA: RangeInclusive<u32> = 1..=100_000_000;
+
+/// Watts.
+pub const IDLE_LOSS: RangeInclusive<u32> = 0..=10_000_000;
+
+pub const VAR_REQUEST: RangeInclusive<i32> = -100_000_000..=100_000_000;
+
 pub const WEIGHT: RangeInclusive<u16> = 1..=10_000;
+
+/// Parts in 10,000, of each of the three efficiencies.
+pub const EFFICIENCY: RangeInclusive<u16> = 1_000..=10_000;
+
+/// 0 watt, 1 var.
+pub const PRIORITY: RangeInclusive<u8> = 0..=1;
 
 /// 1 PeakShave, 2 Support, 3 PeakShaveLow.
 pub const MODE: RangeInclusive<u8> = 1..=3;

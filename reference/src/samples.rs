@@ -2,6 +2,7 @@
 //! of their own, the calls of the other functions.
 
 pub mod fleets;
+pub mod units;
 
 /// The splitmix64 generator: the same numbers from the same seed on every machine.
 pub struct Draw(u64);
@@ -29,6 +30,19 @@ impl Draw {
     pub fn sized(&mut self) -> u64 {
         let length = self.below(65) as u32;
         self.any().checked_shr(64 - length).unwrap_or(0)
+    }
+
+    /// A number from `low` to `high`: an end, one beside it, any, or any of any smaller length.
+    pub fn within(&mut self, low: u64, high: u64) -> u64 {
+        let span = high - low;
+        match self.below(8) {
+            0 => low,
+            1 => high,
+            2 => low + span.min(1),
+            3 => high - span.min(1),
+            4 => low + (self.below(span + 1) >> self.below(44)),
+            _ => low + self.below(span + 1),
+        }
     }
 
     pub fn one_of<T: Copy>(&mut self, list: &[T]) -> T {

@@ -5,6 +5,7 @@
 mod fleets;
 mod readings;
 mod say;
+mod steps;
 mod wholes;
 
 fn answer(kind: u8, value: &[u8]) {
@@ -14,6 +15,7 @@ fn answer(kind: u8, value: &[u8]) {
         b'K' => readings::kilowatts(value),
         b'P' => fleets::pass(value),
         b'T' => fleets::study(value),
+        b'S' => steps::step(value),
         b'L' => wholes::leg(value),
         b'U' => wholes::up(value),
         b'Z' => wholes::cut(value),

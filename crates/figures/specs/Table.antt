@@ -7,6 +7,8 @@ use lib.Ieee.{binary64, ofBits}
 use mathlib.Core.Bool.{cond}
 use lib.ListN.{length, replicate}
 use Rattle.whole.specs.Largest.{legOf}
+use Rattle.storage.specs.declared.Unit.{Unit}
+use Rattle.storage.specs.Step.{stepOf}
 use Rattle.controller.specs.declared.Settings.{Settings}
 use Rattle.controller.specs.Ranges.{Fleet, fleetOf}
 use Rattle.controller.specs.Pass.{needOf, passOf, changedOf}
@@ -16,7 +18,7 @@ use Rattle.reading.specs.declared.Watts.the-variants.{Whole, Refused}
 use Rattle.reading.specs.Conversion.{wattsOf, numberOf}
 
 pub data Name : Type 0 where
-  A1 A2 A3 A4 B1 B2 B3 B4 B5 C1 E1 : Name
+  A1 A2 A3 A4 B1 B2 B3 B4 B5 C1 D1 D2 D3 E1 : Name
 
 pub record Figure : Type 0 where
   pub name : Name
@@ -70,6 +72,30 @@ unfoldable pub study : Settings → ℤ → Fleet → ℕ → ℕ → List ℤ
 unfolding studyOf
 study s load f budget n = let r = studyOf s load f budget n in pos 0 ∷ pos (cond (r .settled) 1 0) ∷ pos (r .changing) ∷ r .requests
 
+-- the answer of a step: watts, vars, the store after it and the loss
+unfoldable pub step : Unit → ℕ → ℤ → List ℤ
+unfolding stepOf
+step u seconds request =
+    let o = stepOf u seconds request in
+    pos 0 ∷ o .watts ∷ o .vars ∷ pos (o .stored) ∷ pos (o .loss) ∷ []
+
+-- the unit of D1 to D3: inverter 9,000, idle loss 10 W, charge and discharge 8,000, 1,000 VA, no reserve, with so much stored
+abbrev pub holding : ℕ → Unit
+holding stored = record {
+  rated = 1000000;
+  reserve = 0;
+  stored = stored;
+  rating = 1000;
+  kva = 1000;
+  «idle_loss» = 10;
+  «var_request» = pos 0;
+  weight = 1;
+  inverter = 9000;
+  charge = 8000;
+  discharge = 8000;
+  priority = 0;
+}
+
 -- the fleets of the figures: three units of weight 1; two of weights 2 and 1; one; and C1's two with ratings of 100 and 1,000 W
 abbrev pub three : Fleet
 three = units (replicate 3 1000000) (replicate 3 1)
@@ -88,7 +114,7 @@ abbrev pub settling : Settings
 settling = set 1 (pos 700) 20 1000
 
 unfoldable pub table : List Figure
-unfolding kilowatts leg pass after study
+unfolding kilowatts leg pass after study step
 table =
     figure A1 (kilowatts 0x3ff8_0000_0000_0000) (value (pos 1500))
     ∷ figure A2 (kilowatts 0x3fb0_0000_0000_0000) (value (pos 63))
@@ -111,6 +137,9 @@ table =
     ∷ figure C1 (after settling (pos 1000) pair 2 4) (pos 100 ∷ pos 193 ∷ [])
     ∷ figure C1 (study settling (pos 1000) pair 10 2) (pos 0 ∷ pos 1 ∷ pos 4 ∷ pos 100 ∷ pos 193 ∷ [])
     ∷ figure C1 (pass settling (pos 707) pair (pos 100 ∷ pos 193 ∷ [])) (pos 0 ∷ pos 7 ∷ pos 0 ∷ pos 100 ∷ pos 193 ∷ [])
+    ∷ figure D1 (step (holding 75750) 60 (pos 900)) (pos 0 ∷ pos 900 ∷ pos 0 ∷ pos 0 ∷ pos 21750 ∷ [])
+    ∷ figure D2 (step (holding 75749) 60 (pos 900)) (pos 0 ∷ pos 899 ∷ pos 0 ∷ pos 74 ∷ pos 21735 ∷ [])
+    ∷ figure D3 (step (holding 0) 60 (negℤ (pos 1000))) (pos 0 ∷ negℤ (pos 1000) ∷ pos 0 ∷ pos 42720 ∷ pos 17280 ∷ [])
     ∷ figure E1 (leg 5 3) (value (pos 4))
     ∷ figure E1 (leg 10 7) (value (pos 7))
     ∷ []

@@ -14,8 +14,13 @@ use Rattle.controller.specs.declared.PassAnswer.the-variants.{PassDone, PassRef
 use Rattle.controller.specs.declared.Studied.{Studied}
 use Rattle.controller.specs.declared.StudyAnswer.{StudyAnswer}
 use Rattle.controller.specs.declared.StudyAnswer.the-variants.{StudyDone, StudyRefused}
+use Rattle.storage.specs.declared.Unit.{Unit}
+use Rattle.storage.specs.declared.Outcome.{Outcome}
+use Rattle.storage.specs.declared.Stepped.{Stepped}
+use Rattle.storage.specs.declared.Stepped.the-variants.{Done, RefusedBy}
+use Rattle.storage.specs.Answers.{stepNumber, wattsHeld, varsHeld, storedHeld, lossHeld}
 use Rattle.controller.specs.Answers.{passNumber, needHeld, changedHeld, studyNumber, settledHeld, passesHeld}
-use Rattle.yesbrulka.specs.Calls.{passCall, passLeft, studyCall, studyLeft}
+use Rattle.yesbrulka.specs.Calls.{passCall, passLeft, studyCall, studyLeft, stepCall}
 
 -- a flag as a byte
 byte-is : (b : Bool) → boolByte b ≡ cond b 1 0
@@ -93,4 +98,46 @@ module _ (load target : ℤ) (band factor budget : ℕ) (a b c d e : List ℕ) (
       let same = sym is ∙ study-is in (
         ap studyNumber same,
         (study-left-is, (ap (λ (x : StudyAnswer). settledHeld x settled) same, ap (λ (x : StudyAnswer). passesHeld x passes) same)),
+      )
+
+-- ---- yb_step, of a unit by its var request
+module _ (seconds : ℕ) (unit : ℤ → Unit) (var request : ℤ) (hv : mag var < 2 ^ 31) (hr : mag request < 2 ^ 31) (ans : Stepped)
+    (ea : ans ≡ stepCall seconds (unit (toZ w32 (ofZ w32 var))) (toZ w32 (ofZ w32 request))) (watts vars : ℤ) (stored loss : ℕ) where
+  step-is : ans ≡ stepCall seconds (unit var) request
+  step-is = ea ∙ ap₂ (λ (v r : ℤ). stepCall seconds (unit v) r) (read w32 var hv) (read w32 request hr)
+
+  pub step-done : (o : Outcome) → ans ≡ Done o → mag (o .watts) < 2 ^ 31 → mag (o .vars) < 2 ^ 31
+      → (0 ≡ stepNumber (stepCall seconds (unit var) request))
+      × ((toZ w32 (ofZ w32 (o .watts)) ≡ wattsHeld (stepCall seconds (unit var) request) watts)
+      × ((toZ w32 (ofZ w32 (o .vars)) ≡ varsHeld (stepCall seconds (unit var) request) vars)
+      × ((o .stored ≡ storedHeld (stepCall seconds (unit var) request) stored)
+      × (o .loss ≡ lossHeld (stepCall seconds (unit var) request) loss))))
+  step-done o is hw hq =
+      let same = sym is ∙ step-is in (
+        ap stepNumber same,
+        (
+          read w32 (o .watts) hw ∙ ap (λ (x : Stepped). wattsHeld x watts) same,
+          (
+            read w32 (o .vars) hq ∙ ap (λ (x : Stepped). varsHeld x vars) same,
+            (ap (λ (x : Stepped). storedHeld x stored) same, ap (λ (x : Stepped). lossHeld x loss) same),
+          ),
+        ),
+      )
+
+  pub step-refused : (n : ℕ) → ans ≡ RefusedBy n
+      → (n ≡ stepNumber (stepCall seconds (unit var) request))
+      × ((watts ≡ wattsHeld (stepCall seconds (unit var) request) watts)
+      × ((vars ≡ varsHeld (stepCall seconds (unit var) request) vars)
+      × ((stored ≡ storedHeld (stepCall seconds (unit var) request) stored)
+      × (loss ≡ lossHeld (stepCall seconds (unit var) request) loss))))
+  step-refused n is =
+      let same = sym is ∙ step-is in (
+        ap stepNumber same,
+        (
+          ap (λ (x : Stepped). wattsHeld x watts) same,
+          (
+            ap (λ (x : Stepped). varsHeld x vars) same,
+            (ap (λ (x : Stepped). storedHeld x stored) same, ap (λ (x : Stepped). lossHeld x loss) same),
+          ),
+        ),
       )

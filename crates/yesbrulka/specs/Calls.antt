@@ -8,6 +8,9 @@ use Rattle.controller.specs.declared.StudyAnswer.{StudyAnswer}
 use Rattle.controller.specs.Ranges.{fleetOf}
 use Rattle.controller.specs.Study.{studySettings}
 use Rattle.controller.specs.Answers.{passAnswer, passLeaves, studyAnswer, studyLeaves}
+use Rattle.storage.specs.declared.Unit.{Unit}
+use Rattle.storage.specs.declared.Stepped.{Stepped}
+use Rattle.storage.specs.Step.{steppedOf}
 
 abbrev pub settingsOf : ℕ → ℤ → ℕ → ℕ → Settings
 settingsOf mode target band factor = record { mode = mode; target = target; band = band; factor = factor }
@@ -29,3 +32,23 @@ studyCall load target band factor budget rated reserve stored rating weight requ
 abbrev pub studyLeft : ℤ → ℤ → ℕ → ℕ → ℕ → List ℕ → List ℕ → List ℕ → List ℕ → List ℕ → List ℤ → List ℤ
 studyLeft load target band factor budget rated reserve stored rating weight requests =
     studyLeaves (studySettings target band factor) load budget (fleetOf rated reserve stored rating weight) requests
+
+-- yb_step: the unit's values in the call's order
+abbrev pub unitOf : ℕ → ℕ → ℕ → ℕ → ℕ → ℕ → ℤ → ℕ → ℕ → ℕ → ℕ → ℕ → Unit
+unitOf rated reserve stored rating kva idle var weight inverter charge discharge priority = record {
+  rated = rated;
+  reserve = reserve;
+  stored = stored;
+  rating = rating;
+  kva = kva;
+  «idle_loss» = idle;
+  «var_request» = var;
+  weight = weight;
+  inverter = inverter;
+  charge = charge;
+  discharge = discharge;
+  priority = priority;
+}
+
+abbrev pub stepCall : ℕ → Unit → ℤ → Stepped
+stepCall seconds u request = steppedOf u seconds request

@@ -3,11 +3,14 @@
 ghost use mathlib.Core.Path.{_≡_};
 ghost use Rattle.reading.specs.Conversion.{wattsOf, numberOf, heldAfter};
 ghost use Rattle.controller.specs.Answers.{passNumber, needHeld, changedHeld, studyNumber, settledHeld, passesHeld};
-ghost use Rattle.yesbrulka.specs.Calls.{passCall, passLeft, studyCall, studyLeft};
+ghost use Rattle.storage.specs.Answers.{stepNumber, wattsHeld, varsHeld, storedHeld, lossHeld};
+ghost use Rattle.yesbrulka.specs.Calls.{passCall, passLeft, studyCall, studyLeft, unitOf, stepCall};
 use controller::PassAnswer;
 use controller::Settings;
 use controller::StudyAnswer;
 use reading::Watts;
+use storage::Stepped;
+use storage::Unit;
 
 // The whole watts of a kW double: 0 and the watts, or 6 for a reading that cannot be used.
 #[no_mangle]
@@ -104,5 +107,62 @@ pub extern "C" fn yb_settle(
             0
         }
         StudyAnswer::StudyRefused(n) => n as u32,
+    }
+}
+
+// One step of one unit: 0, the watts and vars it gives, the energy it then holds and the loss; or 5
+// or 10.
+#[no_mangle]
+pub extern "C" fn yb_step(
+    seconds: u32,
+    rated: u64,
+    reserve: u64,
+    stored: u64,
+    rating: u32,
+    kva: u32,
+    idle_loss: u32,
+    var_request: i32,
+    weight: u16,
+    inverter: u16,
+    charge: u16,
+    discharge: u16,
+    priority: u8,
+    request: i32,
+    watts: &mut i32,
+    vars: &mut i32,
+    stored_after: &mut u64,
+    loss: &mut u64,
+) -> u32
+    ensures { λ r. ⌜ r ≡ stepNumber (stepCall seconds (unitOf rated reserve stored rating kva «idle_loss» «var_request» weight inverter charge discharge priority) request) ⌝ }
+    ensures { λ _. ⌜ now (watts .exit) ≡ wattsHeld (stepCall seconds (unitOf rated reserve stored rating kva «idle_loss» «var_request» weight inverter charge discharge priority) request) (now (watts .entry)) ⌝ }
+    ensures { λ _. ⌜ now (vars .exit) ≡ varsHeld (stepCall seconds (unitOf rated reserve stored rating kva «idle_loss» «var_request» weight inverter charge discharge priority) request) (now (vars .entry)) ⌝ }
+    ensures { λ _. ⌜ now («stored_after» .exit) ≡ storedHeld (stepCall seconds (unitOf rated reserve stored rating kva «idle_loss» «var_request» weight inverter charge discharge priority) request) (now («stored_after» .entry)) ⌝ }
+    ensures { λ _. ⌜ now (loss .exit) ≡ lossHeld (stepCall seconds (unitOf rated reserve stored rating kva «idle_loss» «var_request» weight inverter charge discharge priority) request) (now (loss .entry)) ⌝ }
+{
+    let u = Unit {
+        rated,
+        reserve,
+        stored,
+        rating,
+        kva,
+        idle_loss,
+        var_request,
+        weight,
+        inverter,
+        charge,
+        discharge,
+        priority,
+    };
+    match storage::step(u, seconds, request) {
+        Stepped::Done(o) => {
+            let given = o.watts;
+            let side = o.vars;
+            *watts = given;
+            *vars = side;
+            *stored_after = o.stored;
+            *loss = o.loss;
+            0
+        }
+        Stepped::RefusedBy(n) => n as u32,
     }
 }

@@ -12,7 +12,9 @@ use yesbrulka_reference::controller::{self, Fleet};
 use yesbrulka_reference::octets::{put_i32, put_u16, put_u32, put_u64, put_u8};
 use yesbrulka_reference::reading::{self, Phases};
 use yesbrulka_reference::samples::fleets::{self, PassCall, StudyCall};
+use yesbrulka_reference::samples::units::{self, StepCall};
 use yesbrulka_reference::samples::{self, Draw};
+use yesbrulka_reference::storage::{self, Stepped};
 use yesbrulka_reference::whole;
 
 /// The two files as they grow.
@@ -132,6 +134,31 @@ impl Cases {
             .settle()
             .map(|study| with_requests(&[study.settled.into(), study.passes.into()], &call.requests));
         self.add(b'T', &payload, list(&answer));
+    }
+
+    /// 'S': seconds u32, a unit's twelve values as in its field, and the request i32; the
+    /// watts, the vars, the energy stored after, and the loss.
+    fn step(&mut self, call: &StepCall) {
+        let unit = &call.unit;
+        let mut payload = Vec::new();
+        put_u32(&mut payload, call.seconds);
+        for joules in [unit.rated, unit.reserve, unit.stored] {
+            put_u64(&mut payload, joules);
+        }
+        for number in [unit.rating, unit.kva, unit.idle_loss] {
+            put_u32(&mut payload, number);
+        }
+        put_i32(&mut payload, unit.var_request);
+        for number in [unit.weight, unit.inverter, unit.charge, unit.discharge] {
+            put_u16(&mut payload, number);
+        }
+        put_u8(&mut payload, unit.priority);
+        put_i32(&mut payload, call.request);
+        let stepped = storage::step(call.seconds, unit, call.request);
+        let answer = stepped.map(|Stepped { watts, vars, stored, loss }| {
+            vec![i128::from(watts), vars.into(), stored.into(), loss.into()]
+        });
+        self.add(b'S', &payload, list(&answer));
     }
 }
 
@@ -404,6 +431,32 @@ fn study_cases(cases: &mut Cases) {
     }
 }
 
+fn step_cases(cases: &mut Cases) {
+    let mut draw = Draw::from_seed(9);
+    for call in units::figure_steps() {
+        cases.step(&call);
+    }
+    for _ in 0..3 {
+        let call = units::step_call(&mut draw);
+        for change in units::ENDS.iter().chain(&units::BAD_VALUES).chain(&units::BAD_REQUESTS) {
+            cases.step(&call.with(change));
+        }
+        // A wrong value comes before a wrong request.
+        for spoil in units::BAD_REQUESTS {
+            cases.step(&call.with(spoil).with(draw.one_of(&units::BAD_VALUES)));
+        }
+    }
+    // Values at their ends, several at once.
+    for _ in 0..250 {
+        let call = units::step_call(&mut draw);
+        let [first, second, third] = [(); 3].map(|()| draw.one_of(&units::ENDS));
+        cases.step(&call.with(first).with(second).with(third));
+    }
+    for _ in 0..1_500 {
+        cases.step(&units::step_call(&mut draw));
+    }
+}
+
 fn main() -> ExitCode {
     let names: Vec<_> = env::args_os().skip(1).collect();
     if names.len() != 2 {
@@ -419,6 +472,7 @@ fn main() -> ExitCode {
     cut_cases(&mut cases);
     pass_cases(&mut cases);
     study_cases(&mut cases);
+    step_cases(&mut cases);
     for (name, bytes) in names.iter().zip([cases.records.as_slice(), cases.answers.as_bytes()]) {
         if let Err(error) = fs::write(name, bytes) {
             eprintln!("cases: {}: {error}", name.to_string_lossy());

@@ -303,19 +303,6 @@ fn both_signs(call: &mut PassCall, unit: usize) {
     call.requests[(unit + units / 2) % units] = -1;
 }
 
-/// A number from `low` to `high`: an end, one beside it, any, or any of any smaller length.
-fn within(low: u64, high: u64, draw: &mut Draw) -> u64 {
-    let span = high - low;
-    match draw.below(8) {
-        0 => low,
-        1 => high,
-        2 => low + span.min(1),
-        3 => high - span.min(1),
-        4 => low + (draw.below(span + 1) >> draw.below(44)),
-        _ => low + draw.below(span + 1),
-    }
-}
-
 /// The number of units: one, a few, all that there can be, or any number up to `most`.
 fn size(most: usize, draw: &mut Draw) -> usize {
     let any = 1 + draw.below(most as u64) as usize;
@@ -369,19 +356,19 @@ fn fleet(units: usize, fills: &[Fill], draw: &mut Draw) -> Fleet {
     let weights = draw.below(6);
     let most_rating = draw.one_of(&[10, 1_000, 100_000, 100_000_000, 100_000_000]);
     for _ in 0..units {
-        fleet.rating.push(within(1, most_rating, draw) as u32);
+        fleet.rating.push(draw.within(1, most_rating) as u32);
         fleet.weight.push(match weights {
             0 => 1,
             1 => 10_000,
             2 => any,
             3 => draw.one_of(&[1, 10_000]),
             4 => 1 + draw.below(4) as u16,
-            _ => within(1, 10_000, draw) as u16,
+            _ => draw.within(1, 10_000) as u16,
         });
-        fleet.rated.push(within(1, 10_000_000_000_000, draw));
+        fleet.rated.push(draw.within(1, 10_000_000_000_000));
     }
     for &rated in &fleet.rated {
-        fleet.reserve.push(within(0, rated, draw));
+        fleet.reserve.push(draw.within(0, rated));
     }
     let fill = draw.one_of(fills);
     fill_up(&mut fleet, fill, draw);
@@ -391,16 +378,16 @@ fn fleet(units: usize, fills: &[Fill], draw: &mut Draw) -> Fleet {
 fn fill_up(fleet: &mut Fleet, fill: Fill, draw: &mut Draw) {
     let units = fleet.rated.len();
     match fill {
-        Fill::Any => fleet.stored = fleet.rated.iter().map(|&rated| within(0, rated, draw)).collect(),
+        Fill::Any => fleet.stored = fleet.rated.iter().map(|&rated| draw.within(0, rated)).collect(),
         Fill::Above => {
             for unit in 0..units {
                 let rated = fleet.rated[unit];
                 fleet.reserve[unit] = fleet.reserve[unit].min(rated - 1);
-                let stored = within(fleet.reserve[unit], rated, draw);
+                let stored = draw.within(fleet.reserve[unit], rated);
                 fleet.stored.push(stored);
             }
             let unit = draw.below(units as u64) as usize;
-            fleet.stored[unit] = within(fleet.reserve[unit] + 1, fleet.rated[unit], draw);
+            fleet.stored[unit] = draw.within(fleet.reserve[unit] + 1, fleet.rated[unit]);
         }
         Fill::AtReserve | Fill::OneAbove | Fill::OneBelow => {
             // Each unit holds another one's reserve; all could hold it.
@@ -514,8 +501,8 @@ pub fn study_call(most: usize, most_passes: u32, draw: &mut Draw) -> StudyCall {
     let requests = fleet.rating.iter().map(|_| draw.any() as i32).collect();
     let any = 1 + draw.below(1_000) as u16;
     let factor = draw.one_of(&[1, 100, 500, 999, 1_000, 1_000, any]);
-    let load = within(0, 100_000_000, draw) as i64 >> draw.one_of(&[0, 0, 10, 20]);
-    let any = within(0, 100_000_000, draw) as i32;
+    let load = draw.within(0, 100_000_000) as i64 >> draw.one_of(&[0, 0, 10, 20]);
+    let any = draw.within(0, 100_000_000) as i32;
     let near = load as i32 - 1 - draw.below(3_000) as i32;
     let below = draw.below(load as u64 + 1) as i32;
     let target = match draw.below(16) {

@@ -1,0 +1,441 @@
+//! The storage unit: its twelve values, and one step of it.
+
+use crate::ranges::{self, EFFICIENCY, IDLE_LOSS, KVA, PRIORITY, RATING, SECONDS, VAR_REQUEST, WEIGHT};
+use crate::whole::{largest_leg, quotient_up};
+use crate::{LISTS_OR_REQUESTS, OUT_OF_RANGE};
+
+/// A unit's values, in the order of its field.
+#[derive(Clone, Copy, Debug, PartialEq, Eq)]
+pub struct Unit {
+    /// Joules.
+    pub rated: u64,
+    /// Joules.
+    pub reserve: u64,
+    /// Joules.
+    pub stored: u64,
+    /// The power rating R in watts.
+    pub rating: u32,
+    /// The kVA rating S in VA.
+    pub kva: u32,
+    /// Watts, on the DC side.
+    pub idle_loss: u32,
+    pub var_request: i32,
+    pub weight: u16,
+    /// Efficiencies in parts in 10,000.
+    pub inverter: u16,
+    pub charge: u16,
+    pub discharge: u16,
+    /// 0 watt, 1 var.
+    pub priority: u8,
+}
+
+impl Unit {
+    pub fn in_range(&self) -> bool {
+        ranges::energies_fit(self.rated, self.reserve, self.stored)
+            && RATING.contains(&self.rating)
+            && KVA.contains(&self.kva)
+            && IDLE_LOSS.contains(&self.idle_loss)
+            && VAR_REQUEST.contains(&self.var_request)
+            && WEIGHT.contains(&self.weight)
+            && [self.inverter, self.charge, self.discharge].iter().all(|e| EFFICIENCY.contains(e))
+            && PRIORITY.contains(&self.priority)
+            && self.idle_draw() <= u64::from(self.kva)
+    }
+
+    /// What an idling unit draws from the grid, in watts.
+    pub fn idle_draw(&self) -> u64 {
+        quotient_up(u64::from(self.idle_loss) * 10_000, self.inverter.into())
+    }
+
+    /// The joules that leave the store where the unit delivers a watt count.
+    pub fn removed(&self, watts: i128, seconds: u32) -> i128 {
+        let d = divided_up(watts * 10_000, self.inverter.into());
+        let drawn = d + i128::from(self.idle_loss);
+        divided_up(drawn * i128::from(seconds) * 10_000, self.discharge.into())
+    }
+
+    /// The joules that reach the store where the unit takes a watt count.
+    pub fn added(&self, watts: i128, seconds: u32) -> i128 {
+        let d = watts * i128::from(self.inverter) / 10_000;
+        let kept = (d - i128::from(self.idle_loss)).max(0);
+        kept * i128::from(seconds) * i128::from(self.charge) / 10_000
+    }
+}
+
+/// What a step leaves: the watts, positive for discharge, the vars, and joules stored and lost.
+#[derive(Clone, Copy, Debug, PartialEq, Eq)]
+pub struct Stepped {
+    pub watts: i32,
+    pub vars: i32,
+    pub stored: u64,
+    pub loss: u64,
+}
+
+/// The quotient of two positive numbers, or of 0 by one, rounded up.
+fn divided_up(a: i128, b: i128) -> i128 {
+    (a + b - 1) / b
+}
+
+/// The largest count from `low` to `high` that fits; none where none does. Where a count fits, so does
+/// each smaller one.
+fn largest(low: i128, high: i128, fits: impl Fn(i128) -> bool) -> Option<i128> {
+    if low > high || !fits(low) {
+        return None;
+    }
+    // `good` always fits, and nothing from `bad` up is a count that does.
+    let (mut good, mut bad) = (low, high + 1);
+    while bad - good > 1 {
+        let middle = (good + bad) / 2;
+        if fits(middle) {
+            good = middle;
+        } else {
+            bad = middle;
+        }
+    }
+    Some(good)
+}
+
+fn check(seconds: u32, unit: &Unit, request: i32) -> Result<(), u32> {
+    if !(SECONDS.contains(&seconds) && unit.in_range()) {
+        return Err(OUT_OF_RANGE);
+    }
+    if request.unsigned_abs() > unit.rating {
+        return Err(LISTS_OR_REQUESTS);
+    }
+    Ok(())
+}
+
+/// One step of one unit that holds a request, the plain way.
+pub fn step(seconds: u32, unit: &Unit, request: i32) -> Result<Stepped, u32> {
+    check(seconds, unit, request)?;
+    let stored = i128::from(unit.stored);
+    let length = i128::from(seconds);
+
+    // The size of the request, within the circle.
+    let mut size = request.unsigned_abs().min(unit.kva);
+    if unit.priority == 1 {
+        let v = unit.var_request.unsigned_abs().min(unit.kva);
+        size = size.min(largest_leg(unit.kva, v));
+    }
+    let size = i128::from(size);
+
+    // The watts, the store and the loss of a unit that does what it is asked, as far as it can.
+    let mut active = None;
+    if request > 0 && unit.stored >= unit.reserve {
+        let available = stored - i128::from(unit.reserve);
+        let count = largest(1, size, |watts| unit.removed(watts, seconds) <= available);
+        if let Some(watts) = count {
+            let removed = unit.removed(watts, seconds);
+            active = Some((watts, stored - removed, removed - watts * length));
+        }
+    }
+    if request < 0 {
+        let room = i128::from(unit.rated) - stored;
+        let count = largest(0, size, |watts| unit.added(watts, seconds) <= room);
+        let watts = count.expect("taking nothing adds nothing");
+        let added = unit.added(watts, seconds);
+        if added > 0 {
+            active = Some((-watts, stored + added, watts * length - added));
+        }
+    }
+
+    // Otherwise it idles.
+    let draw = i128::from(unit.idle_draw());
+    let (watts, stored, loss) = active.unwrap_or((-draw, stored, draw * length));
+
+    // The vars, last.
+    let watts = i32::try_from(watts).expect("watts are within S");
+    let leg = largest_leg(unit.kva, watts.unsigned_abs());
+    let vars = unit.var_request.unsigned_abs().min(leg) as i32;
+    Ok(Stepped {
+        watts,
+        vars: if unit.var_request < 0 { -vars } else { vars },
+        stored: u64::try_from(stored).expect("no more is removed than there is"),
+        loss: u64::try_from(loss).expect("no energy is won"),
+    })
+}
+
+/// The same step as a quick program makes it: the count by division, all in 64 bits.
+pub fn step_fast(seconds: u32, unit: &Unit, request: i32) -> Result<Stepped, u32> {
+    check(seconds, unit, request)?;
+    let kva = u64::from(unit.kva);
+    let inverter = u64::from(unit.inverter);
+    let idle_loss = u64::from(unit.idle_loss);
+    let seconds = u64::from(seconds);
+    let vars = u64::from(unit.var_request.unsigned_abs());
+
+    let mut size = u64::from(request.unsigned_abs()).min(kva);
+    if unit.priority == 1 && vars != 0 {
+        size = size.min(leg_fast(kva, vars.min(kva)));
+    }
+
+    let mut active = None;
+    if request > 0 && size > 0 && unit.stored >= unit.reserve {
+        let available = unit.stored - unit.reserve;
+        let discharge = u64::from(unit.discharge);
+        let removed = |watts: u64| {
+            let d = (watts * 10_000 + inverter - 1) / inverter;
+            ((d + idle_loss) * seconds * 10_000 + discharge - 1) / discharge
+        };
+        let mut watts = size;
+        let mut moved = removed(watts);
+        if moved > available {
+            // (d + idle loss) × seconds × 10,000 ≤ available × discharge, and d × inverter ≥ watts × 10,000.
+            let most = (available * discharge / (seconds * 10_000)).saturating_sub(idle_loss);
+            watts = most * inverter / 10_000;
+            moved = removed(watts);
+        }
+        if watts > 0 {
+            active = Some((watts as i32, unit.stored - moved, moved - watts * seconds));
+        }
+    } else if request < 0 && size > 0 {
+        let room = unit.rated - unit.stored;
+        let charge = u64::from(unit.charge);
+        let added =
+            |watts: u64| (watts * inverter / 10_000).saturating_sub(idle_loss) * seconds * charge / 10_000;
+        let mut watts = size;
+        let mut moved = added(watts);
+        if moved > room {
+            // (d - idle loss) × seconds × charge < (room + 1) × 10,000, and watts × inverter < (d + 1) × 10,000.
+            let most = ((room + 1) * 10_000 - 1) / (seconds * charge) + idle_loss;
+            watts = ((most + 1) * 10_000 - 1) / inverter;
+            moved = added(watts);
+        }
+        if moved > 0 {
+            active = Some((-(watts as i32), unit.stored + moved, watts * seconds - moved));
+        }
+    }
+    let (watts, stored, loss) = active.unwrap_or_else(|| {
+        let draw = (idle_loss * 10_000 + inverter - 1) / inverter;
+        (-(draw as i32), unit.stored, draw * seconds)
+    });
+
+    let vars = if vars == 0 { 0 } else { vars.min(leg_fast(kva, watts.unsigned_abs().into())) as i32 };
+    Ok(Stepped { watts, vars: if unit.var_request < 0 { -vars } else { vars }, stored, loss })
+}
+
+/// The largest leg beside one that is no longer than S, by the machine's root and a step either way.
+fn leg_fast(s: u64, y: u64) -> u64 {
+    let square = s * s - y * y;
+    let mut root = (square as f64).sqrt() as u64;
+    while root * root > square {
+        root -= 1;
+    }
+    while (root + 1) * (root + 1) <= square {
+        root += 1;
+    }
+    root
+}
+
+#[cfg(test)]
+mod tests {
+    use super::*;
+    use crate::samples::units::{self, figure_unit, StepCall};
+    use crate::samples::Draw;
+
+    #[test]
+    fn d1() {
+        let stepped = step(60, &figure_unit(75_750), 900);
+        assert_eq!(stepped, Ok(Stepped { watts: 900, vars: 0, stored: 100_000, loss: 21_750 }));
+        let stepped = step(60, &figure_unit(500_000), 900).unwrap();
+        assert_eq!((stepped.watts, stepped.stored), (900, 600_000 - 75_750));
+    }
+
+    #[test]
+    fn d2() {
+        assert_eq!(step(60, &figure_unit(75_749), 900).unwrap().watts, 899);
+    }
+
+    #[test]
+    fn d3() {
+        let stepped = step(60, &figure_unit(0), -1_000);
+        assert_eq!(stepped, Ok(Stepped { watts: -1_000, vars: 0, stored: 142_720, loss: 17_280 }));
+    }
+
+    #[test]
+    fn e1() {
+        for (kva, watts, most) in [(5, 3, 4), (10, 7, 7)] {
+            let unit = Unit { kva, idle_loss: 0, ..figure_unit(500_000) };
+            for (asked, got) in [(most + 1, most), (most, most), (most - 1, most - 1)] {
+                for sign in [1, -1] {
+                    let unit = Unit { var_request: sign * asked, ..unit };
+                    assert_eq!(step(60, &unit, watts).unwrap().vars, sign * got);
+                    assert_eq!(step(60, &unit, -watts).unwrap().vars, sign * got);
+                }
+            }
+        }
+    }
+
+    /// The document's whole case, which idles.
+    #[test]
+    fn idling_draws_from_the_grid_and_not_from_the_store() {
+        let unit = Unit {
+            rated: 3_600_000,
+            reserve: 0,
+            stored: 3_600_000,
+            idle_loss: 1_000,
+            inverter: 10_000,
+            ..figure_unit(0)
+        };
+        let idle = Ok(Stepped { watts: -1_000, vars: 0, stored: 3_600_000, loss: 60_000 });
+        assert_eq!(step(60, &unit, 0), idle);
+        // A full store that is asked to take, and one at or below its reserve that is asked to give.
+        assert_eq!(step(60, &unit, -5_000), idle);
+        assert_eq!(step(60, &Unit { reserve: 3_600_000, ..unit }, 5_000), idle);
+        let below = Unit { rated: 4_000_000, reserve: 3_600_001, ..unit };
+        assert_eq!(step(60, &below, 5_000), idle);
+        // What the inverter lets through does not cover the idle loss, so that nothing is added.
+        let unit = Unit { stored: 0, ..unit };
+        assert_eq!(step(60, &unit, -1_000).unwrap().stored, 0);
+        assert_eq!(step(60, &unit, -1_001).unwrap().stored, 48);
+    }
+
+    #[test]
+    fn the_stored_energy_cuts_the_watts_before_the_vars_are_limited() {
+        let unit = Unit { kva: 900, var_request: 900, ..figure_unit(75_749) };
+        let stepped = step(60, &unit, 900).unwrap();
+        assert_eq!((stepped.watts, stepped.vars), (899, 42));
+    }
+
+    #[test]
+    fn under_var_priority_the_vars_come_first() {
+        let unit = Unit { kva: 1_000, var_request: -600, priority: 1, ..figure_unit(500_000) };
+        let stepped = step(60, &unit, 900).unwrap();
+        assert_eq!((stepped.watts, stepped.vars), (800, -600));
+        let stepped = step(60, &unit, -900).unwrap();
+        assert_eq!((stepped.watts, stepped.vars), (-800, -600));
+        // Vars beyond S leave no watts at all: the unit idles, and its draw is kept free.
+        let unit = Unit { var_request: 2_000, ..unit };
+        let stepped = step(60, &unit, 900).unwrap();
+        assert_eq!((stepped.watts, stepped.vars), (-12, 999));
+    }
+
+    /// The search, beside a plain walk down from the request.
+    #[test]
+    fn the_count_is_what_a_walk_downward_finds() {
+        let mut draw = Draw::from_seed(61);
+        let mut walked = 0;
+        while walked < 20_000 {
+            let StepCall { seconds, unit, request } = units::step_call(&mut draw);
+            let mut size = request.unsigned_abs().min(unit.kva);
+            if unit.priority == 1 {
+                let v = u64::from(unit.var_request.unsigned_abs().min(unit.kva));
+                let kva = u64::from(unit.kva);
+                while u64::from(size) * u64::from(size) + v * v > kva * kva && size < 2_000 {
+                    size -= 1;
+                }
+            }
+            if size > 1_000 || request == 0 {
+                continue;
+            }
+            walked += 1;
+            let mut watts = i128::from(size);
+            let stepped = step(seconds, &unit, request).unwrap();
+            let (stored, loss);
+            if request > 0 {
+                while watts > 0
+                    && unit.removed(watts, seconds) > i128::from(unit.stored) - i128::from(unit.reserve)
+                {
+                    watts -= 1;
+                }
+                stored = i128::from(unit.stored) - unit.removed(watts, seconds);
+                loss = unit.removed(watts, seconds) - watts * i128::from(seconds);
+            } else {
+                while unit.added(watts, seconds) > i128::from(unit.rated) - i128::from(unit.stored) {
+                    watts -= 1;
+                }
+                stored = i128::from(unit.stored) + unit.added(watts, seconds);
+                loss = watts * i128::from(seconds) - unit.added(watts, seconds);
+                watts = -watts;
+            }
+            if watts == 0 || stored == i128::from(unit.stored) {
+                let draw = i128::from(unit.idle_draw());
+                assert_eq!(i128::from(stepped.watts), -draw);
+                assert_eq!(stepped.stored, unit.stored);
+                assert_eq!(i128::from(stepped.loss), draw * i128::from(seconds));
+            } else {
+                assert_eq!(i128::from(stepped.watts), watts);
+                assert_eq!(i128::from(stepped.stored), stored);
+                assert_eq!(i128::from(stepped.loss), loss);
+            }
+        }
+    }
+
+    /// The found count fits and the next one does not, also where no walk would end.
+    #[test]
+    fn the_count_is_the_largest() {
+        let mut draw = Draw::from_seed(62);
+        for _ in 0..100_000 {
+            let StepCall { seconds, unit, request } = units::step_call(&mut draw);
+            let stepped = step(seconds, &unit, request).unwrap();
+            let watts = i128::from(stepped.watts.unsigned_abs());
+            if stepped.watts > 0 {
+                let available = i128::from(unit.stored - unit.reserve);
+                assert!(unit.removed(watts, seconds) <= available);
+                let full = stepped.watts == request || watts == i128::from(unit.kva) || unit.priority == 1;
+                assert!(full || unit.removed(watts + 1, seconds) > available);
+            } else if stepped.stored > unit.stored {
+                let room = i128::from(unit.rated - unit.stored);
+                assert!(unit.added(watts, seconds) <= room);
+                let full = stepped.watts == request || watts == i128::from(unit.kva) || unit.priority == 1;
+                assert!(full || unit.added(watts + 1, seconds) > room);
+            }
+        }
+    }
+
+    /// What the document promises of every step.
+    #[test]
+    fn the_store_stays_within_its_bounds_and_the_power_within_the_circle() {
+        let mut draw = Draw::from_seed(63);
+        for _ in 0..100_000 {
+            let StepCall { seconds, unit, request } = units::step_call(&mut draw);
+            let stepped = step(seconds, &unit, request).unwrap();
+            assert!(stepped.stored <= unit.rated);
+            assert!(stepped.stored >= unit.reserve.min(unit.stored));
+            let square = |n: i32| i128::from(n) * i128::from(n);
+            let s = i128::from(unit.kva);
+            assert!(square(stepped.watts) + square(stepped.vars) <= s * s);
+            // No joule is lost from the books.
+            let given = i128::from(stepped.watts) * i128::from(seconds) + i128::from(stepped.loss);
+            assert_eq!(i128::from(unit.stored) - i128::from(stepped.stored), given);
+        }
+    }
+
+    #[test]
+    fn the_fast_step_is_the_plain_one() {
+        let mut draw = Draw::from_seed(64);
+        for _ in 0..400_000 {
+            let call = units::step_call(&mut draw);
+            let StepCall { seconds, unit, request } = call;
+            assert_eq!(step_fast(seconds, &unit, request), step(seconds, &unit, request), "{call:?}");
+        }
+        for _ in 0..1_000 {
+            let call = units::step_call(&mut draw);
+            for change in units::ENDS.iter().chain(&units::BAD_VALUES).chain(&units::BAD_REQUESTS) {
+                let StepCall { seconds, unit, request } = call.with(change);
+                assert_eq!(step_fast(seconds, &unit, request), step(seconds, &unit, request));
+            }
+        }
+    }
+
+    #[test]
+    fn values_are_refused_beside_the_ends_of_their_ranges_and_not_at_them() {
+        let mut draw = Draw::from_seed(65);
+        let refused = |call: StepCall| step(call.seconds, &call.unit, call.request).err();
+        for _ in 0..1_000 {
+            let call = units::step_call(&mut draw);
+            assert_eq!(refused(call), None);
+            for end in units::ENDS {
+                assert_eq!(refused(call.with(end)), None, "{:?}", call.with(end));
+            }
+            for spoil in units::BAD_VALUES {
+                assert_eq!(refused(call.with(spoil)), Some(5), "{:?}", call.with(spoil));
+                let call = call.with(spoil).with(draw.one_of(&units::BAD_REQUESTS));
+                assert_eq!(refused(call), Some(5));
+            }
+            for spoil in units::BAD_REQUESTS {
+                assert_eq!(refused(call.with(spoil)), Some(10));
+            }
+        }
+    }
+}

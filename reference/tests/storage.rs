@@ -1,0 +1,310 @@
+//! The proved step of a storage unit beside the reference, over the C surface.
+
+mod host;
+
+use std::collections::BTreeMap;
+
+use host::{Host, LEFT_ALONE};
+use yesbrulka_reference::samples::units::{self, StepCall};
+use yesbrulka_reference::samples::Draw;
+use yesbrulka_reference::storage::{self, Stepped, Unit};
+
+/// Steps go over in frames of this many.
+const FRAME: usize = 4_096;
+
+/// The bytes of a step's answer.
+const ANSWER: usize = 29;
+
+/// What the host leaves in an out-number of joules that a call did not write.
+const LEFT_JOULES: u64 = (LEFT_ALONE as u64) << 32 | LEFT_ALONE as u64;
+
+/// What a step returns and leaves behind.
+#[derive(Debug, PartialEq)]
+struct Left {
+    number: u32,
+    disturbed: u8,
+    stepped: Stepped,
+}
+
+/// By the reference.
+fn expected(call: &StepCall) -> Left {
+    let untouched = Stepped { watts: LEFT_ALONE, vars: LEFT_ALONE, stored: LEFT_JOULES, loss: LEFT_JOULES };
+    let (number, stepped) = match storage::step(call.seconds, &call.unit, call.request) {
+        Ok(stepped) => (0, stepped),
+        Err(number) => (number, untouched),
+    };
+    Left { number, disturbed: 0, stepped }
+}
+
+fn put_step(payload: &mut Vec<u8>, call: &StepCall) {
+    let unit = &call.unit;
+    payload.extend(call.seconds.to_le_bytes());
+    for joules in [unit.rated, unit.reserve, unit.stored] {
+        payload.extend(joules.to_le_bytes());
+    }
+    for number in [unit.rating, unit.kva, unit.idle_loss] {
+        payload.extend(number.to_le_bytes());
+    }
+    payload.extend(unit.var_request.to_le_bytes());
+    for number in [unit.weight, unit.inverter, unit.charge, unit.discharge] {
+        payload.extend(number.to_le_bytes());
+    }
+    payload.push(unit.priority);
+    payload.extend(call.request.to_le_bytes());
+}
+
+fn left(answer: &[u8]) -> Left {
+    let word = |at: usize| answer[at..at + 4].try_into().expect("four bytes");
+    let long = |at: usize| answer[at..at + 8].try_into().expect("eight bytes");
+    Left {
+        number: u32::from_le_bytes(word(0)),
+        disturbed: answer[4],
+        stepped: Stepped {
+            watts: i32::from_le_bytes(word(5)),
+            vars: i32::from_le_bytes(word(9)),
+            stored: u64::from_le_bytes(long(13)),
+            loss: u64::from_le_bytes(long(21)),
+        },
+    }
+}
+
+/// What a step came to, for the tally.
+#[derive(Clone, Copy, Debug, PartialEq, Eq, PartialOrd, Ord)]
+enum Met {
+    Refused(u32),
+    /// Asked nothing.
+    Rests,
+    Delivers,
+    /// Fewer watts than asked and than the circle allows.
+    DeliversLess,
+    GivesNothing,
+    Takes,
+    TakesLess,
+    TakesNothing,
+}
+
+/// What the step came to, and whether the vars were cut.
+fn met(call: &StepCall, left: &Left) -> (Met, bool) {
+    let (unit, stepped) = (&call.unit, &left.stepped);
+    if left.number != 0 {
+        return (Met::Refused(left.number), false);
+    }
+    let vars = i64::from(unit.var_request).abs();
+    let kva = i64::from(unit.kva);
+    let watts = i64::from(stepped.watts).abs();
+    // One watt more would be asked for, and would be within the circle beside the vars that go before it.
+    let free = if unit.priority == 1 { vars.min(kva) } else { 0 };
+    let less = watts < i64::from(call.request).abs() && (watts + 1) * (watts + 1) + free * free <= kva * kva;
+    let moved = stepped.stored != unit.stored;
+    let what = match (call.request, moved, less) {
+        (0, ..) => Met::Rests,
+        (1.., true, false) => Met::Delivers,
+        (1.., true, true) => Met::DeliversLess,
+        (1.., false, _) => Met::GivesNothing,
+        (_, true, false) => Met::Takes,
+        (_, true, true) => Met::TakesLess,
+        (_, false, _) => Met::TakesNothing,
+    };
+    (what, i64::from(stepped.vars).abs() < vars)
+}
+
+/// Makes every step with the archive and with the reference, and compares. Gives how often each thing was
+/// met, by priority and whether the vars were cut.
+fn compare(calls: impl IntoIterator<Item = StepCall>) -> BTreeMap<(Met, u8, bool), u32> {
+    let mut host = Host::start();
+    let mut tally = BTreeMap::new();
+    let (mut wrong, mut all) = (0, 0);
+    let mut calls = calls.into_iter();
+    loop {
+        let frame: Vec<StepCall> = calls.by_ref().take(FRAME).collect();
+        if frame.is_empty() {
+            break;
+        }
+        let mut payload = Vec::new();
+        frame.iter().for_each(|call| put_step(&mut payload, call));
+        let answer = host.call(b'S', &payload);
+        assert_eq!(answer.len(), ANSWER * frame.len(), "an answer for each step");
+        for (call, answer) in frame.iter().zip(answer.chunks(ANSWER)) {
+            let (got, expected) = (left(answer), expected(call));
+            all += 1;
+            if got != expected {
+                wrong += 1;
+                if wrong <= 10 {
+                    eprintln!("{call:?}\n  archive   {got:?}\n  reference {expected:?}");
+                }
+            }
+            let (what, vars_cut) = met(call, &expected);
+            *tally.entry((what, call.unit.priority.min(2), vars_cut)).or_default() += 1;
+        }
+    }
+    assert!(host.end().0.success(), "the host ended badly");
+    assert_eq!(wrong, 0, "wrong steps of {all}");
+    tally
+}
+
+#[test]
+fn steps_of_the_documents_figures() {
+    let answers = [
+        (900, 0, 100_000, 21_750),
+        (899, 0, 100_074, 21_735),
+        (-1_000, 0, 142_720, 17_280),
+        (3, 4, 599_700, 120),
+        (3, -4, 599_700, 120),
+        (7, 7, 599_400, 180),
+        (-7, -7, 600_288, 132),
+        (-1_000, 0, 3_600_000, 60_000),
+    ];
+    let calls = units::figure_steps();
+    assert_eq!(calls.len(), answers.len());
+    for (call, (watts, vars, stored, loss)) in calls.iter().zip(answers) {
+        let stepped = Stepped { watts, vars, stored, loss };
+        assert_eq!(expected(call), Left { number: 0, disturbed: 0, stepped }, "{call:?}");
+    }
+    compare(calls);
+}
+
+#[test]
+fn steps_where_energy_circle_or_loss_decide() {
+    let mut draw = Draw::from_seed(301);
+    let tally = compare((0..600_000).map(|_| units::step_call(&mut draw)));
+    let idle = [Met::Rests, Met::GivesNothing, Met::TakesNothing];
+    let active = [Met::Delivers, Met::DeliversLess, Met::Takes, Met::TakesLess];
+    for (what, may_cut) in idle.map(|what| (what, true)).into_iter().chain(active.map(|what| (what, false))) {
+        for priority in 0..2 {
+            for vars_cut in [false, true] {
+                let count = tally.get(&(what, priority, vars_cut)).copied().unwrap_or(0);
+                // Under var priority only the draw of an idling unit is before the vars.
+                let possible = may_cut || priority == 0 || !vars_cut;
+                assert!(
+                    if possible { count > 1_000 } else { count == 0 },
+                    "{what:?}, priority {priority}, vars cut {vars_cut}: {count} times"
+                );
+            }
+        }
+    }
+}
+
+/// One step after the other of the same unit, as a run makes them, until the store is at its end and back.
+#[test]
+fn steps_in_a_row() {
+    let mut draw = Draw::from_seed(302);
+    let mut calls = Vec::new();
+    for _ in 0..1_000 {
+        let mut call = units::step_call(&mut draw);
+        for _ in 0..60 {
+            if draw.below(20) == 0 {
+                call.request = -call.request;
+            }
+            if draw.below(8) == 0 {
+                call.request = draw.below(u64::from(call.unit.rating) + 1) as i32 * call.request.signum();
+            }
+            calls.push(call);
+            call.unit.stored = expected(&call).stepped.stored;
+        }
+    }
+    compare(calls);
+}
+
+/// Small units, each with every request, so that nothing between the ends is left out.
+#[test]
+fn steps_of_small_units_with_every_request() {
+    let mut draw = Draw::from_seed(303);
+    let mut calls = Vec::new();
+    while calls.len() < 60_000 {
+        let call = units::step_call(&mut draw);
+        let rating = call.unit.rating as i32;
+        if rating <= 40 {
+            calls.extend((-rating..=rating).map(|request| StepCall { request, ..call }));
+        }
+    }
+    compare(calls);
+}
+
+/// The available energy from none to more than the request needs, and the room likewise, joule by joule.
+#[test]
+fn steps_over_every_joule() {
+    let mut draw = Draw::from_seed(304);
+    let mut calls = Vec::new();
+    while calls.len() < 60_000 {
+        let call = units::step_call(&mut draw);
+        let StepCall { seconds, unit, request } = call;
+        let size = request.unsigned_abs().into();
+        let most =
+            if request > 0 { unit.removed(size, seconds) } else { unit.added(size, seconds) } as u64 + 2;
+        if most > 2_000 {
+            continue;
+        }
+        for joules in 0..=most {
+            let reserve = most / 3;
+            let stored = if request > 0 { reserve + joules } else { reserve + most - joules };
+            let unit = Unit { rated: reserve + most, reserve, stored, ..unit };
+            calls.push(StepCall { unit, ..call });
+        }
+    }
+    compare(calls);
+}
+
+#[test]
+fn steps_with_values_at_their_ends_or_beside_them() {
+    let mut draw = Draw::from_seed(305);
+    let mut calls = Vec::new();
+    for _ in 0..400 {
+        let call = units::step_call(&mut draw);
+        calls.extend(units::ENDS.iter().map(|end| call.with(end)));
+        calls.extend(units::BAD_VALUES.iter().map(|spoil| call.with(spoil)));
+        calls.extend(units::BAD_REQUESTS.iter().map(|spoil| call.with(spoil)));
+        // A wrong value comes before a wrong request.
+        for spoil in units::BAD_VALUES {
+            calls.push(call.with(spoil).with(draw.one_of(&units::BAD_REQUESTS)));
+        }
+        // Several values at their ends at once.
+        for _ in 0..40 {
+            let ends = |draw: &mut Draw| draw.one_of(&units::ENDS);
+            calls.push(call.with(ends(&mut draw)).with(ends(&mut draw)).with(ends(&mut draw)));
+        }
+    }
+    let tally = compare(calls);
+    let refused = |number| (0..3).filter_map(|p| tally.get(&(Met::Refused(number), p, false))).sum::<u32>();
+    assert!(refused(5) > 20_000 && refused(10) >= 1_600, "{tally:?}");
+}
+
+/// Any bits at all in every number; most of these are refused.
+#[test]
+fn steps_over_any_bits() {
+    let mut draw = Draw::from_seed(306);
+    compare((0..20_000).map(|_| StepCall {
+        seconds: draw.sized() as u32,
+        unit: Unit {
+            rated: draw.sized(),
+            reserve: draw.sized(),
+            stored: draw.sized(),
+            rating: draw.sized() as u32,
+            kva: draw.sized() as u32,
+            idle_loss: draw.sized() as u32,
+            var_request: draw.any() as i32 >> draw.below(32),
+            weight: draw.sized() as u16,
+            inverter: draw.any() as u16,
+            charge: draw.any() as u16,
+            discharge: draw.any() as u16,
+            priority: draw.any() as u8 >> draw.below(8),
+        },
+        request: draw.any() as i32 >> draw.below(32),
+    }));
+}
+
+/// The comparison is worth nothing if the host answers frames that it has not understood.
+#[test]
+fn the_host_takes_no_malformed_step() {
+    let mut step = Vec::new();
+    put_step(&mut step, &units::figure_steps()[0]);
+    for length in [1, step.len() - 1] {
+        let mut host = Host::start_quietly();
+        host.send(b'S', &step[..length]);
+        let (status, messages) = host.end();
+        let message = "host: op S: the payload is no row of steps\n";
+        assert_eq!((status.code(), messages.as_str()), (Some(1), message), "{length} bytes");
+    }
+    let mut host = Host::start();
+    assert_eq!(host.call(b'S', &[]), [0u8; 0]);
+    assert!(host.end().0.success());
+}
