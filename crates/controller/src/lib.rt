@@ -9,6 +9,7 @@ mod sums;
 
 pub use passes::pass;
 pub use passes::pass_within;
+pub use ranges::settings_in;
 pub use study::settle;
 
 // What the controller is set to. Mode 1 shaves the peak, 2 supports, 3 fills the valley; target

@@ -1,0 +1,5 @@
+-- Laws about the run file's fields, its check and the parts of it that are handed back.
+pub mod FieldLaws
+pub mod TakenLaws
+pub mod WalkLaws
+pub mod PartLaws

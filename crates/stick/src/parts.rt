@@ -1,0 +1,43 @@
+ghost use mathlib.Core.Path.{_≡_};
+ghost use Prim.Native.Nat.{_≤_, min};
+ghost use lib.ListN.{length, take, drop};
+ghost use Rattle.stick.specs.Parts.{headThere, partStart, partSize};
+
+// The three bytes of tag and length are there.
+fn head_there(size: u64, place: u64) -> bool
+    ensures { λ r. ⌜ r ≡ headThere size place ⌝ }
+{
+    if size < 3 {
+        return false;
+    }
+    place <= size - 3
+}
+
+fn smaller(a: u64, b: u64) -> u64
+    ensures { λ r. ⌜ r ≡ min a b ⌝ }
+{
+    if a <= b { a } else { b }
+}
+
+// Where the value bytes of the field at a place begin.
+pub fn part_start(file: &[u8], place: u64) -> u64
+    ensures { λ r. ⌜ r ≡ partStart (now (file .entry)) place ⌝ }
+{
+    let size = file.len() as u64;
+    if head_there(size, place) {
+        return place + 3;
+    }
+    smaller(place, size)
+}
+
+// How many of them are there.
+pub fn part_size(file: &[u8], place: u64) -> u64
+    ensures { λ r. ⌜ r ≡ partSize (now (file .entry)) place ⌝ }
+{
+    let size = file.len() as u64;
+    if !head_there(size, place) {
+        return 0;
+    }
+    let wanted = octets::u16_at(file, (place as usize) + 1) as u64;
+    smaller(wanted, size - (place + 3))
+}
