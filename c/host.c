@@ -106,6 +106,7 @@ enum { RATED, RESERVE, STORED, RATING, WEIGHT, REQUESTS, LISTS, FIRST = LISTS, S
 
 static const size_t widths[LISTS] = {8, 8, 8, 4, 2, 4};
 static struct lent lent[ALL_LENT];
+static struct lent lent_file;
 
 /* Puts bytes between guards and gives the address to lend. The archive's numbers are little-endian in
 ** memory, as those of a frame are.
@@ -134,18 +135,20 @@ static void *lend_number(struct lent *lent, size_t width)
     return lend(lent, (const uint8_t *)&left_alone, width);
 }
 
-/* 1 if a read-only list or a guard byte is other than before the call, among what was lent to it. */
+/* 1 if a guard byte, or any byte of what may only be read, is other than before the call. */
+static int disturbed_one(const struct lent *l, int read_only)
+{
+    size_t before = read_only ? l->length + GUARD : GUARD;
+    size_t after = GUARD + l->length;
+    return memcmp(l->memory, l->copy, before) != 0 || memcmp(l->memory + after, l->copy + after, GUARD) != 0;
+}
+
+/* The same of any of what was lent to a call. */
 static int disturbed(int from, int to)
 {
-    for (int i = from; i <= to; i++) {
-        const struct lent *l = &lent[i];
-        int same = i < REQUESTS
-            ? memcmp(l->memory, l->copy, l->length + 2 * GUARD) == 0
-            : memcmp(l->memory, l->copy, GUARD) == 0 &&
-                memcmp(l->memory + GUARD + l->length, l->copy + GUARD + l->length, GUARD) == 0;
-        if (!same)
+    for (int i = from; i <= to; i++)
+        if (disturbed_one(&lent[i], i < REQUESTS))
             return 1;
-    }
     return 0;
 }
 
@@ -257,6 +260,45 @@ static void call_step(const uint8_t *payload, size_t length)
     }
 }
 
+/* The file of a call, a length u32 and that many bytes, lent; its length is that of what was lent. */
+static const uint8_t *take_file(struct rest *rest)
+{
+    uint64_t length = take_number(rest, 4);
+    return lend(&lent_file, take(rest, length), length);
+}
+
+/* 'C': any number of files. For each the check's number u32, place u64 and steps u32; 1 if anything was
+** written, u8.
+*/
+static void call_check(const uint8_t *payload, size_t length)
+{
+    struct rest rest = {payload, length, "op C: the payload is no row of files"};
+    while (rest.length != 0) {
+        const uint8_t *file = take_file(&rest);
+        size_t n = lent_file.length;
+        put(yb_check(file, n), 4);
+        put(yb_check_place(file, n), 8);
+        put(yb_check_steps(file, n), 4);
+        put((uint64_t)disturbed_one(&lent_file, 1), 1);
+    }
+}
+
+/* 'V': any number of places, each u64, and files. For each the start and the length of the value bytes, u64;
+** 1 if anything was written, u8.
+*/
+static void call_value(const uint8_t *payload, size_t length)
+{
+    struct rest rest = {payload, length, "op V: the payload is no row of places and files"};
+    while (rest.length != 0) {
+        uint64_t place = take_number(&rest, 8);
+        const uint8_t *file = take_file(&rest);
+        size_t n = lent_file.length;
+        put(yb_value_start(file, n, place), 8);
+        put(yb_value_len(file, n, place), 8);
+        put((uint64_t)disturbed_one(&lent_file, 1), 1);
+    }
+}
+
 static const struct {
     uint8_t op;
     void (*call)(const uint8_t *payload, size_t length);
@@ -265,6 +307,8 @@ static const struct {
     {'P', call_pass},
     {'T', call_settle},
     {'S', call_step},
+    {'C', call_check},
+    {'V', call_value},
 };
 
 static void dispatch(uint8_t op, const uint8_t *payload, size_t length)

@@ -1,10 +1,10 @@
 /* The C surface of the Yesbrulka planning core.
 **
-** Every function answers for any numbers and for any memory that is lent to it, and returns 0 or the
-** number of a refusal. On a refusal nothing that was lent has changed. A lent pointer points to memory
-** that holds what it is declared to hold, and no two of a call's lent things overlap. A lent list is a
-** pointer and the number of its elements; the pointer of a list of none may be NULL. Nothing is kept after
-** a call and nothing is allocated.
+** Every function answers for any numbers and for any memory that is lent to it. Unless it says otherwise it
+** returns 0 or the number of a refusal. On a refusal nothing that was lent has changed. A lent pointer points
+** to memory that holds what it is declared to hold, and no two of a call's lent things overlap. A lent list
+** is a pointer and the number of its elements; the pointer of a list of none may be NULL. A lent file is the
+** list of its bytes. Nothing is kept after a call and nothing is allocated.
 **
 ** Power is in whole watts, positive for discharge; energy is in whole joules.
 */
@@ -17,6 +17,43 @@
 #ifdef __cplusplus
 extern "C" {
 #endif
+
+/* Check a run file of any length.
+**
+** yb_check returns 0 if the file is complete, or the number of its refusal:
+**     1  one or two bytes are left where a field's tag and length are due, or its value runs past the end
+**     2  the tag is unknown
+**     3  the length is not the tag's
+**     4  the field may not come at this point
+**     5  a value is outside its range
+**     6  a reading does not convert to watts
+**     7  the end field counts other steps than there are
+**     8  the bytes stop between two fields, before the end field
+**     9  there are bytes after the end field
+**    12  the file is longer than 2,097,152 bytes, or has a step after its 65,535th
+** The size of the file is looked at first, then its fields from the first to the last; of several things wrong
+** with one field, the answer is the first of: tag and length cut short, 2, 3, value cut short, 4, 12, and 5, 6
+** or 7.
+**
+** yb_check_place returns the place in the file of the refused field, counted in bytes from 0. For 8 and 9 that
+** is the place where a further field or the file's end was due, for a file that is too long 0, and for a
+** complete file its length. yb_check_steps returns the number of steps before that place, which for a complete
+** file is all of them.
+*/
+uint32_t yb_check(const uint8_t *file, size_t file_len);
+uint64_t yb_check_place(const uint8_t *file, size_t file_len);
+uint32_t yb_check_steps(const uint8_t *file, size_t file_len);
+
+/* Find the value bytes of the field at a place of a file, for a support screen. Any place of any file will do;
+** that of a refusal is the usual one.
+**
+** yb_value_start returns the place of the first value byte and yb_value_len the number of value bytes: as many
+** as the field's length says, or fewer where the file ends before. Where the file ends within the tag and the
+** length, or the place is past its end, there is no value: yb_value_len returns 0, and yb_value_start the smaller
+** of the place and the file's length.
+*/
+uint64_t yb_value_start(const uint8_t *file, size_t file_len, uint64_t place);
+uint64_t yb_value_len(const uint8_t *file, size_t file_len, uint64_t place);
 
 /* Convert a phase power from kW to whole watts.
 **

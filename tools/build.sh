@@ -1,13 +1,13 @@
 #!/bin/bash
-# Builds the C programs over the archive into build/x86_64/, and beside them build/watts, the command that
-# people call. The archive must be there already.
+# Builds the C programs over the archive into build/x86_64/, and beside them build/watts and build/import, the
+# commands that people call. The archive must be there already.
 set -eu
 cd "$(dirname "${BASH_SOURCE[0]}")/.."
 . tools/env.sh
 yb_toolchain || { echo "$YB_CC_WHY" >&2; exit 1; }
 
-programs='host test_surface watts'
-commands='watts'
+programs='host test_surface watts import'
+commands='watts import'
 
 # Nothing of an earlier build may stand in for what fails to build now.
 for name in $programs $commands; do

@@ -83,6 +83,18 @@ stored_cases() {
     return 1
 }
 
+# The sample sticks are those that the reference writes today, and no others.
+sample_sticks() {
+    if mkdir "$log/examples" &&
+        cargo run --quiet --release --offline --manifest-path reference/Cargo.toml --bin sticks -- \
+            "$log/examples" &&
+        diff -r "$log/examples" examples; then
+        return 0
+    fi
+    echo 'examples is not what the reference writes; make examples rewrites it'
+    return 1
+}
+
 archive() {
     rm -f "$YB_ARCHIVE"
     rt staticlib yesbrulka && [ -f "$YB_ARCHIVE" ]
@@ -104,6 +116,7 @@ export YB_HOST="$YB_EMULATOR ../build/x86_64/host"
 
 step line 'proofs' rt ci
 step one 'stored cases' stored_cases
+step one 'sample sticks' sample_sticks
 step none 'archive' archive
 if [ -n "$YB_CC" ]; then
     step none 'C programs' tools/build.sh
@@ -112,9 +125,10 @@ if [ -n "$YB_CC" ]; then
     step line 'C surface' surface
     step cargo 'reference and archive' reference
     step line 'watts command' c/test_watts.sh
+    step line 'import command' c/test_import.sh
 else
     step cargo 'reference' reference --lib --bins
-    for tests in 'C surface' 'the archive beside the reference' 'watts command'; do
+    for tests in 'C surface' 'the archive beside the reference' 'watts command' 'import command'; do
         echo "NOT RUN: $tests: $YB_CC_WHY"
     done
 fi

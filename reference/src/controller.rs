@@ -17,7 +17,7 @@ pub struct Settings {
 }
 
 impl Settings {
-    fn in_range(&self) -> bool {
+    pub fn in_range(&self) -> bool {
         MODE.contains(&self.mode)
             && TARGET.contains(&self.target)
             && BAND.contains(&self.band)

@@ -10,8 +10,21 @@ pub mod octets;
 pub mod ranges;
 pub mod reading;
 pub mod samples;
+pub mod stick;
 pub mod storage;
 pub mod whole;
+
+/// Only one or two bytes left for a field's tag and length, or a value that runs past the end.
+pub const CUT_SHORT: u32 = 1;
+
+/// A tag that is not in the list.
+pub const UNKNOWN_TAG: u32 = 2;
+
+/// A length that is not the tag's.
+pub const WRONG_LENGTH: u32 = 3;
+
+/// A field that is not allowed at this point of the order.
+pub const OUT_OF_ORDER: u32 = 4;
 
 /// A value outside its range.
 pub const OUT_OF_RANGE: u32 = 5;
@@ -19,5 +32,17 @@ pub const OUT_OF_RANGE: u32 = 5;
 /// A reading refused by the conversion.
 pub const READING_NOT_USABLE: u32 = 6;
 
+/// An end count that differs from the steps read.
+pub const WRONG_COUNT: u32 = 7;
+
+/// Bytes that stop at a field's edge before the end field.
+pub const NO_END: u32 = 8;
+
+/// Bytes after an accepted end field.
+pub const BYTES_AFTER_END: u32 = 9;
+
 /// Lists of unequal length, empty or above 64; a request beyond its rating; requests of both signs.
 pub const LISTS_OR_REQUESTS: u32 = 10;
+
+/// A file above its size, or a step too many.
+pub const TOO_LARGE: u32 = 12;

@@ -5,6 +5,15 @@ use std::ops::RangeInclusive;
 /// The units in a fleet.
 pub const UNITS: RangeInclusive<usize> = 1..=64;
 
+/// The bytes of a run file.
+pub const MOST_BYTES: usize = 2_097_152;
+
+/// The steps of a run file.
+pub const MOST_STEPS: u32 = 65_535;
+
+/// The run file's edition.
+pub const EDITION: RangeInclusive<u8> = 1..=1;
+
 /// The step length in seconds.
 pub const SECONDS: RangeInclusive<u32> = 1..=86_400;
 
@@ -41,6 +50,9 @@ pub const BAND: RangeInclusive<u32> = 0..=200_000_000;
 
 /// Thousandths.
 pub const FACTOR: RangeInclusive<u16> = 1..=1_000;
+
+/// 0 sum, 1 to 3 that phase, 4 largest, 5 smallest.
+pub const PHASE: RangeInclusive<u8> = 0..=5;
 
 /// Watts, of a measure that is handed straight to a pass.
 pub const MEASURE: RangeInclusive<i64> = -300_000_000..=300_000_000;

@@ -2,6 +2,7 @@
 //! of their own, the calls of the other functions.
 
 pub mod fleets;
+pub mod sticks;
 pub mod units;
 
 /// The splitmix64 generator: the same numbers from the same seed on every machine.

@@ -2,6 +2,7 @@
 // A case is a kind byte, a two-byte length and that many bytes; the answer is the refusal's number
 // and, where that is 0, the results. `reference/` writes the cases and the answers that rt ci
 // compares with: the proved functions are held to a second opinion on every check.
+mod files;
 mod fleets;
 mod readings;
 mod say;
@@ -16,6 +17,8 @@ fn answer(kind: u8, value: &[u8]) {
         b'P' => fleets::pass(value),
         b'T' => fleets::study(value),
         b'S' => steps::step(value),
+        b'C' => files::check(value),
+        b'V' => files::part(value),
         b'L' => wholes::leg(value),
         b'U' => wholes::up(value),
         b'Z' => wholes::cut(value),

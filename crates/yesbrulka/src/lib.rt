@@ -4,6 +4,8 @@ ghost use mathlib.Core.Path.{_≡_};
 ghost use Rattle.reading.specs.Conversion.{wattsOf, numberOf, heldAfter};
 ghost use Rattle.controller.specs.Answers.{passNumber, needHeld, changedHeld, studyNumber, settledHeld, passesHeld};
 ghost use Rattle.storage.specs.Answers.{stepNumber, wattsHeld, varsHeld, storedHeld, lossHeld};
+ghost use Rattle.stick.specs.Check.{checkOf};
+ghost use Rattle.stick.specs.Parts.{partStart, partSize};
 ghost use Rattle.yesbrulka.specs.Calls.{passCall, passLeft, studyCall, studyLeft, unitOf, stepCall};
 use controller::PassAnswer;
 use controller::Settings;
@@ -11,6 +13,46 @@ use controller::StudyAnswer;
 use reading::Watts;
 use storage::Stepped;
 use storage::Unit;
+
+// The check of a file's bytes: the number of its refusal, 0 for a complete file.
+#[no_mangle]
+pub extern "C" fn yb_check(file: &[u8]) -> u32
+    ensures { λ r. ⌜ r ≡ checkOf (now (file .entry)) .number ⌝ }
+{
+    stick::check(file).number as u32
+}
+
+// The check: the place of the refused field, or where reading stopped.
+#[no_mangle]
+pub extern "C" fn yb_check_place(file: &[u8]) -> u64
+    ensures { λ r. ⌜ r ≡ checkOf (now (file .entry)) .place ⌝ }
+{
+    stick::check(file).place
+}
+
+// The check: the steps accepted.
+#[no_mangle]
+pub extern "C" fn yb_check_steps(file: &[u8]) -> u32
+    ensures { λ r. ⌜ r ≡ checkOf (now (file .entry)) .steps ⌝ }
+{
+    stick::check(file).steps
+}
+
+// The support screen: where the value bytes of the field at a place begin.
+#[no_mangle]
+pub extern "C" fn yb_value_start(file: &[u8], place: u64) -> u64
+    ensures { λ r. ⌜ r ≡ partStart (now (file .entry)) place ⌝ }
+{
+    stick::part_start(file, place)
+}
+
+// The support screen: how many of them are there.
+#[no_mangle]
+pub extern "C" fn yb_value_len(file: &[u8], place: u64) -> u64
+    ensures { λ r. ⌜ r ≡ partSize (now (file .entry)) place ⌝ }
+{
+    stick::part_size(file, place)
+}
 
 // The whole watts of a kW double: 0 and the watts, or 6 for a reading that cannot be used.
 #[no_mangle]

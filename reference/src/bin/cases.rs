@@ -1,8 +1,9 @@
 //! Writes the stored cases: `cases CASES ANSWERS`.
 //!
 //! CASES is a row of records, each a kind byte, a two-byte length and the payload, all big-endian.
-//! ANSWERS has a line for each record: the refusal number, and where it is 0 the results after it. The
-//! same files come out every time, so that the gate can compare them with the stored ones.
+//! ANSWERS has a line for each record: the refusal number, and where it is 0 the results after it; of kind
+//! 'C' always three numbers. The same files come out every time, so that the gate can compare them with the
+//! stored ones.
 
 use std::fmt::Display;
 use std::process::ExitCode;
@@ -10,10 +11,12 @@ use std::{env, fs};
 
 use yesbrulka_reference::controller::{self, Fleet};
 use yesbrulka_reference::octets::{put_i32, put_u16, put_u32, put_u64, put_u8};
-use yesbrulka_reference::reading::{self, Phases};
+use yesbrulka_reference::reading::{self, Phases, Reading};
 use yesbrulka_reference::samples::fleets::{self, PassCall, StudyCall};
+use yesbrulka_reference::samples::sticks::{self, Field};
 use yesbrulka_reference::samples::units::{self, StepCall};
 use yesbrulka_reference::samples::{self, Draw};
+use yesbrulka_reference::stick::{self, Answer};
 use yesbrulka_reference::storage::{self, Stepped};
 use yesbrulka_reference::whole;
 
@@ -26,18 +29,22 @@ struct Cases {
 
 impl Cases {
     fn add<T: Display>(&mut self, kind: u8, payload: &[u8], answer: Result<&[T], u32>) {
+        let mut line = match answer {
+            Ok(_) => 0,
+            Err(number) => number,
+        }
+        .to_string();
+        for result in answer.unwrap_or_default() {
+            line.push_str(&format!(" {result}"));
+        }
+        self.add_line(kind, payload, &line);
+    }
+
+    fn add_line(&mut self, kind: u8, payload: &[u8], line: &str) {
         put_u8(&mut self.records, kind);
         put_u16(&mut self.records, u16::try_from(payload.len()).expect("a payload fits its length"));
         self.records.extend_from_slice(payload);
-        match answer {
-            Ok(results) => {
-                self.answers.push('0');
-                for result in results {
-                    self.answers.push_str(&format!(" {result}"));
-                }
-            }
-            Err(number) => self.answers.push_str(&number.to_string()),
-        }
+        self.answers.push_str(line);
         self.answers.push('\n');
     }
 
@@ -139,26 +146,31 @@ impl Cases {
     /// 'S': seconds u32, a unit's twelve values as in its field, and the request i32; the
     /// watts, the vars, the energy stored after, and the loss.
     fn step(&mut self, call: &StepCall) {
-        let unit = &call.unit;
         let mut payload = Vec::new();
         put_u32(&mut payload, call.seconds);
-        for joules in [unit.rated, unit.reserve, unit.stored] {
-            put_u64(&mut payload, joules);
-        }
-        for number in [unit.rating, unit.kva, unit.idle_loss] {
-            put_u32(&mut payload, number);
-        }
-        put_i32(&mut payload, unit.var_request);
-        for number in [unit.weight, unit.inverter, unit.charge, unit.discharge] {
-            put_u16(&mut payload, number);
-        }
-        put_u8(&mut payload, unit.priority);
+        sticks::put_unit(&mut payload, &call.unit);
         put_i32(&mut payload, call.request);
-        let stepped = storage::step(call.seconds, unit, call.request);
+        let stepped = storage::step(call.seconds, &call.unit, call.request);
         let answer = stepped.map(|Stepped { watts, vars, stored, loss }| {
             vec![i128::from(watts), vars.into(), stored.into(), loss.into()]
         });
         self.add(b'S', &payload, list(&answer));
+    }
+
+    /// 'C': a file's bytes; the check's number, place and steps, also where the number is 0.
+    fn check(&mut self, file: &[u8]) {
+        let Answer { number, place, steps } = stick::check(file);
+        self.add_line(b'C', file, &format!("{number} {place} {steps}"));
+    }
+
+    /// 'V': a place u32, and a file's bytes; where the value bytes of the field at the place start, and how
+    /// many are there.
+    fn value_part(&mut self, place: u32, file: &[u8]) {
+        let mut payload = Vec::new();
+        put_u32(&mut payload, place);
+        payload.extend_from_slice(file);
+        let part = stick::value_part(file, place.into());
+        self.add(b'V', &payload, Ok(&[part.start, part.len()]));
     }
 }
 
@@ -457,6 +469,110 @@ fn step_cases(cases: &mut Cases) {
     }
 }
 
+/// Files are small, to keep the stored ones so; those of number 12 are too large to be among them.
+fn check_cases(cases: &mut Cases) {
+    let mut draw = Draw::from_seed(10);
+    cases.check(&[]);
+    // One unit and three readings, one of them missing.
+    let run = sticks::with(&sticks::run(1, 3, &mut draw), |run| {
+        let mut draw = Draw::from_seed(10);
+        run.readings =
+            vec![sticks::power_reading(&mut draw), Reading::Missing, sticks::power_reading(&mut draw)];
+    });
+    let fields = sticks::fields(&run);
+    let file = sticks::bytes(&fields);
+    for length in 1..=file.len() {
+        cases.check(&file[..length]);
+    }
+    for after in [&[0][..], &[0x7F, 0], &[5, 0, 0], &[0xFF; 4], &file] {
+        cases.check(&[&file, after].concat());
+    }
+    // Each field left out, said twice, of another tag or length, or any of them after any number of others.
+    let without_one = |at: usize| [&fields[..at], &fields[at + 1..]].concat();
+    let instead = |at: usize, field: Field| {
+        let mut fields = fields.clone();
+        fields[at] = field;
+        sticks::bytes(&fields)
+    };
+    for at in 0..fields.len() {
+        cases.check(&sticks::bytes(&without_one(at)));
+        cases.check(&sticks::bytes(&[&fields[..=at], &fields[at..]].concat()));
+        for tag in [0, 6, 0x7E, 0x81, 0xFF, draw.any() as u8] {
+            cases.check(&instead(at, Field { tag, ..fields[at].clone() }));
+        }
+        let lengths = sticks::bad_lengths(fields[at].tag);
+        for length in [lengths[0], lengths[1], draw.one_of(&lengths)] {
+            cases.check(&instead(at, Field { length, ..fields[at].clone() }));
+        }
+        for other in &fields {
+            cases.check(&sticks::bytes(&[&fields[..at], std::slice::from_ref(other)].concat()));
+        }
+    }
+    // Values at the ends of their ranges and beside them.
+    let short = sticks::with(&run, |run| run.readings.truncate(1));
+    for change in units::ENDS.iter().chain(&units::BAD_VALUES) {
+        cases.check(&sticks::file(&sticks::with_unit(&short, 0, change)));
+    }
+    for change in sticks::SETTINGS_ENDS.iter().chain(&sticks::BAD_SETTINGS) {
+        cases.check(&sticks::file(&sticks::with(&short, change)));
+    }
+    for fleet in sticks::bad_fleets(&run) {
+        cases.check(&instead(0, fleet));
+    }
+    // Counts that a fleet may have, but not this one.
+    for count in [2, 3, 63, 64] {
+        cases.check(&instead(0, sticks::fleet_field(1, count, run.seconds)));
+    }
+    for (i, bits) in sticks::bad_powers(&mut draw).into_iter().enumerate() {
+        let bad = sticks::bad_reading(i % 3, bits, &mut draw);
+        cases.check(&sticks::file(&sticks::with(&short, |run| run.readings.push(bad))));
+    }
+    for count in sticks::bad_counts(3) {
+        cases.check(&instead(fields.len() - 1, sticks::end_field(count)));
+    }
+    // Several things wrong at once, foreign bytes, and fleets of other sizes.
+    for _ in 0..120 {
+        cases.check(&sticks::damaged_file(&mut draw));
+    }
+    for _ in 0..20 {
+        cases.check(&sticks::shuffled_file(&mut draw));
+        cases.check(&sticks::noise(40, &mut draw));
+    }
+    for units in 2..=6 {
+        let run = sticks::run(units, 2, &mut draw);
+        cases.check(&sticks::file(&run));
+        let mut fields = sticks::fields(&run);
+        fields.remove(units);
+        cases.check(&sticks::bytes(&fields));
+    }
+}
+
+fn value_part_cases(cases: &mut Cases) {
+    let mut draw = Draw::from_seed(11);
+    let file = sticks::file(&sticks::run(1, 1, &mut draw));
+    let length = file.len() as u32;
+    for place in (0..64).chain(length - 12..=length + 2).chain([u32::MAX - 2, u32::MAX]) {
+        cases.value_part(place, &file);
+    }
+    // Every place of a last field that is cut short at every byte.
+    for length in 64..=76 {
+        for place in [61, 62, 63, 64] {
+            cases.value_part(place, &file[..length]);
+        }
+    }
+    for place in 0..3 {
+        cases.value_part(place, &[]);
+        cases.value_part(place, &[1]);
+        cases.value_part(place, &[0xFF, 0xFF]);
+        cases.value_part(place, &[0xFF, 0xFF, 0xFF]);
+        cases.value_part(place, &[2, 0, 1, 7, 7]);
+    }
+    for _ in 0..50 {
+        let file = sticks::noise(60, &mut draw);
+        cases.value_part(draw.below(file.len() as u64 + 4) as u32, &file);
+    }
+}
+
 fn main() -> ExitCode {
     let names: Vec<_> = env::args_os().skip(1).collect();
     if names.len() != 2 {
@@ -473,6 +589,8 @@ fn main() -> ExitCode {
     pass_cases(&mut cases);
     study_cases(&mut cases);
     step_cases(&mut cases);
+    check_cases(&mut cases);
+    value_part_cases(&mut cases);
     for (name, bytes) in names.iter().zip([cases.records.as_slice(), cases.answers.as_bytes()]) {
         if let Err(error) = fs::write(name, bytes) {
             eprintln!("cases: {}: {error}", name.to_string_lossy());

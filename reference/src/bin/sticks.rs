@@ -1,0 +1,191 @@
+//! Writes the sample sticks: `sticks FOLDER`.
+//!
+//! `season.stick` is complete; each of the others is that stick, or one like it, after one thing that happens to
+//! sticks. The same files come out every time, so that the gate can compare them with the stored ones.
+
+use std::path::PathBuf;
+use std::process::ExitCode;
+use std::{env, fs};
+
+use yesbrulka_reference::controller::Settings;
+use yesbrulka_reference::reading::{Phases, Reading};
+use yesbrulka_reference::samples::sticks::{self, Field};
+use yesbrulka_reference::stick::{Run, MISSING};
+use yesbrulka_reference::storage::Unit;
+
+/// Two weeks of hours.
+const STEPS: usize = 14 * 24;
+
+/// Where the readings begin among a season's fields: after the fleet, three units and the settings.
+const READINGS: usize = 5;
+
+/// A co-operative of three farms: a dairy with a large battery, a grain store, and a small pump house.
+fn season() -> Run {
+    let dairy = Unit {
+        rated: 720_000_000,
+        reserve: 72_000_000,
+        stored: 540_000_000,
+        rating: 100_000,
+        kva: 110_000,
+        idle_loss: 350,
+        var_request: 20_000,
+        weight: 4,
+        inverter: 9_650,
+        charge: 9_500,
+        discharge: 9_500,
+        priority: 0,
+    };
+    let grain = Unit {
+        rated: 360_000_000,
+        reserve: 54_000_000,
+        stored: 180_000_000,
+        rating: 50_000,
+        kva: 50_000,
+        idle_loss: 200,
+        var_request: -8_000,
+        weight: 2,
+        inverter: 9_600,
+        charge: 9_400,
+        discharge: 9_450,
+        priority: 1,
+    };
+    let pumps = Unit {
+        rated: 90_000_000,
+        reserve: 9_000_000,
+        stored: 90_000_000,
+        rating: 15_000,
+        kva: 18_000,
+        idle_loss: 90,
+        var_request: 0,
+        weight: 1,
+        inverter: 9_400,
+        charge: 9_200,
+        discharge: 9_200,
+        priority: 0,
+    };
+    Run {
+        seconds: 3_600,
+        units: vec![dairy, grain, pumps],
+        settings: Settings { mode: 1, target: 120_000, band: 6_000, factor: 1_000 },
+        phase: 0,
+        readings: (0..STEPS).map(reading).collect(),
+    }
+}
+
+/// An hour's reading: milking in the morning and in the evening, the sun at noon, and no meter on the second
+/// Tuesday's night and now and then.
+fn reading(step: usize) -> Reading {
+    let (day, hour) = (step / 24, step % 24);
+    if day == 8 && hour < 5 || step % 97 == 41 {
+        return Reading::Missing;
+    }
+    let base = match hour {
+        5..=8 => 620,
+        9..=10 => 380,
+        11..=14 => -140,
+        15 => 210,
+        16..=19 => 560,
+        _ => 190,
+    };
+    // In tenths of a kW; no two hours are alike, and neither are the phases.
+    let kw = |phase: usize| f64::from(base + ((step * 37 + day * 11 + phase * 53) % 90) as i32) / 10.0;
+    Reading::Power(Phases { first: kw(0), second: kw(1), third: kw(2) })
+}
+
+/// The name of each stick, the number that its check gives, and its bytes.
+fn examples() -> Vec<(&'static str, u32, Vec<u8>)> {
+    let run = season();
+    let fields = sticks::fields(&run);
+    let whole = sticks::bytes(&fields);
+    let place = |at: usize| sticks::bytes(&fields[..at]).len();
+    let changed = |change: &dyn Fn(&mut Vec<Field>)| {
+        let mut fields = fields.clone();
+        change(&mut fields);
+        sticks::bytes(&fields)
+    };
+    // A season that has one step too many, nothing of which was measured.
+    let mut long = sticks::bytes(&fields[..READINGS]);
+    long.extend([MISSING, 0, 0].repeat(65_536));
+    sticks::end_field(65_536).put(&mut long);
+
+    vec![
+        ("season.stick", 0, whole.clone()),
+        // The copy stopped in the middle of a reading.
+        ("refused-01-cut-short.stick", 1, whole[..place(READINGS + 200) + 14].to_vec()),
+        // A tag's highest bit has flipped.
+        ("refused-02-unknown-tag.stick", 2, changed(&|fields| fields[READINGS + 60].tag ^= 0x80)),
+        // A length has lost its bits.
+        ("refused-03-wrong-length.stick", 3, changed(&|fields| fields[2].length = 0)),
+        // The fleet says three units, and one of them was not written.
+        ("refused-04-out-of-order.stick", 4, changed(&|fields| drop(fields.remove(3)))),
+        // The second unit holds more than it can.
+        (
+            "refused-05-value-out-of-range.stick",
+            5,
+            sticks::file(&sticks::with(&run, |run| run.units[1].stored = run.units[1].rated + 1)),
+        ),
+        // A meter sent what is no number.
+        (
+            "refused-06-reading-not-usable.stick",
+            6,
+            sticks::file(&sticks::with(&run, |run| {
+                if let Reading::Power(phases) = &mut run.readings[211] {
+                    phases.second = f64::from_bits(0x7FF8_0000_0000_0000);
+                }
+            })),
+        ),
+        // A row was lost, and the count was not.
+        ("refused-07-wrong-count.stick", 7, changed(&|fields| drop(fields.remove(READINGS + 100)))),
+        // The stick was pulled out before the end was written.
+        ("refused-08-end-missing.stick", 8, whole[..place(fields.len() - 1)].to_vec()),
+        // What an older, longer file left behind.
+        ("refused-09-bytes-after-end.stick", 9, [&whole, &whole[whole.len() - 61..]].concat()),
+        ("refused-12-too-many-steps.stick", 12, long),
+    ]
+}
+
+fn main() -> ExitCode {
+    let folder = match env::args_os().skip(1).collect::<Vec<_>>().as_slice() {
+        [folder] => PathBuf::from(folder),
+        _ => {
+            eprintln!("usage: sticks FOLDER");
+            return ExitCode::from(2);
+        }
+    };
+    for (name, _, bytes) in examples() {
+        if let Err(error) = fs::write(folder.join(name), bytes) {
+            eprintln!("sticks: {name}: {error}");
+            return ExitCode::from(2);
+        }
+    }
+    ExitCode::SUCCESS
+}
+
+#[cfg(test)]
+mod tests {
+    use super::*;
+    use yesbrulka_reference::stick;
+
+    #[test]
+    fn each_stick_is_refused_for_what_its_name_says() {
+        for (name, number, bytes) in examples() {
+            assert_eq!(stick::check(&bytes).number, number, "{name}");
+            assert!(number == 0 || name.starts_with(&format!("refused-{number:02}-")), "{name}");
+        }
+    }
+
+    #[test]
+    fn every_number_that_a_file_can_have_is_there() {
+        let numbers: Vec<u32> = examples().iter().map(|&(_, number, _)| number).collect();
+        assert_eq!(numbers, [0, 1, 2, 3, 4, 5, 6, 7, 8, 9, 12]);
+    }
+
+    #[test]
+    fn the_season_has_readings_of_both_kinds_and_signs() {
+        let run = stick::read(&sticks::file(&season())).unwrap();
+        let missing = run.readings.iter().filter(|reading| matches!(reading, Reading::Missing)).count();
+        assert_eq!((run.units.len(), run.readings.len(), missing), (3, STEPS, 9));
+        let measures: Vec<i64> = run.readings.iter().filter_map(|r| r.measure(run.phase).unwrap()).collect();
+        assert!(measures.iter().any(|&m| m > 120_000) && measures.iter().any(|&m| m < 0));
+    }
+}

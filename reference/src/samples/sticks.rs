@@ -1,0 +1,371 @@
+//! Run files: complete ones, and every kind of damage that can come over one.
+
+use super::units::{self, StepCall};
+use super::{fleets, Draw};
+use crate::octets::{put_f64, put_i32, put_u16, put_u32, put_u64, put_u8};
+use crate::reading::{self, Phases, Reading};
+use crate::stick::{length_of, Run, END, FLEET, MISSING, POWER, SETTINGS, TAGS, UNIT};
+use crate::storage::Unit;
+
+/// A field as it is to be written. The length is said apart from the value, so that it can be wrong.
+#[derive(Clone, Debug, PartialEq, Eq)]
+pub struct Field {
+    pub tag: u8,
+    pub length: u16,
+    pub value: Vec<u8>,
+}
+
+impl Field {
+    /// A field whose length is that of its value.
+    pub fn new(tag: u8, value: Vec<u8>) -> Field {
+        let length = u16::try_from(value.len()).expect("a value fits its length");
+        Field { tag, length, value }
+    }
+
+    pub fn put(&self, file: &mut Vec<u8>) {
+        put_u8(file, self.tag);
+        put_u16(file, self.length);
+        file.extend_from_slice(&self.value);
+    }
+}
+
+pub fn fleet_field(edition: u8, count: u8, seconds: u32) -> Field {
+    let mut value = vec![edition, count];
+    put_u32(&mut value, seconds);
+    Field::new(FLEET, value)
+}
+
+/// A unit's twelve values, in the order of its field.
+pub fn put_unit(value: &mut Vec<u8>, unit: &Unit) {
+    for joules in [unit.rated, unit.reserve, unit.stored] {
+        put_u64(value, joules);
+    }
+    for number in [unit.rating, unit.kva, unit.idle_loss] {
+        put_u32(value, number);
+    }
+    put_i32(value, unit.var_request);
+    for number in [unit.weight, unit.inverter, unit.charge, unit.discharge] {
+        put_u16(value, number);
+    }
+    put_u8(value, unit.priority);
+}
+
+pub fn reading_field(reading: &Reading) -> Field {
+    let mut value = Vec::new();
+    match reading {
+        Reading::Missing => Field::new(MISSING, value),
+        Reading::Power(Phases { first, second, third }) => {
+            for &kw in [first, second, third] {
+                put_f64(&mut value, kw);
+            }
+            Field::new(POWER, value)
+        }
+    }
+}
+
+pub fn end_field(count: u32) -> Field {
+    let mut value = Vec::new();
+    put_u32(&mut value, count);
+    Field::new(END, value)
+}
+
+/// The fields that say a run.
+pub fn fields(run: &Run) -> Vec<Field> {
+    let mut fields = vec![fleet_field(1, run.units.len() as u8, run.seconds)];
+    for unit in &run.units {
+        let mut value = Vec::new();
+        put_unit(&mut value, unit);
+        fields.push(Field::new(UNIT, value));
+    }
+    let mut value = vec![run.settings.mode];
+    put_i32(&mut value, run.settings.target);
+    put_u32(&mut value, run.settings.band);
+    put_u16(&mut value, run.settings.factor);
+    put_u8(&mut value, run.phase);
+    fields.push(Field::new(SETTINGS, value));
+    fields.extend(run.readings.iter().map(reading_field));
+    fields.push(end_field(run.readings.len() as u32));
+    fields
+}
+
+pub fn bytes(fields: &[Field]) -> Vec<u8> {
+    let mut file = Vec::new();
+    fields.iter().for_each(|field| field.put(&mut file));
+    file
+}
+
+/// The file that says a run.
+pub fn file(run: &Run) -> Vec<u8> {
+    bytes(&fields(run))
+}
+
+/// A phase power that is not to be refused.
+fn power(draw: &mut Draw) -> f64 {
+    loop {
+        let bits = match draw.below(10) {
+            0 => super::tie(draw),
+            1 => super::near_tie(draw),
+            2 => super::near_the_end(draw),
+            3 => draw.one_of(&[0, 1 << 63, 1, 100_000f64.to_bits(), (-100_000f64).to_bits()]),
+            4 => {
+                let field = draw.below(1_040);
+                super::with_exponent(field, draw)
+            }
+            _ => super::metered(draw),
+        };
+        let kw = f64::from_bits(bits);
+        if reading::watts(kw).is_ok() {
+            return kw;
+        }
+    }
+}
+
+/// A power reading that is not to be refused.
+pub fn power_reading(draw: &mut Draw) -> Reading {
+    let [first, second, third] = [(); 3].map(|()| power(draw));
+    Reading::Power(Phases { first, second, third })
+}
+
+/// A run that is not to be refused.
+pub fn run(units: usize, steps: usize, draw: &mut Draw) -> Run {
+    let calls: Vec<StepCall> = (0..units).map(|_| units::step_call(draw)).collect();
+    let missing = draw.one_of(&[1, 2, 2, 3, 100]);
+    Run {
+        seconds: calls[0].seconds,
+        units: calls.iter().map(|call| call.unit).collect(),
+        settings: fleets::pass_call(1, draw).settings,
+        phase: draw.below(6) as u8,
+        readings: (0..steps)
+            .map(|_| if draw.below(missing) == 0 { Reading::Missing } else { power_reading(draw) })
+            .collect(),
+    }
+}
+
+/// A run of up to three units and a few steps, so that its file is small.
+pub fn small_run(draw: &mut Draw) -> Run {
+    let units = draw.one_of(&[1, 1, 1, 2, 3]);
+    let steps = draw.below(5) as usize;
+    run(units, steps, draw)
+}
+
+/// Settings and phase at the ends of their ranges.
+pub const SETTINGS_ENDS: [fn(&mut Run); 15] = [
+    |run| run.settings.mode = 1,
+    |run| run.settings.mode = 2,
+    |run| run.settings.mode = 3,
+    |run| run.settings.target = -100_000_000,
+    |run| run.settings.target = 100_000_000,
+    |run| run.settings.band = 0,
+    |run| run.settings.band = 200_000_000,
+    |run| run.settings.factor = 1,
+    |run| run.settings.factor = 1_000,
+    |run| run.phase = 0,
+    |run| run.phase = 1,
+    |run| run.phase = 2,
+    |run| run.phase = 3,
+    |run| run.phase = 4,
+    |run| run.phase = 5,
+];
+
+/// Settings and phase one beyond the ends of their ranges, and as far as they go.
+pub const BAD_SETTINGS: [fn(&mut Run); 19] = [
+    |run| run.settings.mode = 0,
+    |run| run.settings.mode = 4,
+    |run| run.settings.mode = 128 + 1,
+    |run| run.settings.mode = u8::MAX,
+    |run| run.settings.target = -100_000_001,
+    |run| run.settings.target = 100_000_001,
+    |run| run.settings.target = i32::MIN,
+    |run| run.settings.target = i32::MAX,
+    |run| run.settings.band = 200_000_001,
+    |run| run.settings.band = 1 << 31,
+    |run| run.settings.band = u32::MAX,
+    |run| run.settings.factor = 0,
+    |run| run.settings.factor = 1_001,
+    |run| run.settings.factor = 1 << 15,
+    |run| run.settings.factor = u16::MAX,
+    |run| run.phase = 6,
+    |run| run.phase = 7,
+    |run| run.phase = 128,
+    |run| run.phase = u8::MAX,
+];
+
+/// The run with a change to one of its units or to the length of its steps.
+pub fn with_unit(run: &Run, unit: usize, change: impl Fn(&mut StepCall)) -> Run {
+    let call = StepCall { seconds: run.seconds, unit: run.units[unit], request: 0 }.with(change);
+    let mut run = run.clone();
+    run.seconds = call.seconds;
+    run.units[unit] = call.unit;
+    run
+}
+
+/// The run with a change.
+pub fn with(run: &Run, change: impl Fn(&mut Run)) -> Run {
+    let mut run = run.clone();
+    change(&mut run);
+    run
+}
+
+/// Fleet fields that are to be refused: an edition, a unit count or seconds outside their ranges.
+pub fn bad_fleets(run: &Run) -> Vec<Field> {
+    let count = run.units.len() as u8;
+    let mut found = Vec::new();
+    found.extend([0, 2, 3, 128, 129, 255].map(|edition| fleet_field(edition, count, run.seconds)));
+    found.extend(
+        [0, 65, 66, 128, count + 64, count + 128, 255].map(|count| fleet_field(1, count, run.seconds)),
+    );
+    let seconds = [0, 86_401, 1 << 17, 1 << 24, 1 << 31, u32::MAX];
+    found.extend(seconds.map(|seconds| fleet_field(1, count, seconds)));
+    found
+}
+
+/// Doubles that the conversion refuses, by their bits.
+pub fn bad_powers(draw: &mut Draw) -> Vec<u64> {
+    let nans = super::nans();
+    let mut found = super::both_signs(&[f64::INFINITY, 100_000.062_5, f64::MAX].map(f64::to_bits));
+    found.extend(super::both_signs(&[100_000.000_5_f64.to_bits() + 1]));
+    found.extend((0..4).map(|_| draw.one_of(&nans)));
+    found
+}
+
+/// A power reading that is refused for one of its three powers.
+pub fn bad_reading(phase: usize, bits: u64, draw: &mut Draw) -> Reading {
+    let mut three = [(); 3].map(|()| power(draw));
+    three[phase] = f64::from_bits(bits);
+    let [first, second, third] = three;
+    Reading::Power(Phases { first, second, third })
+}
+
+/// End counts that differ from the steps: beside them, and of other bytes or the same in another order.
+pub fn bad_counts(steps: u32) -> Vec<u32> {
+    let near = [0, 1, steps.wrapping_sub(1), steps + 1, 65_535, 65_536, u32::MAX];
+    let far = [steps + (1 << 16), steps | 1 << 31, steps << 8, steps << 16, steps.swap_bytes()];
+    near.into_iter().chain(far).filter(|&count| count != steps).collect()
+}
+
+/// Lengths that are not the tag's: beside it, of the other tags, and of other bytes or the same in another
+/// order.
+pub fn bad_lengths(tag: u8) -> Vec<u16> {
+    let right = length_of(tag).expect("a tag of the list");
+    let beside = [right.wrapping_sub(1), right + 1, right + 256, right | 1 << 15, right << 8, 255, u16::MAX];
+    let others = TAGS.iter().map(|&(_, length)| length);
+    beside.into_iter().chain(others).filter(|&length| length != right).collect()
+}
+
+/// A field of any tag of the list whose values are good in some file.
+pub fn any_field(draw: &mut Draw) -> Field {
+    let run = run(1, 1, draw);
+    let count = draw.below(4) as u32;
+    let tag = draw.below(6) as usize;
+    match tag {
+        0 => fleet_field(1, 1 + draw.below(3) as u8, run.seconds),
+        5 => end_field(count),
+        4 => Field::new(MISSING, Vec::new()),
+        3 => reading_field(&power_reading(draw)),
+        _ => fields(&run)[tag].clone(),
+    }
+}
+
+/// One piece of damage to a file's fields, mostly at the field of a number.
+pub fn damage(fields: &mut Vec<Field>, at: usize, draw: &mut Draw) {
+    let at = at.min(fields.len() - 1);
+    let other = draw.below(fields.len() as u64) as usize;
+    match draw.below(14) {
+        0 if fields.len() > 1 => {
+            fields.remove(at);
+        }
+        1 => fields.insert(at, fields[at].clone()),
+        2 => fields.swap(at, other),
+        3 => fields.insert(at, any_field(draw)),
+        4 => fields[at] = any_field(draw),
+        // Another tag, of the list or any, and a value of the length that is said or not.
+        5 => fields[at].tag = draw.any() as u8,
+        6 => fields[at].tag = draw.one_of(&TAGS).0,
+        7 => {
+            let (tag, length) = draw.one_of(&TAGS);
+            fields[at].tag = tag;
+            fields[at].length = length;
+            fields[at].value.resize(length.into(), 0);
+        }
+        8 => fields[at].length = draw.sized() as u16,
+        9 => {
+            let (tag, _) = draw.one_of(&TAGS);
+            let length = draw.one_of(&bad_lengths(tag)) % 512;
+            fields[at].length = length;
+            fields[at].value.resize(length.into(), 0);
+        }
+        10 => {
+            let length = fields[at].value.len() as u64;
+            fields[at].value.truncate(draw.below(length + 1) as usize);
+        }
+        11 if fields[at].tag == POWER && fields[at].value.len() == 24 => {
+            let bits = draw.one_of(&bad_powers(&mut Draw::from_seed(0)));
+            let place = 8 * draw.below(3) as usize;
+            fields[at].value[place..place + 8].copy_from_slice(&bits.to_be_bytes());
+        }
+        // A value's byte or bit.
+        _ if fields[at].value.is_empty() => fields[at].tag = draw.any() as u8,
+        11 | 12 => {
+            let place = draw.below(fields[at].value.len() as u64) as usize;
+            fields[at].value[place] = draw.any() as u8;
+        }
+        _ => {
+            let place = draw.below(fields[at].value.len() as u64) as usize;
+            fields[at].value[place] ^= 1 << draw.below(8);
+        }
+    }
+}
+
+/// A small file with a few pieces of damage, at one field or at several, and its end cut off or not.
+pub fn damaged_file(draw: &mut Draw) -> Vec<u8> {
+    let mut fields = fields(&small_run(draw));
+    let field = draw.below(fields.len() as u64) as usize;
+    for _ in 0..1 + draw.below(3) {
+        let other = draw.below(fields.len() as u64) as usize;
+        damage(&mut fields, draw.one_of(&[field, field, other]), draw);
+    }
+    let mut file = bytes(&fields);
+    match draw.below(8) {
+        0 => file.truncate(draw.below(file.len() as u64 + 1) as usize),
+        // The last field, or what has become of it, loses some bytes.
+        1 => {
+            let length = fields.last().map_or(0, |field| field.value.len()) as u64 + 3;
+            file.truncate(file.len() - draw.below(length.min(file.len() as u64)) as usize);
+        }
+        2 => file.extend((0..1 + draw.below(8)).map(|_| draw.any() as u8)),
+        _ => (),
+    }
+    file
+}
+
+/// Fields of the list in any order, with good values for the most part.
+pub fn shuffled_file(draw: &mut Draw) -> Vec<u8> {
+    let mut fields = fields(&small_run(draw));
+    match draw.below(4) {
+        0 => fields = (0..draw.below(9)).map(|_| any_field(draw)).collect(),
+        1 => {
+            let first = draw.below(fields.len() as u64) as usize;
+            fields.rotate_left(first);
+        }
+        _ => {
+            for _ in 0..1 + draw.below(3) {
+                let [from, to] = [(); 2].map(|()| draw.below(fields.len() as u64) as usize);
+                let field = fields.remove(from);
+                fields.insert(to, field);
+            }
+        }
+    }
+    bytes(&fields)
+}
+
+/// Bytes of no meaning: any, or mostly such as tags and lengths are made of.
+pub fn noise(most: u64, draw: &mut Draw) -> Vec<u8> {
+    let length = draw.below(most + 1);
+    let likely = draw.below(2) == 0;
+    let mut file = Vec::new();
+    for _ in 0..length {
+        let any = draw.any() as u8;
+        file.push(if likely { draw.one_of(&[0, 0, 1, 2, 3, 4, 5, 6, 12, 24, 49, 0x7F, any]) } else { any });
+    }
+    file
+}
