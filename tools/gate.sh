@@ -126,9 +126,10 @@ if [ -n "$YB_CC" ]; then
     step cargo 'reference and archive' reference
     step line 'watts command' c/test_watts.sh
     step line 'import command' c/test_import.sh
+    step line 'stick_check' c/test_stick_check.sh
 else
     step cargo 'reference' reference --lib --bins
-    for tests in 'C surface' 'the archive beside the reference' 'watts command' 'import command'; do
+    for tests in 'C surface' 'the archive beside the reference' 'watts command' 'import command' 'stick_check'; do
         echo "NOT RUN: $tests: $YB_CC_WHY"
     done
 fi
