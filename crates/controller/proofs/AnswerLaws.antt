@@ -16,7 +16,8 @@ use Rattle.controller.specs.declared.Studied.{Studied}
 use Rattle.controller.specs.declared.StudyAnswer.{StudyAnswer}
 use Rattle.controller.specs.declared.StudyAnswer.the-variants.{StudyDone, StudyRefused}
 use Rattle.controller.specs.Study.{studyOf, studyRefusal}
-use Rattle.controller.specs.Ranges.{Fleet, between, settingsIn, measureIn, unitInAt, lengthsIn, requestsIn, passRefusal}
+use Rattle.whole.specs.Interval.{between}
+use Rattle.controller.specs.Ranges.{Fleet, settingsIn, measureIn, unitInAt, lengthsIn, requestsIn, passRefusal}
 use Rattle.controller.specs.Pass.{needOf, passOf, changedOf}
 use Rattle.controller.specs.Posts.{DonePass, DoneStudy}
 use Rattle.controller.specs.Answers.{reportOf, passAnswer, passLeaves, foundBy, studyAnswer, studyLeaves}

@@ -18,7 +18,8 @@ use Rattle.whole.proofs.OverLaws.{and-parts, all-at}
 use Rattle.controller.specs.declared.Settings.{Settings}
 use Rattle.controller.specs.declared.Studied.{Studied}
 use Rattle.controller.specs.Study.{studySettings}
-use Rattle.controller.specs.Ranges.{Fleet, between, settingsIn, measureIn, unitIn, unitInAt, lengthsOk, lengthsIn}
+use Rattle.whole.specs.Interval.{between}
+use Rattle.controller.specs.Ranges.{Fleet, settingsIn, measureIn, unitIn, unitInAt, lengthsOk, lengthsIn}
 use Rattle.controller.specs.Posts.{SameLengths, Addable, Energies, Sound, DoneStudy}
 
 -- ---- lengths

@@ -7,6 +7,7 @@ use lib.Dec.{leb, eqb}
 use lib.IntN.{ℤ, pos, natAbs}
 use lib.ListN.{length, getD}
 use lib.Signed.{ltZ, leZ}
+use Rattle.whole.specs.Interval.{between}
 use Rattle.whole.specs.Over.{allOf, someOf}
 use Rattle.controller.specs.declared.Settings.{Settings}
 
@@ -20,10 +21,6 @@ pub record Fleet : Type 0 where
 
 abbrev pub fleetOf : List ℕ → List ℕ → List ℕ → List ℕ → List ℕ → Fleet
 fleetOf a b c d e = record { rated = a; reserve = b; stored = c; rating = d; weight = e }
-
--- low ≤ x ≤ high
-abbrev pub between : ℕ → ℕ → ℕ → Bool
-between low high x = leb low x && leb x high
 
 -- the settings of a pass: mode 1 to 3, target -10^8 to 10^8 W, band 0 to 2 × 10^8 W, factor 1 to 1,000 thousandths
 unfoldable pub settingsIn : Settings → Bool

@@ -10,7 +10,8 @@ use lib.ListN.{length, replicate}
 use lib.Signed.{leZ}
 use Rattle.whole.specs.Over.{allOf}
 use Rattle.controller.specs.declared.Settings.{Settings}
-use Rattle.controller.specs.Ranges.{Fleet, between, settingsIn, unitInAt, lengthsOk, lengthsIn}
+use Rattle.whole.specs.Interval.{between}
+use Rattle.controller.specs.Ranges.{Fleet, settingsIn, unitInAt, lengthsOk, lengthsIn}
 use Rattle.controller.specs.Pass.{sumOfAll, passOf, changedOf}
 
 -- the settings of a study: mode 1

@@ -7,7 +7,8 @@ use lib.IntN.{natAbs}
 use borrow.Author.Tests.{leb-true}
 use Rattle.whole.proofs.OverLaws.{and-parts}
 use Rattle.storage.specs.declared.Unit.{Unit}
-use Rattle.storage.specs.Ranges.{between, idleDraw, unitIn}
+use Rattle.whole.specs.Interval.{between}
+use Rattle.storage.specs.Ranges.{idleDraw, unitIn}
 use Rattle.storage.specs.Posts.{Ranged}
 
 pub record Bounds (u : Unit) (seconds : ℕ) : Type 0 where

@@ -3,12 +3,9 @@ use Prim.Native.Nat.{ℕ, _*_}
 use mathlib.Core.Bool.{Bool, not, cond, _&&_}
 use lib.Dec.{leb}
 use lib.IntN.{ℤ, natAbs}
+use Rattle.whole.specs.Interval.{between}
 use Rattle.whole.specs.Quotient.{ceil}
 use Rattle.storage.specs.declared.Unit.{Unit}
-
--- low ≤ x ≤ high
-abbrev pub between : ℕ → ℕ → ℕ → Bool
-between low high x = leb low x && leb x high
 
 -- "Idle draw = ceil(idle loss x 10,000 / inverter efficiency)"
 unfoldable pub idleDraw : Unit → ℕ

@@ -8,7 +8,8 @@ use lib.IntN.{natAbs}
 use lib.Signed.{mag}
 use mir.Syntax.{w32}
 use Rattle.whole.proofs.SignLaws.{read}
-use Rattle.controller.specs.Ranges.{between, settingsIn}
+use Rattle.whole.specs.Interval.{between}
+use Rattle.controller.specs.Ranges.{settingsIn}
 use Rattle.controller.proofs.ranges.settings_in.Statement.{statement}
 use Rattle.controller.proofs.ranges.settings_in.Tie as tie
 

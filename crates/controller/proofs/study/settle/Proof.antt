@@ -7,7 +7,8 @@ use lib.Signed.{leZ}
 use borrow.Author.Tests.{not-false}
 use mir.Syntax.{w64}
 use mir.Val.{toZ, ofZ}
-use Rattle.controller.specs.Ranges.{fleetOf, between}
+use Rattle.whole.specs.Interval.{between}
+use Rattle.controller.specs.Ranges.{fleetOf}
 use Rattle.controller.specs.Study.{studySettings}
 use Rattle.controller.proofs.SoundLaws.{same-lengths, by-first, study-values-are, study-sound, study-asked}
 use Rattle.controller.proofs.AnswerLaws.{studyValues, study-lengths, study-values, study-fine}
