@@ -3,3 +3,5 @@ pub mod FieldLaws
 pub mod TakenLaws
 pub mod WalkLaws
 pub mod PartLaws
+pub mod SaidLaws
+pub mod SaidProved

@@ -3,3 +3,4 @@ pub mod Fields
 pub mod Check
 pub mod Posts
 pub mod Parts
+pub mod Said
