@@ -1,8 +1,8 @@
-# make test is the gate; make sample shows the library at work.
+# make test is the gate; make sample shows the library at work; make bench times the check.
 
 export CARGO_TARGET_DIR := $(CURDIR)/build/reference
 
-.PHONY: test sample cases examples clean
+.PHONY: test sample bench cases examples clean
 
 test:
 	@tools/gate.sh
@@ -12,6 +12,13 @@ sample:
 	rt staticlib yesbrulka
 	tools/build.sh
 	build/import check examples/* || test $$? = 1
+
+# The check's time beside the reference's; no part of the gate.
+bench: target/staticlib/libyesbrulka.a
+	@tools/bench.sh
+
+target/staticlib/libyesbrulka.a: crates.txt $(shell find crates -type f)
+	rt staticlib yesbrulka
 
 # Rewrites the stored cases and answers that rt ci holds the Rattle program to.
 cases:

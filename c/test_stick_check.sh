@@ -12,12 +12,15 @@ done
 passed=0
 failed=0
 
-# The program looks for the C library of x86-64 where the cross compiler has it.
+# The program looks for the C library of x86-64: in its own place where that is installed, else where the
+# cross compiler has it.
 run() {
-    if [ -n "$YB_EMULATOR" ]; then
-        "$YB_EMULATOR" -L /usr/x86_64-linux-gnu "$program"
-    else
+    if [ -z "$YB_EMULATOR" ]; then
         "$program"
+    elif [ -e /lib64/ld-linux-x86-64.so.2 ]; then
+        "$YB_EMULATOR" "$program"
+    else
+        "$YB_EMULATOR" -L /usr/x86_64-linux-gnu "$program"
     fi
 }
 

@@ -5,3 +5,5 @@ pub mod WalkLaws
 pub mod PartLaws
 pub mod SaidLaws
 pub mod SaidProved
+pub mod ReaderLaws
+pub mod HeldReader

@@ -1,5 +1,5 @@
 ghost use mathlib.Core.Path.{_≡_};
-ghost use Prim.Native.Nat.{_≤_, min};
+ghost use Prim.Native.Nat.{_≤_, _+_, min};
 ghost use lib.ListN.{length, take, drop};
 ghost use Rattle.stick.specs.Parts.{headThere, partStart, partSize};
 
@@ -40,4 +40,21 @@ pub fn part_size(file: &[u8], place: u64) -> u64
     }
     let wanted = octets::u16_at(file, (place as usize) + 1) as u64;
     smaller(wanted, size - (place + 3))
+}
+
+// The value bytes of the field at a place, as they lie in the file.
+pub fn part<'a>(file: &'a [u8], place: u64) -> &'a [u8]
+    ensures { λ r. ⌜ now r ≡ take (partSize (now (file .entry)) place) (drop (partStart (now (file .entry)) place) (now (file .entry))) ⌝ }
+{
+    let start = part_start(file, place) as usize;
+    let size = part_size(file, place) as usize;
+    &file[start..start + size]
+}
+
+// The place past that field.
+pub fn part_end(file: &[u8], place: u64) -> u64
+    ensures { λ r. ⌜ r ≡ partStart (now (file .entry)) place + partSize (now (file .entry)) place ⌝ }
+{
+    let start = part_start(file, place);
+    start + part_size(file, place)
 }

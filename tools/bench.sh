@@ -1,0 +1,78 @@
+#!/bin/bash
+# Builds and runs the bench: the archive's check beside the reference's, in one process of x86-64 code. The
+# archive must be there already. Ends with 0, with 1 if an answer is wrong or the build fails, and with 2 if
+# something that it needs cannot be had. The times decide nothing.
+set -eu
+cd "$(dirname "${BASH_SOURCE[0]}")/.."
+. tools/env.sh
+
+target=x86_64-unknown-linux-gnu
+cargo=
+rustc=
+
+cannot() {
+    echo "bench: $1" >&2
+    exit 2
+}
+
+# builds_for_target CARGO RUSTC: both are there, with the standard library for x86-64; then they are taken.
+builds_for_target() {
+    local lib
+    command -v "$1" >/dev/null && command -v "$2" >/dev/null || return 1
+    lib=$("$2" --print target-libdir --target "$target" 2>/dev/null) || return 1
+    compgen -G "$lib/libstd-*.rlib" >/dev/null || return 1
+    cargo=$1 rustc=$2
+}
+
+# The toolchain on the path if it can, else Debian's.
+find_rust() {
+    builds_for_target cargo rustc || builds_for_target /usr/bin/cargo /usr/bin/rustc
+}
+
+# Debian's Rust, on an Arm machine with the standard library of the other architecture.
+install_rust() {
+    [ "$(id -u)" = 0 ] && command -v apt-get >/dev/null || return 1
+    case " $* " in
+    *:amd64\ *) dpkg --add-architecture amd64 ;;
+    esac
+    yb_install "$@"
+}
+
+rust_toolchain() {
+    local packages='rustc cargo' how='install the packages'
+    if [ "$(uname -m)" != x86_64 ]; then
+        packages="$packages libstd-rust-dev:amd64"
+        how='run dpkg --add-architecture amd64 and apt-get update, then install the packages'
+    fi
+    # shellcheck disable=SC2086 # the packages are words
+    find_rust || { install_rust $packages && find_rust; } ||
+        cannot "no Rust for x86-64 code; $how $packages, or: rustup target add $target"
+}
+
+# The machine's own load spoils times, so that it stands beside them.
+heading() {
+    if [ -n "$YB_EMULATOR" ]; then
+        echo "EMULATED: this machine is $(uname -m), and both checks ran as x86-64 code under the kit's emulator."
+        echo 'The times say little; the ratio of the two and the growth of each say something.'
+    fi
+    echo "$("$rustc" --version); $(nproc) cores, load $(cut -d ' ' -f 1-3 /proc/loadavg)"
+}
+
+yb_toolchain || cannot "$YB_CC_WHY"
+[ -f "$YB_ARCHIVE" ] || cannot "no archive at $YB_ARCHIVE; rt staticlib yesbrulka builds it"
+rust_toolchain
+
+# Nothing of an earlier build may stand in for what fails to build now.
+library=build/bench/$target/release/libreference_bench.a
+rm -f build/x86_64/bench "$library"
+RUSTC=$rustc CARGO_TARGET_DIR=$PWD/build/bench "$cargo" build --quiet --release --offline --locked \
+    --target "$target" --manifest-path reference/bench/Cargo.toml || exit 1
+
+mkdir -p build/x86_64
+# shellcheck disable=SC2086 # YB_STATIC may be no word
+"$YB_CC" -O2 -Wall -Wextra -Werror -std=c11 $YB_STATIC -o build/x86_64/bench c/bench.c "$YB_ARCHIVE" "$library" \
+    -lpthread -ldl
+
+heading
+# shellcheck disable=SC2086 # YB_EMULATOR may be no word
+$YB_EMULATOR build/x86_64/bench
