@@ -1,4 +1,4 @@
-/* Times the proved check beside the reference's, both on the same files in this one process, and shows how the
+/* Times the proved check beside one in ordinary Rust, both on the same files in this one process, and shows how the
 ** time grows with the file.
 **
 ** Every file is made here and has 64 units. With 65,535 steps of 27 bytes it has 1,772,804 bytes and is the
@@ -30,7 +30,7 @@
 /* An odd number, so that the median is one of the times. On a loaded machine the least is the better figure. */
 #define ROUNDS 9
 
-/* The reference's check, from reference/bench: returns the number, and stores the place and the steps. */
+/* The check in tight ordinary Rust, from reference/bench: returns the number, and stores the place and the steps. */
 uint32_t ref_check(const uint8_t *file, size_t len, uint64_t *place, uint32_t *steps);
 
 struct answer {
@@ -280,7 +280,7 @@ int main(void)
     if (right) {
         show_growth(rows, COMPLETE);
         printf("\nThe file of %" PRIu64 " bytes is the largest complete one; the last is the same with other bytes\n"
-            "after it. The reference is written to be plain, not to be quick.\n", overlong.right.place);
+            "after it. The reference here is ordinary Rust written to be quick (reference/bench/src/tight.rs).\n", overlong.right.place);
     }
     if (fflush(stdout) != 0 || ferror(stdout))
         give_up("the lines cannot be written");

@@ -1,5 +1,5 @@
 #!/bin/bash
-# Builds and runs the bench: the archive's check beside the reference's, in one process of x86-64 code. The
+# Builds and runs the bench: the archive's check beside one in tight ordinary Rust, in one process of x86-64 code. The
 # archive must be there already. Ends with 0, with 1 if an answer is wrong or the build fails, and with 2 if
 # something that it needs cannot be had. The times decide nothing.
 set -eu
@@ -61,6 +61,11 @@ heading() {
 yb_toolchain || cannot "$YB_CC_WHY"
 [ -f "$YB_ARCHIVE" ] || cannot "no archive at $YB_ARCHIVE; rt staticlib yesbrulka builds it"
 rust_toolchain
+
+# What is timed beside the archive is first held to the plain reference.
+mkdir -p build/bench
+CARGO_TARGET_DIR=$PWD/build/bench/tests cargo test --quiet --release --offline --locked \
+    --manifest-path reference/bench/Cargo.toml >build/bench/tests.log 2>&1 || { cat build/bench/tests.log >&2; exit 1; }
 
 # Nothing of an earlier build may stand in for what fails to build now.
 library=build/bench/$target/release/libreference_bench.a

@@ -1,8 +1,8 @@
-//! The reference's check as a C function, so that the bench can call it beside the proved one.
+//! A check in tight ordinary Rust as a C function, so that the bench can call it beside the proved one.
+
+mod tight;
 
 use std::slice;
-
-use yesbrulka_reference::stick;
 
 /// The check of a whole file: returns its number, and stores its place and its steps.
 ///
@@ -11,7 +11,7 @@ use yesbrulka_reference::stick;
 /// `file` points to `len` bytes, and `place` and `steps` to memory that may be written; none is null.
 #[no_mangle]
 pub unsafe extern "C" fn ref_check(file: *const u8, len: usize, place: *mut u64, steps: *mut u32) -> u32 {
-    let answer = stick::check(slice::from_raw_parts(file, len));
+    let answer = tight::check(slice::from_raw_parts(file, len));
     *place = answer.place;
     *steps = answer.steps;
     answer.number
