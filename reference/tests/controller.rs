@@ -4,7 +4,7 @@ mod host;
 
 use std::collections::BTreeMap;
 
-use host::{Host, LEFT_ALONE};
+use host::{refuses_cut_rows, Host, LEFT_ALONE};
 use yesbrulka_reference::controller::{self, Fleet, Settings, State};
 use yesbrulka_reference::samples::fleets::{self, PassCall, StudyCall};
 use yesbrulka_reference::samples::Draw;
@@ -454,14 +454,6 @@ fn the_host_takes_no_malformed_pass_or_study() {
         (b'T', study, "host: op T: the payload is no row of studies\n"),
     ];
     for (op, payload, message) in whole {
-        for length in [1, 18, 43, payload.len() - 1] {
-            let mut host = Host::start_quietly();
-            host.send(op, &payload[..length]);
-            let (status, messages) = host.end();
-            assert_eq!((status.code(), messages.as_str()), (Some(1), message), "{length} bytes");
-        }
-        let mut host = Host::start();
-        assert_eq!(host.call(op, &[]), [0u8; 0]);
-        assert!(host.end().0.success());
+        refuses_cut_rows(op, &payload, &[1, 18, 43, payload.len() - 1], message);
     }
 }

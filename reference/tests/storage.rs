@@ -4,7 +4,7 @@ mod host;
 
 use std::collections::BTreeMap;
 
-use host::{Host, LEFT_ALONE};
+use host::{refuses_cut_rows, Host, LEFT_ALONE};
 use yesbrulka_reference::samples::units::{self, StepCall};
 use yesbrulka_reference::samples::Draw;
 use yesbrulka_reference::storage::{self, Stepped, Unit};
@@ -297,14 +297,6 @@ fn steps_over_any_bits() {
 fn the_host_takes_no_malformed_step() {
     let mut step = Vec::new();
     put_step(&mut step, &units::figure_steps()[0]);
-    for length in [1, step.len() - 1] {
-        let mut host = Host::start_quietly();
-        host.send(b'S', &step[..length]);
-        let (status, messages) = host.end();
-        let message = "host: op S: the payload is no row of steps\n";
-        assert_eq!((status.code(), messages.as_str()), (Some(1), message), "{length} bytes");
-    }
-    let mut host = Host::start();
-    assert_eq!(host.call(b'S', &[]), [0u8; 0]);
-    assert!(host.end().0.success());
+    let message = "host: op S: the payload is no row of steps\n";
+    refuses_cut_rows(b'S', &step, &[1, step.len() - 1], message);
 }

@@ -79,3 +79,17 @@ impl Host {
         (self.child.wait().expect("the host ends"), messages)
     }
 }
+
+/// The host ends with a message on a row of calls that is cut, and takes an empty row.
+#[allow(dead_code)] // an op without rows has none to cut
+pub fn refuses_cut_rows(op: u8, row: &[u8], lengths: &[usize], message: &str) {
+    for &length in lengths {
+        let mut host = Host::start_quietly();
+        host.send(op, &row[..length]);
+        let (status, messages) = host.end();
+        assert_eq!((status.code(), messages.as_str()), (Some(1), message), "{length} bytes");
+    }
+    let mut host = Host::start();
+    assert_eq!(host.call(op, &[]), [0u8; 0]);
+    assert!(host.end().0.success());
+}
