@@ -49,11 +49,18 @@ drawn seconds stored (suc d) vars after loss e = e
 -- ---- a flow of at most p, for which the store has enough above the reserve, or room
 module _ (u : Unit) (seconds p : ℕ) where
   module _ (b : Bounds u seconds) where
-    pub stays : u .reserve ≤ u .stored → (f : Flow) → Able u seconds p f → (u .reserve ≤ storedOf u seconds f) × (storedOf u seconds f ≤ u .rated)
+    pub stays : u .reserve ≤ u .stored → (f : Flow) → Able u seconds p f → u .reserve ≤ storedOf u seconds f
     unfolding storedOf
     stays r (Out x) a = omega arith
     stays r (In x) a = omega arith
     stays r Idle a = omega arith
+
+    -- wherever the reserve lies
+    pub never-above : (f : Flow) → Able u seconds p f → storedOf u seconds f ≤ u .rated
+    unfolding storedOf
+    never-above (Out x) a = omega arith
+    never-above (In x) a = omega arith
+    never-above Idle a = omega arith
 
     pub watts-le : p ≤ u .kva → (f : Flow) → Able u seconds p f → natAbs (wattsOf u f) ≤ u .kva
     unfolding wattsOf

@@ -8,7 +8,7 @@ use lib.IntN.{ℤ, natAbs}
 use Rattle.storage.proofs.RangeLaws.{bounds}
 use Rattle.storage.proofs.LimitLaws.{held-most}
 use Rattle.storage.proofs.StepLaws.{flow-able}
-use Rattle.storage.proofs.ReliedLaws.{vars-in-circle, no-more, watts-le, stays, conserves}
+use Rattle.storage.proofs.ReliedLaws.{vars-in-circle, no-more, watts-le, stays, never-above, conserves}
 use Rattle.storage.specs.declared.Unit.{Unit}
 use Rattle.storage.specs.Ranges.{unitIn, secondsIn}
 use Rattle.storage.specs.Relied.{Relied}
@@ -23,7 +23,8 @@ relied u seconds request e t =
     let b = bounds {u = u} {seconds = seconds} (record { unit = e; seconds-in = t }) in
     let (asked, rated) = held-most u request in
     record {
-      staysWithin = λ r. stays u seconds p b r f a;
+      staysWithin = λ r. (stays u seconds p b r f a, never-above u seconds p b f a);
+      neverAboveRated = never-above u seconds p b f a;
       inCircle = vars-in-circle u (wattsOf u f) (watts-le u seconds p b rated f a);
       conserved = conserves u seconds p b f a;
       noMoreThanAsked = λ x q. no-more u seconds p x (le-trans asked (le-of-eq (ap natAbs q))) f a;

@@ -20,6 +20,8 @@ Conserved seconds stored o = Balance (o .watts)
 pub record Relied (u : Unit) (seconds : ℕ) (request : ℤ) : Type 0 where
   -- a store between reserve and rated stays there
   pub staysWithin : u .reserve ≤ u .stored → (u .reserve ≤ stepOf u seconds request .stored) × (stepOf u seconds request .stored ≤ u .rated)
+  -- no store rises above rated, whatever its reserve
+  pub neverAboveRated : stepOf u seconds request .stored ≤ u .rated
   -- watts and vars lie in the kVA circle
   pub inCircle : natAbs (stepOf u seconds request .watts) * natAbs (stepOf u seconds request .watts)
       + natAbs (stepOf u seconds request .vars) * natAbs (stepOf u seconds request .vars) ≤ u .kva * u .kva
