@@ -2,3 +2,4 @@
 pub mod NearestLaws
 pub mod DoubleLaws
 pub mod ChoiceLaws
+pub mod MeasureLaws
