@@ -4,6 +4,7 @@ pub mod TakenLaws
 pub mod WalkLaws
 pub mod PartLaws
 pub mod SaidLaws
+pub mod ReadingLaws
 pub mod SaidProved
 pub mod ReaderLaws
 pub mod HeldReader
