@@ -94,7 +94,7 @@ unit-small a b c d e t =
     }
 
 -- a list whose elements are bounded below its length is bounded everywhere: past the end `getD` gives 0
-everywhere : (xs : List ℕ) (n b : ℕ) → length xs ≡ n → ((i : ℕ) → i < n → getD xs i 0 ≤ b) → (i : ℕ) → getD xs i 0 ≤ b
+pub everywhere : (xs : List ℕ) (n b : ℕ) → length xs ≡ n → ((i : ℕ) → i < n → getD xs i 0 ≤ b) → (i : ℕ) → getD xs i 0 ≤ b
 everywhere xs n b e h i = go (ltb i n) refl
   where
     go : (t : Bool) → ltb i n ≡ t → getD xs i 0 ≤ b

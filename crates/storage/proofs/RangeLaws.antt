@@ -21,6 +21,7 @@ pub record Bounds (u : Unit) (seconds : ℕ) : Type 0 where
   pub kva-most : u .kva ≤ 100000000
   pub idle-most : u .«idle_loss» ≤ 10000000
   pub vars-most : natAbs (u .«var_request») ≤ 100000000
+  pub weight-most : u .weight ≤ 10000
   pub inverter-least : 1000 ≤ u .inverter
   pub inverter-most : u .inverter ≤ 10000
   pub charge-least : 1000 ≤ u .charge
@@ -55,6 +56,7 @@ bounds {u} {seconds} r =
     let rated-in = within 1 10000000000000 (u .rated) (reserve .0) in
     let rating-in = within 1 100000000 (u .rating) (rating .1) in
     let kva-in = within 1 100000000 (u .kva) (kva .1) in
+    let weight-in = within 1 10000 (u .weight) (weight .1) in
     let inverter-in = within 1000 10000 (u .inverter) (inverter .1) in
     let charge-in = within 1000 10000 (u .charge) (charge .1) in
     let discharge-in = within 1000 10000 (u .discharge) (discharge .1) in
@@ -69,6 +71,7 @@ bounds {u} {seconds} r =
       kva-most = kva-in .1;
       idle-most = leb-true _ _ (idle .1);
       vars-most = leb-true _ _ (vars .1);
+      weight-most = weight-in .1;
       inverter-least = inverter-in .0;
       inverter-most = inverter-in .1;
       charge-least = charge-in .0;

@@ -6,6 +6,8 @@ ghost use Rattle.controller.specs.Answers.{passNumber, needHeld, changedHeld, s
 ghost use Rattle.storage.specs.Answers.{stepNumber, wattsHeld, varsHeld, storedHeld, lossHeld};
 ghost use Rattle.stick.specs.Check.{checkOf};
 ghost use Rattle.stick.specs.Parts.{partStart, partSize};
+ghost use lib.ListN.{length};
+ghost use Rattle.season.specs.Answers.{roomOf, runAnswer, runLeaves};
 ghost use Rattle.yesbrulka.specs.Calls.{passCall, passLeft, studyCall, studyLeft, unitOf, stepCall};
 use controller::PassAnswer;
 use controller::Settings;
@@ -52,6 +54,24 @@ pub extern "C" fn yb_value_len(file: &[u8], place: u64) -> u64
     ensures { λ r. ⌜ r ≡ partSize (now (file .entry)) place ⌝ }
 {
     stick::part_size(file, place)
+}
+
+// The run: the bytes that the result of a file needs, 0 for a file that the check refuses.
+#[no_mangle]
+pub extern "C" fn yb_run_room(file: &[u8]) -> u64
+    ensures { λ r. ⌜ r ≡ roomOf (now (file .entry)) ⌝ }
+{
+    season::room(file)
+}
+
+// The run of a file's bytes: 0 and the result at the room's start, with the bytes past it as they
+// were; or the check's refusal or 11, and the room as it was.
+#[no_mangle]
+pub extern "C" fn yb_run(file: &[u8], room: &mut [u8]) -> u32
+    ensures { λ r. ⌜ r ≡ runAnswer (now (file .entry)) (length (now (room .entry))) .number ⌝ }
+    ensures { λ _. ⌜ now (room .exit) ≡ runLeaves (now (file .entry)) (now (room .entry)) ⌝ }
+{
+    season::run(file, room).number as u32
 }
 
 // The whole watts of a kW double: 0 and the watts, or 6 for a reading that cannot be used.
