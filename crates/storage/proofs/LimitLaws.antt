@@ -47,12 +47,12 @@ module _ (u : Unit) (request : ℤ) where
       (λ t. omega arith)
       (λ t. omega arith)
 
--- ---- the vars, from the sign, the size and the leg that the code has
-pub vars-are : (u : Unit) (watts : ℤ) → mag (u .«var_request») < 2 ^ 31 → mag watts < 2 ^ 31 → (below : Bool) (size side leg q : ℕ)
+-- ---- the vars, from the sign and the sizes that the code has
+pub vars-are : (u : Unit) (watts : ℤ) → mag (u .«var_request») < 2 ^ 31 → mag watts < 2 ^ 31 → (below : Bool) (size side q : ℕ)
     → below ≡ negative (toZ w32 (ofZ w32 (u .«var_request»))) → size ≡ natAbs (toZ w32 (ofZ w32 (u .«var_request»)))
-    → side ≡ natAbs (toZ w32 (ofZ w32 watts)) → leg ≡ legOf (u .kva) side → q ≡ min size leg → signed below q ≡ varsOf u watts
+    → side ≡ natAbs (toZ w32 (ofZ w32 watts)) → q ≡ min size (legOf (u .kva) side) → signed below q ≡ varsOf u watts
 unfolding varsOf
-vars-are u watts hv hw below size side leg q eb es ed el eq = cc (read w32 (u .«var_request») hv, read w32 watts hw)
+vars-are u watts hv hw below size side q eb es ed eq = cc (read w32 (u .«var_request») hv, read w32 watts hw)
 
 -- ---- the energy limits
 pub deliverable-most : (u : Unit) (s p : ℕ) → deliverable u s p ≤ p

@@ -13,6 +13,7 @@ use borrow.Author.Tests.{eq-eqb, ne-eqb, lt-ltb, le-ltb, ltb-false, le-leb, lt-l
 use Rattle.whole.proofs.Choice.{by-test}
 use Rattle.whole.proofs.OverLaws.{and-parts}
 use Rattle.whole.proofs.SignLaws.{read}
+use Rattle.whole.specs.Largest.{largest}
 use Rattle.whole.specs.Signed.{negative}
 use Rattle.storage.proofs.RangeLaws.{Bounds}
 use Rattle.storage.proofs.EnergyLaws.{removed-covers, added-covered}
@@ -28,6 +29,14 @@ use Rattle.storage.specs.Step.{removedBy, addedBy, deliverable, takeable
 
 -- ---- what flows, case by case
 module _ (u : Unit) (s p : ℕ) where
+  pub discharged-nothing : p ≡ 0 → Idle ≡ discharged u s p
+  unfolding discharged deliverable largest
+  discharged-nothing e = sym (ap (discharged u s) e ∙ go (ltb (u .stored) (u .reserve)))
+    where
+      go : (b : Bool) → cond b Idle Idle ≡ Idle
+      go true = refl
+      go false = refl
+
   pub discharged-below : u .stored < u .reserve → Idle ≡ discharged u s p
   unfolding discharged
   discharged-below h = simp (lt-ltb (u .stored) (u .reserve) h)

@@ -13,6 +13,9 @@ fn discharge(u: Unit, seconds: u32, p: u64) -> Flow
     requires { ⌜ Ranged u seconds ⌝ }
     ensures { λ r. ⌜ r ≡ discharged u seconds p ⌝ }
 {
+    if p == 0 {
+        return Flow::Idle;
+    }
     if u.stored < u.reserve {
         return Flow::Idle;
     }

@@ -28,7 +28,7 @@ pub fn held(u: Unit, request: i32) -> u32
     if u.priority == 1 {
         let vars = whole::size32(u.var_request);
         let v = least(vars, u.kva);
-        return least(p, whole::leg(u.kva, v));
+        return whole::beside(u.kva, v, p);
     }
     p
 }
@@ -39,6 +39,6 @@ pub fn vars(u: Unit, watts: i32) -> i32
     ensures { λ r. ⌜ r ≡ varsOf u watts ⌝ }
 {
     let size = whole::size32(u.var_request);
-    let q = least(size, whole::leg(u.kva, whole::size32(watts)));
+    let q = whole::beside(u.kva, whole::size32(watts), size);
     whole::signed32(whole::below_zero32(u.var_request), q)
 }

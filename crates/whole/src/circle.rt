@@ -1,4 +1,5 @@
 ghost use mathlib.Core.Path.{_≡_};
+ghost use Prim.Native.Nat.{min};
 ghost use Rattle.whole.specs.Largest.{legOf};
 
 // The largest whole x with x * x + y * y <= s * s, by bisection; 0 where y is above s.
@@ -22,4 +23,20 @@ pub fn leg(s: u32, y: u32) -> u32
         }
     }
     low as u32
+}
+
+// The smaller of x and the leg beside y. Where x and y lie in the circle no leg is sought.
+pub fn beside(s: u32, y: u32, x: u32) -> u32
+    ensures { λ r. ⌜ r ≡ min x (legOf s y) ⌝ }
+{
+    let radius = s as u64;
+    let side = y as u64;
+    let size = x as u64;
+    if side <= radius {
+        if size * size <= radius * radius - side * side {
+            return x;
+        }
+    }
+    let most = leg(s, y);
+    if x <= most { x } else { most }
 }

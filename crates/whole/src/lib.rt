@@ -4,6 +4,7 @@ mod circle;
 mod quotients;
 mod sign;
 
+pub use circle::beside;
 pub use circle::leg;
 pub use quotients::cut;
 pub use quotients::up;

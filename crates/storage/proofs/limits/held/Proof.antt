@@ -18,20 +18,17 @@ size32-requires-2 c κs = search needs
 least-requires-2 : tie.Need-least-requires-2
 least-requires-2 c κs = search needs
 
-leg-requires : tie.Need-leg-requires
-leg-requires c κs = search needs
-
-least-requires-3 : tie.Need-least-requires-3
-least-requires-3 c κs = search needs
+beside-requires : tie.Need-beside-requires
+beside-requires c κs = search needs
 
 returns : tie.Need-returns
 returns c =
-    let d = c .before .before .before .before in
+    let d = c .before .before .before in
     let e = d .before .before .before .before in
     let x = e .before .args in
     let size : e .size32 .result ≡ natAbs (x .request) = sized (x .request) (e .size32 .result) (e .before .fits .request .sfits) (e .size32 .ensures) in
-    let vars : c .before .before .before .size322 .result ≡ natAbs (x .u .«var_request») =
-    sized (x .u .«var_request») (c .before .before .before .size322 .result) (d .struct-told .given .1 .1 .1 .1 .1 .1 .0 .1) (c .before .before .before .size322 .ensures) in
+    let vars : c .before .before .size322 .result ≡ natAbs (x .u .«var_request») =
+    sized (x .u .«var_request») (c .before .before .size322 .result) (d .struct-told .given .1 .1 .1 .1 .1 .1 .0 .1) (c .before .before .size322 .ensures) in
     cc (held-beside (x .u) (x .request) (d .before .if1 .taken))
 
 returns-2 : tie.Need-returns-2
@@ -49,7 +46,6 @@ held-spec =
     least-requires
     size32-requires-2
     least-requires-2
-    leg-requires
-    least-requires-3
+    beside-requires
     returns
     returns-2)

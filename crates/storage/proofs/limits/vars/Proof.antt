@@ -14,19 +14,16 @@ size32-requires c κs = search needs
 size32-requires-2 : tie.Need-size32-requires-2
 size32-requires-2 c κs = search needs
 
-leg-requires : tie.Need-leg-requires
-leg-requires c κs = search needs
-
-least-requires : tie.Need-least-requires
-least-requires c κs = search needs
+beside-requires : tie.Need-beside-requires
+beside-requires c κs = search needs
 
 below-zero32-requires : tie.Need-below-zero32-requires
 below-zero32-requires c κs = search needs
 
 signed32-requires : tie.Need-signed32-requires
 signed32-requires c κs =
-    let q = c .before .before .least in
-    let e = c .before .before .before .before .before in
+    let q = c .before .before .beside in
+    let e = c .before .before .before .before in
     let t = e .before in
     let size = sized (t .before .args .u .«var_request») (e .size32 .result) (t .struct-told .given .1 .1 .1 .1 .1 .1 .0 .1) (e .size32 .ensures) in
     let few = t .before .pre in
@@ -36,15 +33,14 @@ signed32-requires c κs =
 returns : tie.Need-returns
 returns c =
     let below = c .before .below-zero32 in
-    let q = c .before .before .before .least in
-    let leg = c .before .before .before .before .leg in
-    let side = c .before .before .before .before .before .size322 in
-    let e = c .before .before .before .before .before .before in
+    let q = c .before .before .before .beside in
+    let side = c .before .before .before .before .size322 in
+    let e = c .before .before .before .before .before in
     let t = e .before in
     let x = t .before .args in
     read w32 (c .signed32 .result) (c .signed32 .ok) ∙ c .signed32 .ensures
-    ∙ vars-are (x .u) (x .watts) (t .struct-told .given .1 .1 .1 .1 .1 .1 .0 .1) (t .before .fits .watts .sfits) (below .result) (e .size32 .result) (side .result) (leg .result) (q .result)
-    (below .ensures) (e .size32 .ensures) (side .ensures) (leg .ensures) (q .ensures)
+    ∙ vars-are (x .u) (x .watts) (t .struct-told .given .1 .1 .1 .1 .1 .1 .0 .1) (t .before .fits .watts .sfits) (below .result) (e .size32 .result) (side .result) (q .result)
+    (below .ensures) (e .size32 .ensures) (side .ensures) (q .ensures)
 
 pub vars-spec : {M : Type 1} → statement M
 vars-spec =
@@ -52,8 +48,7 @@ vars-spec =
     (tie.spec
     size32-requires
     size32-requires-2
-    leg-requires
-    least-requires
+    beside-requires
     below-zero32-requires
     signed32-requires
     returns)
