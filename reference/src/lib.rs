@@ -10,6 +10,7 @@ pub mod octets;
 pub mod ranges;
 pub mod reading;
 pub mod samples;
+pub mod season;
 pub mod stick;
 pub mod storage;
 pub mod whole;
@@ -43,6 +44,9 @@ pub const BYTES_AFTER_END: u32 = 9;
 
 /// Lists of unequal length, empty or above 64; a request beyond its rating; requests of both signs.
 pub const LISTS_OR_REQUESTS: u32 = 10;
+
+/// A lent room that is shorter than the result.
+pub const ROOM_TOO_SHORT: u32 = 11;
 
 /// A file above its size, or a step too many.
 pub const TOO_LARGE: u32 = 12;

@@ -2,6 +2,7 @@
 //! of their own, the calls of the other functions.
 
 pub mod fleets;
+pub mod seasons;
 pub mod sticks;
 pub mod units;
 

@@ -2,6 +2,7 @@
 
 use super::units::{self, StepCall};
 use super::{fleets, Draw};
+use crate::controller::Settings;
 use crate::octets::{put_f64, put_i32, put_u16, put_u32, put_u64, put_u8};
 use crate::reading::{self, Phases, Reading};
 use crate::stick::{length_of, Run, END, FLEET, MISSING, POWER, SETTINGS, TAGS, UNIT};
@@ -97,6 +98,31 @@ pub fn bytes(fields: &[Field]) -> Vec<u8> {
 /// The file that says a run.
 pub fn file(run: &Run) -> Vec<u8> {
     bytes(&fields(run))
+}
+
+/// The document's whole case.
+pub fn whole_case() -> Run {
+    let unit = Unit {
+        rated: 3_600_000,
+        reserve: 0,
+        stored: 3_600_000,
+        rating: 5_000,
+        kva: 5_000,
+        idle_loss: 1_000,
+        var_request: 0,
+        weight: 1,
+        inverter: 10_000,
+        charge: 10_000,
+        discharge: 10_000,
+        priority: 0,
+    };
+    Run {
+        seconds: 60,
+        units: vec![unit],
+        settings: Settings { mode: 1, target: 0, band: 0, factor: 1_000 },
+        phase: 0,
+        readings: vec![Reading::Missing],
+    }
 }
 
 /// A phase power that is not to be refused.

@@ -1,0 +1,176 @@
+//! Runs in which something happens: energies of a few steps, so that units run empty and full, and readings
+//! about the target and of the fleet's size, so that requests rise and fall.
+
+use super::{sticks, Draw};
+use crate::controller::Settings;
+use crate::ranges::RATED;
+use crate::reading::{Phases, Reading};
+use crate::stick::Run;
+use crate::storage::Unit;
+
+/// A run that is not to be refused.
+pub fn run(units: usize, steps: usize, draw: &mut Draw) -> Run {
+    let any = 1 + draw.below(86_400) as u32;
+    let seconds = draw.one_of(&[1, 60, 900, 3_600, 3_600, 86_400, any]);
+    let scale = draw.one_of(&[5, 100, 10_000, 10_000, 1_000_000, 100_000_000]);
+    let mode = 1 + draw.below(3) as u8;
+    let units: Vec<Unit> = (0..units).map(|_| unit(seconds, scale, mode, draw)).collect();
+    let power = units.iter().map(|unit| u64::from(unit.rating)).sum::<u64>().min(100_000_000);
+    let settings = settings(mode, power, draw);
+    let phase = draw.below(6) as u8;
+    let readings = readings(steps, &settings, phase, power as i64, draw);
+    Run { seconds, units, settings, phase, readings }
+}
+
+fn efficiency(draw: &mut Draw) -> u16 {
+    let any = draw.within(1_000, 10_000) as u16;
+    draw.one_of(&[10_000, 9_000, 9_500, 9_700, any, any])
+}
+
+fn unit(seconds: u32, scale: u64, mode: u8, draw: &mut Draw) -> Unit {
+    let rating = 1 + draw.below(scale) as u32;
+    let kva = match draw.below(5) {
+        0 => rating,
+        1 => 1 + draw.below(scale) as u32,
+        2 => 1 + rating / 2,
+        _ => rating + rating / 10,
+    }
+    .min(100_000_000);
+    let any = draw.below(u64::from(kva) + 1) as i32;
+    let beyond = 2 * kva.min(50_000_000) as i32;
+    let var_request = draw.one_of(&[0, 0, any, -any, any / 3, -any / 3, kva as i32, beyond, -beyond]);
+    let inverter = efficiency(draw);
+    let most_idle = u64::from(rating.min(kva)) * u64::from(inverter) / 10_000;
+    let most_idle = most_idle.min(10_000_000);
+    let idle_loss = match draw.below(8) {
+        0..=2 => 0,
+        3 => draw.below(most_idle + 1),
+        _ => draw.below(most_idle / 30 + 1),
+    } as u32;
+    let mut unit = Unit {
+        rated: 1,
+        reserve: 0,
+        stored: 0,
+        rating,
+        kva,
+        idle_loss,
+        var_request,
+        weight: draw.one_of(&[1, 1, 1, 2, 3, 10, 9_999, 10_000]),
+        inverter,
+        charge: efficiency(draw),
+        discharge: efficiency(draw),
+        priority: draw.below(2) as u8,
+    };
+    set_energies(&mut unit, seconds, mode, draw);
+    unit
+}
+
+/// A rated energy of a tenth of a step at full power to many steps, and a store from which the mode has a good
+/// part of it to move, or all, little or nothing.
+fn set_energies(unit: &mut Unit, seconds: u32, mode: u8, draw: &mut Draw) {
+    let power = unit.rating.min(unit.kva).into();
+    let moved = if mode == 3 { unit.added(power, seconds) } else { unit.removed(power, seconds) };
+    let tenths = draw.one_of(&[1, 3, 8, 10, 11, 15, 25, 40, 80, 200]);
+    let rated = (moved * tenths / 10).clamp(1, i128::from(*RATED.end())) as u64;
+    unit.rated = rated;
+    let any = draw.below(rated + 1);
+    unit.reserve = draw.one_of(&[0, rated / 10, rated / 5, rated / 2, any]);
+    let (reserve, above) = (unit.reserve, draw.below(rated - unit.reserve + 1));
+    let moves = if mode == 3 { rated - above } else { reserve + above };
+    let room = if mode == 3 { 0 } else { rated };
+    unit.stored = match draw.below(12) {
+        0 => reserve,
+        1 => draw.below(reserve + 1),
+        2 => rated,
+        3 => any,
+        4..=7 => room,
+        _ => moves,
+    };
+}
+
+fn settings(mode: u8, power: u64, draw: &mut Draw) -> Settings {
+    let near = draw.below(2 * power + 1) as i32 - power as i32;
+    let any = 1 + draw.below(1_000) as u16;
+    Settings {
+        mode,
+        target: draw.one_of(&[0, near, near, near / 4]),
+        band: draw.one_of(&[0, 0, power / 20, power / 5, power / 3]) as u32,
+        factor: draw.one_of(&[1_000, 1_000, 1_000, 500, 300, any]),
+    }
+}
+
+fn readings(steps: usize, settings: &Settings, phase: u8, power: i64, draw: &mut Draw) -> Vec<Reading> {
+    let missing = draw.one_of(&[2, 3, 6, 30]);
+    let mut readings = Vec::new();
+    for _ in 0..steps {
+        readings.push(match draw.below(12 * missing) {
+            n if n < 12 => Reading::Missing,
+            12 => sticks::power_reading(draw),
+            _ => reading_of(measure(settings, power, draw), phase, draw),
+        });
+    }
+    // The first and the last are where a missing reading is met least.
+    if steps > 0 {
+        match draw.below(8) {
+            0 => readings[0] = Reading::Missing,
+            1 => readings[steps - 1] = Reading::Missing,
+            2 => (readings[0], readings[steps - 1]) = (Reading::Missing, Reading::Missing),
+            _ => (),
+        }
+    }
+    readings
+}
+
+/// A measure whose need is mostly in the mode's own direction, and part of what the fleet can do.
+fn measure(settings: &Settings, power: i64, draw: &mut Draw) -> i64 {
+    let part = draw.below(power as u64 + 1) as i64;
+    let need = draw.one_of(&[0, 1, part, part, part, part / 8, part / 8, -part / 4, -part, 2 * part]);
+    let need = if settings.mode == 3 { -need } else { need };
+    let target = i64::from(settings.target);
+    let measure = if settings.mode == 2 { need - target } else { need + target };
+    measure.clamp(-100_000_000, 100_000_000)
+}
+
+/// A power reading from which the phase choice takes this measure; the powers that it does not take are
+/// others.
+fn reading_of(measure: i64, phase: u8, draw: &mut Draw) -> Reading {
+    let most = draw.one_of(&[2, 256, 1 << 20]);
+    let [one, two] = [(); 2].map(|()| draw.below(most) as i64);
+    let three = match phase {
+        0 => [one, measure - one - two, two],
+        4 => [measure - one, measure, measure - two],
+        5 => [measure + one, measure + two, measure],
+        chosen => {
+            let mut three = [one, -two, measure / 2];
+            three[usize::from(chosen) - 1] = measure;
+            three
+        }
+    };
+    let [first, second, third] = three.map(|watts| watts.clamp(-100_000_000, 100_000_000) as f64 / 1000.0);
+    Reading::Power(Phases { first, second, third })
+}
+
+#[cfg(test)]
+mod tests {
+    use super::*;
+
+    #[test]
+    fn a_reading_gives_its_measure_in_every_phase_choice() {
+        let mut draw = Draw::from_seed(91);
+        for _ in 0..2_000 {
+            let measure = draw.below(190_000_001) as i64 - 95_000_000;
+            for phase in 0..6 {
+                assert_eq!(reading_of(measure, phase, &mut draw).measure(phase), Ok(Some(measure)));
+            }
+        }
+    }
+
+    #[test]
+    fn no_run_is_outside_its_ranges() {
+        let mut draw = Draw::from_seed(92);
+        for units in (1..=64).chain(1..=64) {
+            let run = run(units, 3, &mut draw);
+            assert!(run.units.iter().all(Unit::in_range) && run.settings.in_range());
+        }
+    }
+}

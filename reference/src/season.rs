@@ -1,0 +1,296 @@
+//! The season: a run over all readings of a file, and the result file.
+
+use crate::controller::{self, Fleet, Passed};
+use crate::octets::{put_f64, put_i32, put_u16, put_u32, put_u64, put_u8};
+use crate::reading::kw;
+use crate::stick::{self, Answer, Run};
+use crate::storage::{self, Stepped, Unit};
+use crate::ROOM_TOO_SHORT;
+
+pub const RECORD: u8 = 0x11;
+pub const LAST: u8 = 0x1F;
+
+/// The lengths of their values.
+const RECORD_LENGTH: u16 = 37;
+const LAST_LENGTH: u16 = 4;
+
+/// What one unit was asked in a step, and what became of it.
+#[derive(Clone, Copy, Debug, PartialEq, Eq)]
+pub struct Record {
+    /// From 0.
+    pub step: u32,
+    /// From 0.
+    pub unit: u8,
+    /// As the controller left it, also where it is beyond what the unit can do.
+    pub request: i32,
+    pub stepped: Stepped,
+}
+
+/// One step of a fleet: what the pass reported, none where the reading is missing, and a record of each unit.
+#[derive(Clone, Debug, PartialEq, Eq)]
+pub struct Step {
+    pub passed: Option<Passed>,
+    pub records: Vec<Record>,
+}
+
+/// What a pass knows of the units as they are now.
+fn fleet(units: &[Unit]) -> Fleet {
+    Fleet {
+        rated: units.iter().map(|unit| unit.rated).collect(),
+        reserve: units.iter().map(|unit| unit.reserve).collect(),
+        stored: units.iter().map(|unit| unit.stored).collect(),
+        rating: units.iter().map(|unit| unit.rating).collect(),
+        weight: units.iter().map(|unit| unit.weight).collect(),
+    }
+}
+
+/// All steps of a run that an accepted file says. Requests start at zero; each reading is one pass, or none
+/// where it is missing, and then one step of every unit.
+///
+/// # Panics
+///
+/// If a value is outside its range, which no accepted file's is.
+pub fn steps(run: &Run) -> Vec<Step> {
+    let mut units = run.units.clone();
+    let mut requests = vec![0; units.len()];
+    let mut steps = Vec::new();
+    for (step, reading) in run.readings.iter().enumerate() {
+        let measure = reading.measure(run.phase).expect("an accepted reading converts");
+        let passed = measure.map(|measure| {
+            controller::pass(&run.settings, measure, &fleet(&units), &mut requests)
+                .expect("an accepted fleet takes a pass")
+        });
+        let mut records = Vec::new();
+        for (i, unit) in units.iter_mut().enumerate() {
+            let stepped = storage::step(run.seconds, unit, requests[i]).expect("a pass keeps to the ratings");
+            unit.stored = stepped.stored;
+            records.push(Record { step: step as u32, unit: i as u8, request: requests[i], stepped });
+        }
+        steps.push(Step { passed, records });
+    }
+    steps
+}
+
+fn put_record(result: &mut Vec<u8>, record: &Record) {
+    put_u8(result, RECORD);
+    put_u16(result, RECORD_LENGTH);
+    put_u32(result, record.step);
+    put_u8(result, record.unit);
+    put_i32(result, record.request);
+    put_f64(result, kw(record.stepped.watts));
+    put_i32(result, record.stepped.vars);
+    put_u64(result, record.stepped.stored);
+    put_u64(result, record.stepped.loss);
+}
+
+/// The result file of a run's steps.
+pub fn result(steps: &[Step]) -> Vec<u8> {
+    let mut result = Vec::new();
+    for record in steps.iter().flat_map(|step| &step.records) {
+        put_record(&mut result, record);
+    }
+    put_u8(&mut result, LAST);
+    put_u16(&mut result, LAST_LENGTH);
+    put_u32(&mut result, steps.len() as u32);
+    result
+}
+
+/// The bytes of a run's result.
+fn length(run: &Run) -> usize {
+    40 * run.units.len() * run.readings.len() + 7
+}
+
+/// The bytes of room that a file's result needs; 0 for a refused file.
+pub fn room_needed(file: &[u8]) -> u64 {
+    stick::read(file).map_or(0, |run| length(&run) as u64)
+}
+
+/// What an accepted file says, if a room of so many bytes holds its result; or the refusal.
+pub fn accepted(file: &[u8], room: usize) -> Result<Run, Answer> {
+    let run = stick::read(file)?;
+    if room < length(&run) {
+        let steps = run.readings.len() as u32;
+        return Err(Answer { number: ROOM_TOO_SHORT, place: file.len() as u64, steps });
+    }
+    Ok(run)
+}
+
+/// The whole run: from a file and the length of the lent room to the result's bytes, or to the refusal.
+pub fn run(file: &[u8], room: usize) -> Result<Vec<u8>, Answer> {
+    accepted(file, room).map(|run| result(&steps(&run)))
+}
+
+#[cfg(test)]
+mod tests {
+    use super::*;
+    use crate::octets::{f64_at, i32_at, u16_at, u32_at, u64_at, u8_at};
+    use crate::reading::{Phases, Reading};
+    use crate::samples::sticks::{self, whole_case};
+    use crate::samples::units::figure_unit;
+    use crate::samples::{seasons, Draw};
+
+    fn hex(bytes: &[u8]) -> String {
+        bytes.iter().map(|byte| format!("{byte:02X}")).collect()
+    }
+
+    /// A reading of so many kW on the first phase.
+    fn power(kw: f64) -> Reading {
+        Reading::Power(Phases { first: kw, second: 0.0, third: 0.0 })
+    }
+
+    #[test]
+    fn the_whole_case() {
+        let file = sticks::file(&whole_case());
+        let expected = concat!(
+            "110025000000000000000000BFF000000000000000000000000000000036EE80000000000000EA60",
+            "1F000400000001"
+        );
+        assert_eq!(room_needed(&file), 47);
+        assert_eq!(hex(&run(&file, 47).unwrap()), expected);
+        assert_eq!(hex(&run(&file, usize::MAX).unwrap()), expected);
+    }
+
+    #[test]
+    fn zero_steps() {
+        let file = sticks::file(&sticks::with(&whole_case(), |run| run.readings.clear()));
+        assert_eq!(room_needed(&file), 7);
+        assert_eq!(hex(&run(&file, 7).unwrap()), "1F000400000000");
+        assert_eq!(run(&file, 6), Err(Answer { number: 11, place: file.len() as u64, steps: 0 }));
+    }
+
+    #[test]
+    fn a_room_one_byte_short_is_refused_after_the_whole_file_is_accepted() {
+        let file = sticks::file(&whole_case());
+        for room in [0, 1, 7, 40, 46] {
+            assert_eq!(run(&file, room), Err(Answer { number: 11, place: file.len() as u64, steps: 1 }));
+        }
+        let mut wrong = file.clone();
+        wrong.push(0);
+        assert_eq!((run(&wrong, 0), room_needed(&wrong)), (Err(stick::check(&wrong)), 0));
+        assert_eq!(stick::check(&wrong).number, 9);
+        assert_eq!((run(&[], 100), room_needed(&[])), (Err(Answer { number: 8, place: 0, steps: 0 }), 0));
+    }
+
+    /// Requests and watts of each unit, step by step.
+    fn asked_and_given(run: &Run) -> Vec<Vec<(i32, i32)>> {
+        let of = |step: &Step| step.records.iter().map(|r| (r.request, r.stepped.watts)).collect();
+        steps(run).iter().map(of).collect()
+    }
+
+    /// A missing first reading leaves the requests at zero, a later one leaves them as they stand.
+    #[test]
+    fn requests_stand_where_a_reading_is_missing() {
+        let run = Run {
+            seconds: 60,
+            units: vec![figure_unit(500_000)],
+            settings: controller::Settings { mode: 1, target: 700, band: 20, factor: 1_000 },
+            phase: 0,
+            readings: vec![
+                Reading::Missing,
+                power(1.1),
+                Reading::Missing,
+                power(0.6),
+                Reading::Missing,
+                power(0.2),
+                Reading::Missing,
+            ],
+        };
+        // The idle draw is 12 W; a request of 400 W falls by what the load is below the target, and to 0.
+        let asked = [0, 400, 400, 300, 300, 0, 0];
+        let given = [-12, 400, 400, 300, 300, -12, -12];
+        let both: Vec<_> = asked.into_iter().zip(given).map(|both| vec![both]).collect();
+        assert_eq!(asked_and_given(&run), both);
+        assert!(steps(&run)[2].passed.is_none());
+    }
+
+    /// The pass sees the stores that the step before left: the fleet stops when it has run empty.
+    #[test]
+    fn a_fleet_runs_down_to_its_reserve_and_stops() {
+        let mut run = Run {
+            seconds: 60,
+            units: vec![figure_unit(75_750 + 75_749)],
+            settings: controller::Settings { mode: 1, target: 0, band: 0, factor: 1_000 },
+            phase: 1,
+            readings: vec![power(0.9), power(0.0001), power(0.0001), power(1.0)],
+        };
+        // The second step has one joule too few for 900 W and leaves some; the fleet is not yet exhausted.
+        assert_eq!(asked_and_given(&run)[..2], [[(900, 900)], [(900, 899)]]);
+        let left = steps(&run)[1].records[0].stepped.stored;
+        assert!(left > 100_000);
+        assert_eq!(asked_and_given(&run)[2..], [[(900, -12)], [(1_900, -12)]]);
+
+        // Stored and reserve are equal after one step: rule 4 takes the request back.
+        run.units = vec![figure_unit(75_750)];
+        assert_eq!(asked_and_given(&run), [[(900, 900)], [(0, -12)], [(0, -12)], [(0, -12)]]);
+        assert_eq!(steps(&run)[1].passed.unwrap().rule, 4);
+    }
+
+    /// The request of the record is the controller's, also beyond S.
+    #[test]
+    fn the_record_holds_the_request_and_not_what_is_left_of_it() {
+        let unit = Unit { kva: 300, var_request: -400, ..figure_unit(500_000) };
+        let run = Run {
+            seconds: 60,
+            units: vec![unit, Unit { priority: 1, ..unit }],
+            settings: controller::Settings { mode: 2, target: 1_000, band: 0, factor: 1_000 },
+            phase: 5,
+            readings: vec![power(0.0)],
+        };
+        let file = sticks::file(&run);
+        let bytes = super::run(&file, 87).unwrap();
+        let number = |at: usize| (u32_at(&bytes, at + 3), u8_at(&bytes, at + 7), i32_at(&bytes, at + 8));
+        assert_eq!((number(0), number(40)), ((Some(0), Some(0), Some(500)), (Some(0), Some(1), Some(500))));
+        assert_eq!((f64_at(&bytes, 12), i32_at(&bytes, 20)), (Some(0.3), Some(0)));
+        assert_eq!((f64_at(&bytes, 52), i32_at(&bytes, 60)), (Some(-0.012), Some(-299)));
+    }
+
+    /// Every step goes on from the step before: its stores, and where a reading is missing its requests.
+    #[test]
+    fn each_step_goes_on_from_the_one_before() {
+        let mut draw = Draw::from_seed(81);
+        let (mut standing, mut moved) = (0, 0);
+        for round in 0..600 {
+            let run = seasons::run(1 + round % 8, 2 + round % 20, &mut draw);
+            let steps = steps(&run);
+            assert_eq!(steps.len(), run.readings.len());
+            let mut stored: Vec<u64> = run.units.iter().map(|unit| unit.stored).collect();
+            let mut requests = vec![0; run.units.len()];
+            for (reading, step) in run.readings.iter().zip(&steps) {
+                let new: Vec<i32> = step.records.iter().map(|record| record.request).collect();
+                if let Reading::Missing = reading {
+                    assert_eq!(new, requests);
+                    standing += u32::from(new.iter().any(|&request| request != 0));
+                }
+                for (unit, record) in run.units.iter().zip(&step.records) {
+                    let before = Unit { stored: stored[usize::from(record.unit)], ..*unit };
+                    assert_eq!(storage::step(run.seconds, &before, record.request), Ok(record.stepped));
+                    moved += u32::from(before.stored != record.stepped.stored);
+                }
+                stored = step.records.iter().map(|record| record.stepped.stored).collect();
+                requests = new;
+            }
+        }
+        assert!(standing > 500 && moved > 5_000, "{standing} {moved}");
+    }
+
+    /// The rules that hold for every file: the length, the order of the records, and the end.
+    #[test]
+    fn the_form_of_a_result() {
+        let mut draw = Draw::from_seed(82);
+        for units in 1..=64 {
+            let count = draw.below(6) as usize;
+            let run = seasons::run(units, count, &mut draw);
+            let file = sticks::file(&run);
+            let bytes = super::run(&file, 40 * units * count + 7).unwrap();
+            assert_eq!((bytes.len(), room_needed(&file)), (40 * units * count + 7, bytes.len() as u64));
+            for (i, record) in bytes.chunks(40).take(units * count).enumerate() {
+                assert_eq!((u8_at(record, 0), u16_at(record, 1)), (Some(0x11), Some(37)));
+                let place = (u32_at(record, 3).unwrap() as usize, usize::from(u8_at(record, 7).unwrap()));
+                assert_eq!(place, (i / units, i % units));
+                assert!(u64_at(record, 24).unwrap() <= run.units[i % units].rated);
+            }
+            let end = &bytes[bytes.len() - 7..];
+            assert_eq!((&end[..3], u32_at(end, 3)), (&[0x1F, 0, 4][..], Some(count as u32)));
+        }
+    }
+}
