@@ -17,6 +17,9 @@
 /* Larger than any frame of the tests; a broken length is caught before it is believed. */
 #define MOST_PAYLOAD (64u << 20)
 
+/* Longer than any room of the tests. */
+#define MOST_ROOM (64u << 20)
+
 /* What an out-number holds before a call, so that a test can see that it was left alone; all of its bytes
 ** are equal, for numbers of other widths.
 */
@@ -46,16 +49,29 @@ static struct {
     size_t used, room;
 } answer;
 
+/* Sees to it that so many more bytes fit the answer. */
+static void make_room(size_t length)
+{
+    if (answer.room - answer.used >= length)
+        return;
+    answer.room = 2 * answer.room + length + 4096;
+    answer.bytes = realloc(answer.bytes, answer.room);
+    if (answer.bytes == NULL)
+        give_up("no memory for an answer");
+}
+
 static void put(uint64_t n, int width)
 {
-    if (answer.room - answer.used < (size_t)width) {
-        answer.room = 2 * answer.room + 4096;
-        answer.bytes = realloc(answer.bytes, answer.room);
-        if (answer.bytes == NULL)
-            give_up("no memory for an answer");
-    }
+    make_room((size_t)width);
     for (int i = 0; i < width; i++)
         answer.bytes[answer.used++] = (uint8_t)(n >> 8 * i);
+}
+
+static void put_bytes(const uint8_t *bytes, size_t length)
+{
+    make_room(length);
+    memcpy(answer.bytes + answer.used, bytes, length);
+    answer.used += length;
 }
 
 /* 'W': any number of kW doubles by their bits, u64. For each the number, u32, and *watts after the call. */
@@ -106,12 +122,10 @@ enum { RATED, RESERVE, STORED, RATING, WEIGHT, REQUESTS, LISTS, FIRST = LISTS, S
 
 static const size_t widths[LISTS] = {8, 8, 8, 4, 2, 4};
 static struct lent lent[ALL_LENT];
-static struct lent lent_file;
+static struct lent lent_file, lent_room;
 
-/* Puts bytes between guards and gives the address to lend. The archive's numbers are little-endian in
-** memory, as those of a frame are.
-*/
-static void *lend(struct lent *lent, const uint8_t *bytes, size_t length)
+/* Memory of a length between guards; what it holds is still to be filled in and then kept. */
+static uint8_t *between_guards(struct lent *lent, size_t length)
 {
     size_t whole = length + 2 * GUARD;
     if (lent->room < whole) {
@@ -123,10 +137,36 @@ static void *lend(struct lent *lent, const uint8_t *bytes, size_t length)
     }
     lent->length = length;
     memset(lent->memory, GUARD_BYTE, whole);
-    if (length != 0)
-        memcpy(lent->memory + GUARD, bytes, length);
-    memcpy(lent->copy, lent->memory, whole);
     return lent->memory + GUARD;
+}
+
+/* Copies all of it as it is before the call, and gives the address to lend. */
+static void *keep(struct lent *lent)
+{
+    memcpy(lent->copy, lent->memory, lent->length + 2 * GUARD);
+    return lent->memory + GUARD;
+}
+
+/* Puts bytes between guards and gives the address to lend. The archive's numbers are little-endian in
+** memory, as those of a frame are.
+*/
+static void *lend(struct lent *lent, const uint8_t *bytes, size_t length)
+{
+    uint8_t *memory = between_guards(lent, length);
+    if (length != 0)
+        memcpy(memory, bytes, length);
+    return keep(lent);
+}
+
+/* A room whose bytes before the call are the fill, that and 7, that and 14, and so on: no byte is like the
+** next, so that a shifted copy is seen as well.
+*/
+static void *lend_room(size_t length, uint8_t fill)
+{
+    uint8_t *room = between_guards(&lent_room, length);
+    for (size_t i = 0; i < length; i++)
+        room[i] = (uint8_t)(fill + 7 * i);
+    return keep(&lent_room);
 }
 
 static void *lend_number(struct lent *lent, size_t width)
@@ -299,6 +339,26 @@ static void call_value(const uint8_t *payload, size_t length)
     }
 }
 
+/* 'R': any number of runs. Each is the room's length u32, its fill u8, and the file; for each the room that
+** the file needs u64; the run's number u32; 1 if the file or a guard was written, u8; and all bytes of the room.
+*/
+static void call_run(const uint8_t *payload, size_t length)
+{
+    struct rest rest = {payload, length, "op R: the payload is no row of rooms and files"};
+    while (rest.length != 0) {
+        uint64_t room_len = take_number(&rest, 4);
+        uint8_t fill = (uint8_t)take_number(&rest, 1);
+        if (room_len > MOST_ROOM)
+            give_up("op R: a room is too long");
+        const uint8_t *file = take_file(&rest);
+        uint8_t *room = lend_room(room_len, fill);
+        put(yb_run_room(file, lent_file.length), 8);
+        put(yb_run(file, lent_file.length, room, room_len), 4);
+        put((uint64_t)(disturbed_one(&lent_file, 1) || disturbed_one(&lent_room, 0)), 1);
+        put_bytes(room, room_len);
+    }
+}
+
 static const struct {
     uint8_t op;
     void (*call)(const uint8_t *payload, size_t length);
@@ -309,6 +369,7 @@ static const struct {
     {'S', call_step},
     {'C', call_check},
     {'V', call_value},
+    {'R', call_run},
 };
 
 static void dispatch(uint8_t op, const uint8_t *payload, size_t length)
