@@ -1,9 +1,9 @@
 //! Writes the stored cases: `cases CASES ANSWERS`.
 //!
 //! CASES is a row of records, each a kind byte, a two-byte length and the payload, all big-endian.
-//! ANSWERS has a line for each record: the refusal number, and where it is 0 the results after it; of kind
-//! 'C' always three numbers. The same files come out every time, so that the gate can compare them with the
-//! stored ones.
+//! ANSWERS has a line for each record: the refusal number, and where it is 0 the results after it; of kinds
+//! 'C' and 'R' always three numbers. The same files come out every time, so that the gate can compare them with
+//! the stored ones.
 
 use std::fmt::Display;
 use std::process::ExitCode;
@@ -15,10 +15,15 @@ use yesbrulka_reference::reading::{self, Phases, Reading};
 use yesbrulka_reference::samples::fleets::{self, PassCall, StudyCall};
 use yesbrulka_reference::samples::sticks::{self, Field};
 use yesbrulka_reference::samples::units::{self, StepCall};
-use yesbrulka_reference::samples::{self, Draw};
-use yesbrulka_reference::stick::{self, Answer};
+use yesbrulka_reference::samples::{self, seasons, Draw};
+use yesbrulka_reference::season;
+use yesbrulka_reference::stick::{self, Answer, Run};
 use yesbrulka_reference::storage::{self, Stepped};
 use yesbrulka_reference::whole;
+
+/// What the Rattle program has room for: a run's payload, and the room that it lends.
+const MOST_PAYLOAD: usize = 16_384;
+const MOST_ROOM: usize = 8_192;
 
 /// The two files as they grow.
 #[derive(Default)]
@@ -171,6 +176,31 @@ impl Cases {
         payload.extend_from_slice(file);
         let part = stick::value_part(file, place.into());
         self.add(b'V', &payload, Ok(&[part.start, part.len()]));
+    }
+
+    /// 'R': the length of the lent room u16, and a file's bytes; the run's number, place and steps, and where
+    /// the number is 0 the result's bytes, two lower-case hexadecimal digits each.
+    fn run(&mut self, room: usize, file: &[u8]) {
+        assert!(room <= MOST_ROOM && file.len() + 2 <= MOST_PAYLOAD, "a run that the program has room for");
+        let mut payload = Vec::new();
+        put_u16(&mut payload, room as u16);
+        payload.extend_from_slice(file);
+        let result = season::run(file, room);
+        let Answer { number, place, steps } =
+            result.as_ref().err().copied().unwrap_or_else(|| stick::check(file));
+        let mut line = format!("{number} {place} {steps}");
+        if let Ok(result) = result {
+            line.push(' ');
+            line.extend(result.iter().map(|byte| format!("{byte:02x}")));
+        }
+        self.add_line(b'R', &payload, &line);
+    }
+
+    /// The same of a run and so much more room than it needs, or less.
+    fn run_of(&mut self, more: isize, run: &Run) {
+        let file = sticks::file(run);
+        let room = season::room_needed(&file) as isize + more;
+        self.run(room.max(0) as usize, &file);
     }
 }
 
@@ -573,6 +603,88 @@ fn value_part_cases(cases: &mut Cases) {
     }
 }
 
+/// Runs of few steps, to keep the stored files small.
+fn run_cases(cases: &mut Cases) {
+    let mut draw = Draw::from_seed(12);
+    let whole = sticks::whole_case();
+    let none = sticks::with(&whole, |run| run.readings.clear());
+    for more in [0, -1, 1, 1_000, -1_000] {
+        cases.run_of(more, &whole);
+        cases.run_of(more, &none);
+    }
+    cases.run(MOST_ROOM, &sticks::file(&whole));
+    // Fleets of many sizes, the largest with as many steps as the room takes.
+    for units in (1..=12).chain([16, 24, 31, 32, 33, 48, 63, 64]) {
+        let steps = if units == 64 { 3 } else { 1 + units % 3 };
+        cases.run_of(0, &seasons::run(units, steps, &mut draw));
+    }
+    // Every mode and phase choice, with energies that run out.
+    for mode in 1..=3 {
+        for phase in 0..=5 {
+            let run = loop {
+                let run = seasons::run(2, 5, &mut draw);
+                if (run.settings.mode, run.phase) == (mode, phase) {
+                    break run;
+                }
+            };
+            cases.run_of(0, &run);
+        }
+    }
+    // Every row of missing readings over three steps.
+    let steady = loop {
+        let run = seasons::run(1, 3, &mut draw);
+        let asked = |step: &season::Step| step.passed.is_some() && step.records[0].request != 0;
+        if season::steps(&run).iter().all(asked) {
+            break run;
+        }
+    };
+    for pattern in 0..8 {
+        let masked = sticks::with(&steady, |run| {
+            let missing = (0..3).filter(|step| pattern >> step & 1 == 1);
+            missing.for_each(|step| run.readings[step] = Reading::Missing);
+        });
+        cases.run_of(0, &masked);
+    }
+    // Values at the ends of their ranges.
+    let run = seasons::run(1, 2, &mut draw);
+    for end in units::ENDS {
+        cases.run_of(0, &sticks::with_unit(&run, 0, end));
+    }
+    for end in sticks::SETTINGS_ENDS {
+        cases.run_of(0, &sticks::with(&run, end));
+    }
+    // Rooms that fit, are longer, or fall short.
+    for round in 0..90 {
+        let (units, steps) = (1 + round % 3, draw.below(7) as usize);
+        let more = draw.one_of(&[0, 0, 0, 1, 40, -1, -40]);
+        cases.run_of(more, &seasons::run(units, steps, &mut draw));
+    }
+    // Refused files, where the room would do.
+    for _ in 0..24 {
+        cases.run(400, &sticks::damaged_file(&mut draw));
+        cases.run(draw.below(300) as usize, &sticks::shuffled_file(&mut draw));
+    }
+    let file = sticks::file(&steady);
+    let (end, room) = (file.len() - 7, 127);
+    for length in [0, 2, 9, 61, 75, 76, 103, end - 1, end, end + 6] {
+        cases.run(room, &file[..length]);
+    }
+    cases.run(room, &[&file[..], &[0]].concat());
+    cases.run(0, &[&file[..], &file[..]].concat());
+    for (i, bits) in sticks::bad_powers(&mut draw).into_iter().enumerate() {
+        let bad = sticks::bad_reading(i % 3, bits, &mut draw);
+        cases.run(room, &sticks::file(&sticks::with(&steady, |run| run.readings[i % 3] = bad)));
+    }
+    for count in sticks::bad_counts(3) {
+        cases.run(room, &[&file[..end], &sticks::bytes(&[sticks::end_field(count)])].concat());
+    }
+    for _ in 0..6 {
+        let spoil = draw.one_of(&units::BAD_VALUES);
+        cases.run(room, &sticks::file(&sticks::with_unit(&steady, 0, spoil)));
+        cases.run(room, &sticks::file(&sticks::with(&steady, draw.one_of(&sticks::BAD_SETTINGS))));
+    }
+}
+
 fn main() -> ExitCode {
     let names: Vec<_> = env::args_os().skip(1).collect();
     if names.len() != 2 {
@@ -591,6 +703,7 @@ fn main() -> ExitCode {
     step_cases(&mut cases);
     check_cases(&mut cases);
     value_part_cases(&mut cases);
+    run_cases(&mut cases);
     for (name, bytes) in names.iter().zip([cases.records.as_slice(), cases.answers.as_bytes()]) {
         if let Err(error) = fs::write(name, bytes) {
             eprintln!("cases: {}: {error}", name.to_string_lossy());
