@@ -1,7 +1,8 @@
 //! Writes the sample sticks: `sticks FOLDER`.
 //!
-//! `season.stick` is complete; each of the others is that stick, or one like it, after one thing that happens to
-//! sticks. The same files come out every time, so that the gate can compare them with the stored ones.
+//! `season.stick` and `harvest.stick` are complete; each of the others is the first of these, or one like it,
+//! after one thing that happens to sticks. The same files come out every time, so that the gate can compare them
+//! with the stored ones.
 
 use std::path::PathBuf;
 use std::process::ExitCode;
@@ -92,6 +93,97 @@ fn reading(step: usize) -> Reading {
     Reading::Power(Phases { first: kw(0), second: kw(1), third: kw(2) })
 }
 
+/// Four farms at harvest, their stores full of the summer's sun: the dairy's large battery, the grain dryer's, a
+/// workshop's that gives vars before watts, and a small one at the pumps, which is asked for more than it holds.
+fn harvest() -> Run {
+    let kwh = 3_600_000;
+    let dairy = Unit {
+        rated: 2_600 * kwh,
+        reserve: 260 * kwh,
+        stored: 2_450 * kwh,
+        rating: 60_000,
+        kva: 66_000,
+        idle_loss: 400,
+        var_request: 12_000,
+        weight: 5,
+        inverter: 9_700,
+        charge: 9_600,
+        discharge: 9_600,
+        priority: 0,
+    };
+    let dryer = Unit {
+        rated: 1_600 * kwh,
+        reserve: 160 * kwh,
+        stored: 1_550 * kwh,
+        rating: 30_000,
+        kva: 30_000,
+        idle_loss: 250,
+        var_request: -9_000,
+        weight: 3,
+        inverter: 9_600,
+        charge: 9_500,
+        discharge: 9_450,
+        priority: 0,
+    };
+    let workshop = Unit {
+        rated: 900 * kwh,
+        reserve: 90 * kwh,
+        stored: 880 * kwh,
+        rating: 12_000,
+        kva: 10_000,
+        idle_loss: 80,
+        var_request: 8_000,
+        weight: 2,
+        inverter: 9_500,
+        charge: 9_300,
+        discharge: 9_300,
+        priority: 1,
+    };
+    let pumps = Unit {
+        rated: 150 * kwh,
+        reserve: 30 * kwh,
+        stored: 150 * kwh,
+        rating: 15_000,
+        kva: 16_000,
+        idle_loss: 90,
+        var_request: 0,
+        weight: 2,
+        inverter: 9_400,
+        charge: 9_200,
+        discharge: 9_200,
+        priority: 0,
+    };
+    Run {
+        seconds: 3_600,
+        units: vec![dairy, dryer, workshop, pumps],
+        settings: Settings { mode: 1, target: 90_000, band: 4_000, factor: 600 },
+        phase: 0,
+        readings: (0..STEPS).map(harvest_reading).collect(),
+    }
+}
+
+/// An hour of the harvest: peaks at the milkings, a dryer that runs into the night in the second week, and a meter
+/// that was silent for one evening, in the middle of a peak, and a few times more.
+fn harvest_reading(step: usize) -> Reading {
+    let (day, hour) = (step / 24, step % 24);
+    if day == 4 && (18..22).contains(&hour) || step % 89 == 7 {
+        return Reading::Missing;
+    }
+    // In tenths of a kW, of all three phases. The meter is behind the batteries: once these give, it shows less.
+    let load = match hour {
+        6 => 1_330,
+        7..=8 => 935,
+        17 => 1_420,
+        18..=20 => 925,
+        9..=16 => 610,
+        21..=23 if day >= 7 => 880,
+        _ => 450,
+    };
+    let noise = ((step * 61 + day * 29) % 97) as i32 - 40;
+    let kw = |part: i32| f64::from((load + noise) * part / 10) / 100.0;
+    Reading::Power(Phases { first: kw(38), second: kw(35), third: kw(27) })
+}
+
 /// The name of each stick, the number that its check gives, and its bytes.
 fn examples() -> Vec<(&'static str, u32, Vec<u8>)> {
     let run = season();
@@ -110,6 +202,7 @@ fn examples() -> Vec<(&'static str, u32, Vec<u8>)> {
 
     vec![
         ("season.stick", 0, whole.clone()),
+        ("harvest.stick", 0, sticks::file(&harvest())),
         // The copy stopped in the middle of a reading.
         ("refused-01-cut-short.stick", 1, whole[..place(READINGS + 200) + 14].to_vec()),
         // A tag's highest bit has flipped.
@@ -164,6 +257,7 @@ fn main() -> ExitCode {
 #[cfg(test)]
 mod tests {
     use super::*;
+    use yesbrulka_reference::season::{self, Step};
     use yesbrulka_reference::stick;
 
     #[test]
@@ -177,7 +271,7 @@ mod tests {
     #[test]
     fn every_number_that_a_file_can_have_is_there() {
         let numbers: Vec<u32> = examples().iter().map(|&(_, number, _)| number).collect();
-        assert_eq!(numbers, [0, 1, 2, 3, 4, 5, 6, 7, 8, 9, 12]);
+        assert_eq!(numbers, [0, 0, 1, 2, 3, 4, 5, 6, 7, 8, 9, 12]);
     }
 
     #[test]
@@ -187,5 +281,25 @@ mod tests {
         assert_eq!((run.units.len(), run.readings.len(), missing), (3, STEPS, 9));
         let measures: Vec<i64> = run.readings.iter().filter_map(|r| r.measure(run.phase).unwrap()).collect();
         assert!(measures.iter().any(|&m| m > 120_000) && measures.iter().any(|&m| m < 0));
+    }
+
+    /// What a reader of the harvest's result is to see: peaks that are shaved, requests that stand through a silent
+    /// meter, vars that cut watts, and one unit that runs down to its reserve while the others last.
+    #[test]
+    fn the_harvest_is_worth_reading() {
+        let run = stick::read(&sticks::file(&harvest())).unwrap();
+        let steps = season::steps(&run);
+        let of = |step: &Step, unit: usize| (step.records[unit].request, step.records[unit].stepped);
+        let idle = |unit: usize| {
+            let left_asking = |step: &&Step| of(step, unit).0 > 0 && of(step, unit).1.watts < 0;
+            steps.iter().filter(left_asking).count()
+        };
+        assert_eq!([0, 1, 2].map(idle), [0; 3]);
+        assert!(idle(3) > 50, "{}", idle(3));
+        let standing = steps.iter().filter(|step| step.passed.is_none() && of(step, 0).0 > 0).count();
+        assert!(standing >= 4, "{standing}");
+        assert!(steps.iter().any(|step| of(step, 2).0 > 6_000 && of(step, 2).1.watts == 6_000));
+        let quiet = steps.iter().filter(|step| step.records.iter().all(|record| record.request == 0)).count();
+        assert!((100..250).contains(&quiet), "{quiet}");
     }
 }
