@@ -1,5 +1,7 @@
-//! A check in tight ordinary Rust as a C function, so that the bench can call it beside the proved one.
+//! The check and the run in tight ordinary Rust as C functions, so that the bench can call them beside the
+//! proved ones.
 
+mod run;
 mod tight;
 
 use std::slice;
@@ -15,4 +17,15 @@ pub unsafe extern "C" fn ref_check(file: *const u8, len: usize, place: *mut u64,
     *place = answer.place;
     *steps = answer.steps;
     answer.number
+}
+
+/// The run of a whole file into a lent room: returns its number.
+///
+/// # Safety
+///
+/// `file` points to `len` bytes and `room` to `room_len` bytes that may be written; neither is null, and they do
+/// not overlap.
+#[no_mangle]
+pub unsafe extern "C" fn ref_run(file: *const u8, len: usize, room: *mut u8, room_len: usize) -> u32 {
+    run::run(slice::from_raw_parts(file, len), slice::from_raw_parts_mut(room, room_len))
 }
