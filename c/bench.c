@@ -1,13 +1,18 @@
-/* Times the proved check beside one in ordinary Rust, both on the same files in this one process, and shows how the
-** time grows with the file.
+/* Times the proved check and the proved run beside ones in ordinary Rust, both on the same files in this one process,
+** and shows how the check's time grows with the file.
 **
-** Every file is made here and has 64 units. With 65,535 steps of 27 bytes it has 1,772,804 bytes and is the
-** largest complete file there is; the smaller ones have an eighth, a quarter and half of its steps. The last file
-** is the largest complete one with other bytes after it, up to the limit of 2,097,152: it takes the same work and
-** is refused where it should have ended.
+** Every file is made here. Those of the check have 64 units. With 65,535 steps of 27 bytes such a file has 1,772,804
+** bytes and is the largest complete file there is; the smaller ones have an eighth, a quarter and half of its steps.
+** The last file is the largest complete one with other bytes after it, up to the limit of 2,097,152: it takes the
+** same work and is refused where it should have ended.
 **
-** Exit status 0 if both checks gave the right number, place and steps for each file, 1 if one did not, 2 if there
-** is no clock or the lines cannot be written. The times do not matter for it.
+** Those of the run have a year of hours, for 1, 8 and 64 units, once for a fleet that gives at the load's peaks and
+** once for one that takes in its valleys. Each reading changes the requests, but for some within the band and for one
+** in fifty that is missing; units of all kinds are among them, and part of them are empty or full before the year is
+** over. The runs include the check of the file.
+**
+** Exit status 0 if both checks gave the right number, place and steps for each file and both runs the same result, 1
+** if one did not, 2 if there is no clock or the lines cannot be written. The times do not matter for it.
 */
 #define _POSIX_C_SOURCE 200809L /* for clock_gettime */
 #include <inttypes.h>
@@ -19,10 +24,16 @@
 
 #include "yesbrulka.h"
 
-#define UNITS 64
+#define MOST_UNITS 64
 #define MOST_STEPS 65535
 #define MOST_BYTES 2097152
 #define BYTES_AFTER_END 9
+
+/* A year of hours, and a record of its result. */
+#define YEAR 8760
+#define HOUR 3600
+#define RECORD 40
+#define MOST_ROOM (RECORD * MOST_UNITS * YEAR + 7)
 
 /* The complete files, each but the last with half of the next one's steps. */
 #define COMPLETE 4
@@ -30,8 +41,11 @@
 /* An odd number, so that the median is one of the times. On a loaded machine the least is the better figure. */
 #define ROUNDS 9
 
-/* The check in tight ordinary Rust, from reference/bench: returns the number, and stores the place and the steps. */
+/* The check in tight ordinary Rust, from reference/bench: returns the number, and stores the place and the steps.
+** The run there is called like the archive's.
+*/
 uint32_t ref_check(const uint8_t *file, size_t len, uint64_t *place, uint32_t *steps);
+uint32_t ref_run(const uint8_t *file, size_t len, uint8_t *room, size_t room_len);
 
 struct answer {
     uint32_t number, steps;
@@ -43,7 +57,13 @@ struct times {
     double median, least;
 };
 
-/* One line of the table: the right answer for a file, and how long both took. */
+/* Both of them, and the median of the ratios of each round. */
+struct pair {
+    struct times archive, reference;
+    double ratio;
+};
+
+/* One line of the check's table: the right answer for a file, and how long both took. */
 struct row {
     struct answer right;
     struct times archive, reference;
@@ -51,6 +71,10 @@ struct row {
 
 static uint8_t file[MOST_BYTES];
 static size_t file_len;
+
+/* The room that is lent to a run, and the result that the archive left in it. */
+static uint8_t room[MOST_ROOM], kept[MOST_ROOM];
+static size_t room_len;
 
 static _Noreturn void give_up(const char *why)
 {
@@ -71,13 +95,13 @@ static void put_head(uint8_t tag, uint16_t length)
     put(length, 2);
 }
 
-/* Edition 1, the units, and steps of a minute. */
-static void put_fleet(void)
+/* Edition 1, the units, and the steps' length. */
+static void put_fleet(int units, uint32_t seconds)
 {
     put_head(0x01, 6);
     put(1, 1);
-    put(UNITS, 1);
-    put(60, 4);
+    put((uint64_t)units, 1);
+    put(seconds, 4);
 }
 
 /* A unit of 20 kWh, half full. */
@@ -98,33 +122,45 @@ static void put_unit(void)
     put(0, 1); /* priority */
 }
 
-static void put_settings(void)
+/* The sum of the phases is the measure. */
+static void put_settings(int mode, uint32_t target, uint32_t band, uint32_t factor)
 {
     put_head(0x03, 12);
-    put(1, 1); /* mode, target, band, factor, phase choice */
-    put(50000, 4);
-    put(1000, 4);
-    put(500, 2);
+    put((uint64_t)mode, 1);
+    put(target, 4);
+    put(band, 4);
+    put(factor, 2);
     put(0, 1);
 }
 
-/* A power as a meter sends it: up to 100 kW either way, with three decimals. Always the same row of them. */
-static double next_kw(uint64_t *state)
+/* A number below n; always the same row of them. */
+static uint32_t draw(uint64_t *state, uint32_t n)
 {
     *state = *state * 6364136223846793005u + 1442695040888963407u;
-    int32_t watts = (int32_t)((*state >> 33) % 200001) - 100000;
-    return watts / 1000.0;
+    return (uint32_t)((*state >> 33) % n);
 }
 
+/* A power as a meter sends it, in kW with three decimals. */
+static void put_kw(int32_t watts)
+{
+    double kw = watts / 1000.0;
+    uint64_t bits;
+    memcpy(&bits, &kw, sizeof bits);
+    put(bits, 8);
+}
+
+/* Up to 100 kW either way on each phase. */
 static void put_power(uint64_t *state)
 {
     put_head(0x04, 24);
-    for (int phase = 0; phase < 3; phase++) {
-        double kw = next_kw(state);
-        uint64_t bits;
-        memcpy(&bits, &kw, sizeof bits);
-        put(bits, 8);
-    }
+    for (int phase = 0; phase < 3; phase++)
+        put_kw((int32_t)draw(state, 200001) - 100000);
+}
+
+static void put_end(uint32_t steps)
+{
+    put_head(0x7F, 4);
+    put(steps, 4);
 }
 
 /* Makes a complete file and gives its right answer. */
@@ -132,14 +168,13 @@ static struct answer make_complete(uint32_t steps)
 {
     uint64_t state = 1;
     file_len = 0;
-    put_fleet();
-    for (int unit = 0; unit < UNITS; unit++)
+    put_fleet(MOST_UNITS, 60);
+    for (int unit = 0; unit < MOST_UNITS; unit++)
         put_unit();
-    put_settings();
+    put_settings(1, 50000, 1000, 500);
     for (uint32_t step = 0; step < steps; step++)
         put_power(&state);
-    put_head(0x7F, 4);
-    put(steps, 4);
+    put_end(steps);
     return (struct answer){0, steps, file_len};
 }
 
@@ -151,6 +186,63 @@ static struct answer make_overlong(void)
     while (file_len < MOST_BYTES)
         put(0xFF, 1);
     return right;
+}
+
+/* Unit i of a year's fleet: no two neighbours are alike in power, losses, vars or priority. The energies are those of
+** many weeks, since no mode brings back what another moved; the smallest store is empty or full in the spring.
+*/
+static void put_year_unit(int i, int mode)
+{
+    uint64_t rated = (mode == 3 ? 4000000000u : 9000000000u) * (uint64_t)(4 - i % 4) + 1000000000u * (uint64_t)(i % 7);
+    uint32_t rating = 8000 + 500 * (uint32_t)(i % 5);
+    uint32_t kva = rating + rating / 10;
+    /* None, some, or so many that the circle cuts them. */
+    int32_t vars = i % 3 == 0 ? 0 : i % 3 == 1 ? (int32_t)kva / 3 : -(int32_t)kva * 9 / 10;
+    put_head(0x02, 49);
+    put(rated, 8); /* rated, reserve and stored energy */
+    put(rated / 10, 8);
+    put(mode == 3 ? rated / 10 : rated, 8);
+    put(rating, 4); /* rating, kVA, idle loss, var request */
+    put(kva, 4);
+    put(20 + 10 * (uint64_t)(i % 6), 4);
+    put((uint32_t)vars, 4);
+    put(40 + 10 * (uint64_t)(i % 7), 2); /* weight */
+    put(9400 + 100 * (uint64_t)(i % 5), 2); /* efficiencies: inverter, charge, discharge */
+    put(9500 + 100 * (uint64_t)(i % 4), 2);
+    put(9500 + 100 * (uint64_t)(i % 3), 2);
+    put(i % 4 == 2, 1); /* priority */
+}
+
+/* What a farm draws at an hour, in watts for each unit of the fleet, and anything up to a kW less or more. */
+static void put_hour(uint32_t step, int units, uint64_t *state)
+{
+    static const int32_t curve[24] = {2100, 1900, 1800, 1900, 2600, 5200, 7400, 6800, 5300, 4100, 3600, 3300, 3500,
+        3400, 3600, 4200, 5600, 7300, 7600, 6100, 4600, 3700, 2900, 2400};
+    if (draw(state, 50) == 0) {
+        put_head(0x05, 0);
+        return;
+    }
+    int32_t watts = units * (curve[step % 24] + (int32_t)draw(state, 2001) - 1000);
+    put_head(0x04, 24);
+    put_kw(watts * 2 / 5);
+    put_kw(watts / 3);
+    put_kw(watts - watts * 2 / 5 - watts / 3);
+}
+
+/* Makes the file of a year in mode 1, which gives at the peaks, or 3, which takes in the valleys. */
+static void make_year(int units, int mode)
+{
+    uint64_t state = 2;
+    uint32_t each = (uint32_t)units;
+    file_len = 0;
+    put_fleet(units, HOUR);
+    for (int i = 0; i < units; i++)
+        put_year_unit(i, mode);
+    put_settings(mode, (mode == 3 ? 3200 : 4800) * each, 300 * each, 400);
+    for (uint32_t step = 0; step < YEAR; step++)
+        put_hour(step, units, &state);
+    put_end(YEAR);
+    room_len = RECORD * (size_t)units * YEAR + 7;
 }
 
 /* 1 if an answer is the right one, else 0 and a line that says what it is. */
@@ -183,19 +275,43 @@ static double now(void)
     return 1e9 * (double)t.tv_sec + (double)t.tv_nsec;
 }
 
-static double time_archive(void)
+static double time_check(void)
 {
     double start = now();
     yb_check(file, file_len);
     return now() - start;
 }
 
-static double time_reference(void)
+static double time_ref_check(void)
 {
     struct answer answer;
     double start = now();
     ref_check(file, file_len, &answer.place, &answer.steps);
     return now() - start;
+}
+
+typedef uint32_t run(const uint8_t *file, size_t len, uint8_t *room, size_t room_len);
+
+/* Every run finds the same room, cleared; a run that is refused has no time. */
+static double time_one_run(run *run)
+{
+    memset(room, 0, room_len);
+    double start = now();
+    uint32_t number = run(file, file_len, room, room_len);
+    double end = now();
+    if (number != 0)
+        give_up("a run that was accepted before is refused");
+    return end - start;
+}
+
+static double time_run(void)
+{
+    return time_one_run(yb_run);
+}
+
+static double time_ref_run(void)
+{
+    return time_one_run(ref_run);
 }
 
 static int by_size(const void *a, const void *b)
@@ -210,20 +326,19 @@ static struct times times_of(double rounds[ROUNDS])
     return (struct times){rounds[ROUNDS / 2], rounds[0]};
 }
 
-/* Times both on the file. They take turns, also at being first, so that whatever else the machine does slows
-** both alike.
-*/
-static struct row measure(struct answer right)
+/* Times both. They take turns, also at being first, so that whatever else the machine does slows both alike. */
+static struct pair measure(double (*time_archive)(void), double (*time_reference)(void))
 {
-    double archive[ROUNDS], reference[ROUNDS];
+    double archive[ROUNDS], reference[ROUNDS], ratio[ROUNDS];
     for (int round = 0; round < ROUNDS; round++) {
         if (round % 2 == 0)
             archive[round] = time_archive();
         reference[round] = time_reference();
         if (round % 2 != 0)
             archive[round] = time_archive();
+        ratio[round] = archive[round] / reference[round];
     }
-    return (struct row){right, times_of(archive), times_of(reference)};
+    return (struct pair){times_of(archive), times_of(reference), times_of(ratio).median};
 }
 
 /* For each byte before the answer's place; what comes after it is not looked at. */
@@ -237,7 +352,8 @@ static int show(struct answer right, struct row *row)
 {
     if (!both_right(right))
         return 0;
-    *row = measure(right);
+    struct pair pair = measure(time_check, time_ref_check);
+    *row = (struct row){right, pair.archive, pair.reference};
     double bytes = (double)right.place;
     printf("%8zu  %5" PRIu32 "  %6" PRIu32 "  %8" PRIu64, file_len, right.steps, right.number, right.place);
     show_times(row->archive.median, row->reference.median, bytes);
@@ -249,7 +365,7 @@ static int show(struct answer right, struct row *row)
 
 static void show_heading(void)
 {
-    printf("ns for each byte before the place, of %d rounds; the ratio is archive / reference.\n\n", ROUNDS);
+    printf("The check: ns for each byte before the place, of %d rounds; the ratio is archive / reference.\n\n", ROUNDS);
     printf("%33s  |  %-28s  |  least\n", "", "median");
     printf("%8s  %5s  %6s  %8s", "bytes", "steps", "number", "place");
     for (int i = 0; i < 2; i++)
@@ -269,6 +385,86 @@ static void show_growth(const struct row *rows, int count)
             row->reference.median / rows->reference.median, row->reference.least / rows->reference.least);
 }
 
+/* 1 if both runs are accepted and leave the same bytes, else 0 and a line that says what they did. */
+static int same_result(int units, int mode)
+{
+    memset(room, 0, room_len);
+    uint32_t archive = yb_run(file, file_len, room, room_len);
+    memcpy(kept, room, room_len);
+    memset(room, 0, room_len);
+    uint32_t reference = ref_run(file, file_len, room, room_len);
+    size_t at = 0;
+    while (at < room_len && room[at] == kept[at])
+        at++;
+    if (archive == 0 && reference == 0 && at == room_len)
+        return 1;
+    printf("WRONG: the run of %d units in mode %d: the archive's number is %" PRIu32 ", the reference's %" PRIu32
+        ", and the results are alike up to byte %zu of %zu\n", units, mode, archive, reference, at, room_len);
+    return 0;
+}
+
+static uint64_t stored_in(const uint8_t *record)
+{
+    uint64_t stored = 0;
+    for (int i = 24; i < 32; i++)
+        stored = stored << 8 | record[i];
+    return stored;
+}
+
+static int asked_in(const uint8_t *record)
+{
+    return (record[8] | record[9] | record[10] | record[11]) != 0;
+}
+
+/* Of all records of the result after the first step's, the parts in a hundred where the unit was asked, and where its
+** store moved: what the year was like.
+*/
+static void show_year(int units)
+{
+    size_t first = RECORD * (size_t)units, asked = 0, moved = 0, all = (size_t)units * (YEAR - 1);
+    for (const uint8_t *record = kept + first; record < kept + room_len - 7; record += RECORD) {
+        asked += (size_t)asked_in(record);
+        moved += stored_in(record) != stored_in(record - first);
+    }
+    printf("  %5zu  %5zu", 100 * asked / all, 100 * moved / all);
+}
+
+static int show_run(int units, int mode)
+{
+    make_year(units, mode);
+    if (!same_result(units, mode))
+        return 0;
+    struct pair pair = measure(time_run, time_ref_run);
+    double steps = (double)units * YEAR;
+    printf("%5d  %4d", units, mode);
+    show_year(units);
+    printf("  |  %8.1f  %9.1f  %7.4f", pair.archive.median / steps, pair.reference.median / steps, pair.ratio);
+    printf("  |  %8.1f  %9.1f  %7.4f\n", pair.archive.least / steps, pair.reference.least / steps,
+        pair.archive.least / pair.reference.least);
+    fflush(stdout);
+    return 1;
+}
+
+/* The runs of a year for each fleet. */
+static int show_runs(void)
+{
+    static const int fleets[] = {1, 8, 64};
+    int right = 1;
+    printf("\nThe run of %d steps: ns for each step of a unit, the check of the file included, of %d rounds.\n",
+        YEAR, ROUNDS);
+    printf("The ratio under median is the median of the rounds' own; asked and moved are the parts in a hundred of\n"
+        "the year in which a unit was asked for power, and in which its store moved.\n\n");
+    printf("%25s  |  %-28s  |  least\n", "", "median");
+    printf("%5s  %4s  %5s  %5s", "units", "mode", "asked", "moved");
+    for (int i = 0; i < 2; i++)
+        printf("  |  %8s  %9s  %7s", "archive", "reference", "ratio");
+    printf("\n");
+    for (size_t i = 0; i < sizeof fleets / sizeof fleets[0]; i++)
+        for (int mode = 1; mode <= 3; mode += 2)
+            right &= show_run(fleets[i], mode);
+    return right;
+}
+
 int main(void)
 {
     struct row rows[COMPLETE], overlong;
@@ -280,8 +476,10 @@ int main(void)
     if (right) {
         show_growth(rows, COMPLETE);
         printf("\nThe file of %" PRIu64 " bytes is the largest complete one; the last is the same with other bytes\n"
-            "after it. The reference here is ordinary Rust written to be quick (reference/bench/src/tight.rs).\n", overlong.right.place);
+            "after it.\n", overlong.right.place);
     }
+    right &= show_runs();
+    printf("\nThe reference here is ordinary Rust written to be quick (reference/bench/src/tight.rs, run.rs).\n");
     if (fflush(stdout) != 0 || ferror(stdout))
         give_up("the lines cannot be written");
     return right ? 0 : 1;

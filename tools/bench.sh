@@ -1,6 +1,6 @@
 #!/bin/bash
-# Builds and runs the bench: the archive's check beside one in tight ordinary Rust, in one process of x86-64 code. The
-# archive must be there already. Ends with 0, with 1 if an answer is wrong or the build fails, and with 2 if
+# Builds and runs the bench: the archive's check and run beside ones in tight ordinary Rust, in one process of x86-64
+# code. The archive must be there already. Ends with 0, with 1 if an answer is wrong or the build fails, and with 2 if
 # something that it needs cannot be had. The times decide nothing.
 set -eu
 cd "$(dirname "${BASH_SOURCE[0]}")/.."
@@ -52,7 +52,7 @@ rust_toolchain() {
 # The machine's own load spoils times, so that it stands beside them.
 heading() {
     if [ -n "$YB_EMULATOR" ]; then
-        echo "EMULATED: this machine is $(uname -m), and both checks ran as x86-64 code under the kit's emulator."
+        echo "EMULATED: this machine is $(uname -m), and all that is timed ran as x86-64 code under the kit's emulator."
         echo 'The times say little; the ratio of the two and the growth of each say something.'
     fi
     echo "$("$rustc" --version); $(nproc) cores, load $(cut -d ' ' -f 1-3 /proc/loadavg)"
