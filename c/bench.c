@@ -290,17 +290,19 @@ static double time_ref_check(void)
     return now() - start;
 }
 
-typedef uint32_t run(const uint8_t *file, size_t len, uint8_t *room, size_t room_len);
+typedef uint32_t run_call(const uint8_t *file, size_t len, uint8_t *room, size_t room_len);
 
-/* Every run finds the same room, cleared; a run that is refused has no time. */
-static double time_one_run(run *run)
+/* Every run finds the same room, cleared, and must leave the same result again. */
+static double time_one_run(run_call *run)
 {
     memset(room, 0, room_len);
     double start = now();
     uint32_t number = run(file, file_len, room, room_len);
     double end = now();
-    if (number != 0)
-        give_up("a run that was accepted before is refused");
+    if (number != 0 || memcmp(room, kept, room_len) != 0) {
+        printf("WRONG: a run that was right was not right when it was timed\n");
+        exit(1);
+    }
     return end - start;
 }
 

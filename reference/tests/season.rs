@@ -512,14 +512,17 @@ fn files_too_large() {
 fn the_longest_runs() {
     let mut draw = Draw::from_seed(509);
     let mut runs = Comparison::start(509);
-    for (units, steps) in [(1, 65_535), (64, 8_760), (3, 8_760)] {
-        // A fleet that is not exhausted long before the end.
+    for (units, steps, mode) in [(1, 65_535, 1), (64, 8_760, 2), (6, 8_760, 3)] {
         let mut run = seasons::run(units, steps, &mut draw);
+        while run.settings.mode != mode || run.seconds > 3_600 {
+            run = seasons::run(units, steps, &mut draw);
+        }
+        // Stores for so many hours at full power that some last for all of the run and others do not.
         for unit in &mut run.units {
-            let hours = draw.below(steps as u64) + 1;
             let power = u64::from(unit.rating.min(unit.kva)) * u64::from(run.seconds);
-            unit.rated = (unit.rated + power.saturating_mul(hours) / 8).min(10_000_000_000_000);
-            unit.stored = if run.settings.mode == 3 { 0 } else { unit.rated };
+            unit.rated = (power * (1 + draw.below(steps as u64))).min(10_000_000_000_000);
+            unit.reserve = unit.rated / 10;
+            unit.stored = if mode == 3 { 0 } else { unit.rated };
         }
         runs.run_of(&run, Room::Exact);
         if units == 1 {
@@ -528,9 +531,10 @@ fn the_longest_runs() {
         }
     }
     let met = runs.end(5);
-    met.more_than(2, "number", [0]);
-    met.more_than(1_000, "rule", [6]);
-    met.all_of(1_000, &["requests stood"]);
+    met.more_than(0, "units", [1, 6, 64]);
+    met.more_than(10_000, "rule", 5..=6);
+    met.all_of(10_000, &["requests stood", "a request taken back", "gave it all", "took it all"]);
+    met.all_of(10, &["ran empty"]);
 }
 
 /// The comparison is worth nothing if the host answers frames that it has not understood.
