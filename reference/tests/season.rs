@@ -94,6 +94,7 @@ impl Met {
         self.note_if(size < asked, "watts cut by vars");
         self.note_if(stepped.vars.unsigned_abs() < vars, "vars cut");
         self.note_if(stepped.vars < 0, "vars below zero");
+        self.note_if(stepped.watts == 0, "neither gave nor took");
         if request > 0 && size > 0 {
             self.note_if(!still && given == size, "gave it all");
             self.note_if(!still && given < size, "ran empty");
@@ -348,7 +349,7 @@ fn many_small_runs() {
     met.all_of(200, &["an exhausted fleet stopped"]);
     met.all_of(1_000, &["a request at its rating", "a request beyond S", "watts cut by vars", "vars cut"]);
     met.all_of(1_000, &["vars below zero", "gave it all", "ran empty", "was empty", "was below its reserve"]);
-    met.all_of(500, &["took it all", "ran full", "was full", "had too little room"]);
+    met.all_of(500, &["took it all", "ran full", "was full", "had too little room", "neither gave nor took"]);
 }
 
 /// Days of quarter hours and the like, over which a store goes from one end to the other.
