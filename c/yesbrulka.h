@@ -55,6 +55,24 @@ uint32_t yb_check_steps(const uint8_t *file, size_t file_len);
 uint64_t yb_value_start(const uint8_t *file, size_t file_len, uint64_t place);
 uint64_t yb_value_len(const uint8_t *file, size_t file_len, uint64_t place);
 
+/* Run a file: take its readings in turn, each one pass of the controller (none where the reading is missing) and
+** one step of every unit, and write the result file.
+**
+** yb_run_room returns the bytes that the result needs, 40 x units x steps + 7, or 0 for a file that is not complete.
+**
+** yb_run writes the result at the start of the room; the bytes of the room past it stay as they are. For each step
+** and in it for each unit there are 40 bytes: tag 0x11, length 37 (two bytes), step from 0 (four), unit from 0
+** (one), request in W (four, signed), delivered kW (eight, a double), vars (four, signed), stored J (eight), loss J
+** (eight). Then come the seven of the end: tag 0x1F, length 4, number of steps (four). All numbers are big-endian.
+**
+** Returns 0, or the first of these that holds:
+**     the number of yb_check, whose place and steps are the check's
+**    11  the room is shorter than the result; the place is then the file's length, and the steps are all of them
+** The room is written only when 0 is returned.
+*/
+uint64_t yb_run_room(const uint8_t *file, size_t file_len);
+uint32_t yb_run(const uint8_t *file, size_t file_len, uint8_t *room, size_t room_len);
+
 /* Convert a phase power from kW to whole watts.
 **
 ** Stores in *watts the whole number nearest to 1000 times the exact value of kw; a value midway between
