@@ -1,224 +1,47 @@
-/* import: checks the run files of sticks, in bulk, and shows what is wrong with one.
+/* import: checks the run files of sticks, in bulk, and shows what is wrong with one; runs a season into a result
+** file, and shows what came out; studies where a fleet settles.
 **
-** The file's bytes are lent to the library's check; this program only reads, asks and prints. Exit status 0 if
-** all files are complete, 1 if one was refused, 2 for a wrong call, a file that cannot be read or lines that
-** cannot be written.
+** The file's bytes are lent to the library; this program only reads, asks, writes and prints. Exit status 0 if
+** all files are complete and what was asked for is done, 1 if something was refused, 2 for a wrong call, a file
+** that cannot be read or written, or lines that cannot be written.
 */
 #define _POSIX_C_SOURCE 200809L /* for isatty */
-#include <errno.h>
-#include <inttypes.h>
-#include <stdint.h>
-#include <stdio.h>
 #include <string.h>
 #include <unistd.h>
 
-#include "yesbrulka.h"
-
-/* One byte more than a file may have is enough to know that it has too many. */
-enum { MOST_BYTES = 2097152, READ_BYTES = MOST_BYTES + 1 };
+#include "import.h"
 
 /* From this number of files on there is a progress line. */
 enum { MANY = 10 };
 
-enum { COMPLETE = 0, REFUSED = 1, FAILED = 2 };
-
 static const char usage[] =
-    "usage: import check FILE..   check run files, a line for each\n"
-    "       import show FILE      check one, and show the value bytes of the field that was refused\n"
-    "       import help           show this\n"
+    "usage: import check FILE..               check run files, a line for each\n"
+    "       import show FILE                  check one, and show the value bytes of the field that was refused\n"
+    "       import run FILE RESULT            check one and run it; RESULT is written whole or not at all\n"
+    "       import settle FILE LOAD [BUDGET]  study where the file's fleet settles over a fixed load of LOAD watts\n"
+    "       import table FILE RESULT          show a result as a table, a line for each step and unit\n"
+    "       import summary FILE RESULT        show a result as a planner reads it, a line for each unit\n"
+    "       import help                       show this\n"
     "\n"
-    "Exit status: 0 all files are complete, 1 a file was refused, 2 a wrong call or a file that cannot be read.\n";
-
-/* The refusals by their numbers: what stands in the file's line, and what the person who has the stick in
-** hand should know and do. In the second, # is the field that is meant and @ the row of the readings.
-*/
-static const struct {
-    const char *name, *advice;
-} refusals[] = {
-    {"no refusal", "This is a fault of the program. Keep the file and tell the developers."},
-    {"field cut short",
-        "The file ends in the middle of a field: the copy is not whole. Copy the stick again; if it stays so, ask "
-        "the manager for a new one."},
-    {"unknown tag",
-        "No field begins like this: the bytes are damaged, or another program wrote them. Copy the stick again; "
-        "if it stays so, ask the manager what wrote it."},
-    {"wrong length",
-        "The field's length is not the one that its tag has: bytes were changed or lost here. Copy the stick "
-        "again; if it stays so, ask the manager for a new one."},
-    {"field out of order",
-        "Before this field one is missing, or this one is there twice or in the wrong place. Do not repair the "
-        "file; ask the manager to write the stick anew."},
-    {"value out of range",
-        "A value of # is smaller or larger than it may be. Ask the manager to correct # and to write the stick "
-        "anew."},
-    {"reading not usable",
-        "A phase power is no number or is beyond 100,000 kW. Ask the manager for @, and have it entered again or "
-        "marked as missing."},
-    {"wrong step count",
-        "The end field counts other steps than the file has: rows were lost or added. Copy the stick again; if it "
-        "stays so, ask the manager for a new one."},
-    {"end field missing",
-        "The file is empty or stops between two fields: it was not written to its end. Copy the stick again; if it "
-        "stays so, ask the manager to write it anew."},
-    {"bytes after the end",
-        "Something follows the end field: a second file, or what an older one left. Ask the manager for a stick "
-        "with this one season on it."},
-    {"lists or requests do not fit",
-        "This is about a call of the library and not about the stick. Keep the file and tell the developers."},
-    {"room too short",
-        "This is about a call of the library and not about the stick. Keep the file and tell the developers."},
-    {"too many bytes or steps",
-        "A stick holds at most 2,097,152 bytes and 65,535 steps. Ask the manager to divide the season, with a stick "
-        "for each part."},
-};
-
-static uint8_t file[READ_BYTES];
-
-/* Reads a file, as much of it as is needed; gives NULL, or why it cannot be read. */
-static const char *read_file(const char *name, size_t *len)
-{
-    const char *why = NULL;
-    FILE *in = fopen(name, "rb");
-    if (in == NULL)
-        return strerror(errno);
-    *len = fread(file, 1, sizeof file, in);
-    if (ferror(in))
-        why = errno == EISDIR ? "it is a folder" : strerror(errno);
-    fclose(in);
-    return why;
-}
-
-/* A name as one line's part: a byte that would move or end the line is a question mark. */
-static void print_name(FILE *out, const char *name)
-{
-    for (; *name != '\0'; name++)
-        putc((unsigned char)*name < ' ' || *name == 0x7F ? '?' : *name, out);
-}
-
-/* The length that a field says, at a place where its tag and length are there. */
-static unsigned said_length(uint64_t place)
-{
-    return (unsigned)file[place + 1] << 8 | file[place + 2];
-}
-
-/* Which field is at a place. All fields before it are good. */
-static void print_field(size_t len, uint64_t place)
-{
-    unsigned unit = 1;
-    switch (place < len ? file[place] : 0) {
-    case 0x01:
-        printf("the fleet");
-        break;
-    case 0x02:
-        for (uint64_t at = 0; at < place && place - at >= 3; at += 3 + said_length(at))
-            unit += file[at] == 0x02;
-        printf("unit %u", unit);
-        break;
-    case 0x03:
-        printf("the settings");
-        break;
-    default:
-        printf("the field");
-        break;
-    }
-}
-
-static void print_row(uint32_t steps)
-{
-    if (steps == 0)
-        printf("the first row of readings");
-    else
-        printf("the row of readings after step %" PRIu32, steps);
-}
-
-static void print_advice(const char *advice, size_t len, uint64_t place, uint32_t steps)
-{
-    printf("    ");
-    for (; *advice != '\0'; advice++)
-        switch (*advice) {
-        case '#':
-            print_field(len, place);
-            break;
-        case '@':
-            print_row(steps);
-            break;
-        default:
-            putchar(*advice);
-            break;
-        }
-    putchar('\n');
-}
-
-/* The value bytes of the field at a place, 16 a row, each row with the place of its first byte. */
-static void print_value(size_t len, uint64_t place)
-{
-    uint64_t start = yb_value_start(file, len, place);
-    uint64_t count = yb_value_len(file, len, place);
-    if (count == 0) {
-        const char *why = "its length is 0";
-        if (place >= len)
-            why = "the file ends before it";
-        else if (len - place < 3)
-            why = "the file ends within its tag and length";
-        else if (said_length(place) != 0)
-            why = "the file ends after its tag and length";
-        printf("    The field has no value bytes: %s.\n", why);
-        return;
-    }
-    if (said_length(place) == count)
-        printf("    The field's %" PRIu64 " value bytes:\n", count);
-    else
-        printf("    The %" PRIu64 " value bytes that are there, of %u:\n", count, said_length(place));
-    for (uint64_t at = 0; at < count; at++) {
-        if (at % 16 == 0)
-            printf("    %8" PRIu64 " ", start + at);
-        printf(" %02X%s", file[start + at], at % 16 == 15 || at + 1 == count ? "\n" : "");
-    }
-}
-
-/* Whether the library's numbers are about the file that it was lent. They always are; nothing is read where
-** they are not.
-*/
-static int about_the_file(size_t len, uint64_t place)
-{
-    uint64_t start = yb_value_start(file, len, place);
-    uint64_t count = yb_value_len(file, len, place);
-    return place <= len && start <= len && count <= len - start && (count == 0 || len - place >= 3);
-}
-
-/* The lines of one file, and with show its refused field; gives what came of it. */
-static int look(const char *name, int show)
-{
-    size_t len = 0;
-    const char *why = read_file(name, &len);
-    if (why != NULL) {
-        fprintf(stderr, "import: ");
-        print_name(stderr, name);
-        fprintf(stderr, ": cannot be read: %s\n", why);
-        return FAILED;
-    }
-    uint32_t number = yb_check(file, len);
-    uint64_t place = yb_check_place(file, len);
-    uint32_t steps = yb_check_steps(file, len);
-    if (!about_the_file(len, place)) {
-        fprintf(stderr, "import: ");
-        print_name(stderr, name);
-        fprintf(stderr, ": the library's answer is not about this file; keep it and tell the developers\n");
-        return FAILED;
-    }
-    print_name(stdout, name);
-    if (number == 0) {
-        printf(": complete, %" PRIu32 " steps\n", steps);
-        return COMPLETE;
-    }
-    unsigned known = number < sizeof refusals / sizeof refusals[0] ? number : 0;
-    printf(": refused %" PRIu32 " (%s) at byte %" PRIu64 " after %" PRIu32 " steps\n", number,
-        known != 0 ? refusals[known].name : "unknown refusal", place, steps);
-    print_advice(refusals[known].advice, len, place, steps);
-    if (show)
-        print_value(len, place);
-    return REFUSED;
-}
+    "FILE is a run file as it is on a stick, RESULT the result file that run made of it. Steps and units are\n"
+    "counted from 0, as in RESULT. Power is positive when a unit gives and negative when it takes.\n"
+    "\n"
+    "run      replaces a RESULT that is there. One that was interrupted by force may leave a file named\n"
+    "         .import-unfinished-NUMBER beside RESULT, which can be deleted.\n"
+    "settle   LOAD is 0 to 100000000, BUDGET the most passes, 1 to 10000; without it 10000. Target, band and factor\n"
+    "         are the file's, and the mode is 1 (PeakShave). The reading left is the load less all requests.\n"
+    "table    columns parted by tabs: step, unit, request, delivered power, vars, stored energy, loss.\n"
+    "summary  request_W  the largest request, in size\n"
+    "         out_kW     the most that was given in a step; in_kW the most that was taken\n"
+    "         out_J      the energy given, and beside it in kWh; in_J the energy taken; an idle unit takes its draw\n"
+    "         loss_J     the energy lost\n"
+    "         low_J      the least stored after a step, and at_step the first step after which it was so\n"
+    "         not_met    the steps in which the request was not 0 and the power was another than the request\n"
+    "         In the fleet's line requests, power and stored energy are sums over the units of a step; the energies\n"
+    "         are the sums of the lines above; not_met counts a step once.\n"
+    "\n"
+    "Exit status: 0 all files are complete, 1 a file or a value was refused, or RESULT is not the result of FILE,\n"
+    "2 a wrong call, or a file that cannot be read or written.\n";
 
 /* The progress line comes after each file's lines and goes before the next ones. */
 static void progress(int done, int all)
@@ -234,31 +57,96 @@ static void end_progress(void)
     fflush(stderr);
 }
 
+/* The lines of one file, and with show its refused field; gives what came of it. */
+static int look(const char *name, int show)
+{
+    struct stick stick;
+    int outcome = ask(&stick, name);
+    if (outcome != FAILED)
+        print_answer(&stick, show);
+    return outcome;
+}
+
 static int look_at_all(int count, char **names, int show)
 {
-    int refused = 0, failed = 0;
+    int refused = 0, not_checked = 0;
     int with_progress = count >= MANY && isatty(STDERR_FILENO);
     for (int i = 0; i < count; i++) {
         if (with_progress && i != 0)
             end_progress();
         int outcome = look(names[i], show);
         refused += outcome == REFUSED;
-        failed += outcome == FAILED;
+        not_checked += outcome == FAILED;
         if (with_progress)
             progress(i + 1, count);
     }
     if (with_progress)
         end_progress();
-    if (fflush(stdout) != 0 || ferror(stdout)) {
-        fprintf(stderr, "import: the lines cannot be written\n");
+    if (fflush(stdout) != 0)
         return FAILED;
-    }
     if (refused != 0)
         fprintf(stderr, "import: %d of %d files refused\n", refused, count);
-    if (failed != 0)
-        fprintf(stderr, "import: %d of %d files not checked\n", failed, count);
-    return failed != 0 ? FAILED : refused != 0 ? REFUSED : COMPLETE;
+    if (not_checked != 0)
+        fprintf(stderr, "import: %d of %d files not checked\n", not_checked, count);
+    return not_checked != 0 ? FAILED : refused != 0 ? REFUSED : COMPLETE;
 }
+
+static int check_command(int count, char **words)
+{
+    return look_at_all(count, words, 0);
+}
+
+static int show_command(int count, char **words)
+{
+    return look_at_all(count, words, 1);
+}
+
+static int run_words(int count, char **words)
+{
+    (void)count;
+    return run_command(words[0], words[1]);
+}
+
+static int settle_words(int count, char **words)
+{
+    return settle_command(words[0], words[1], count > 2 ? words[2] : "10000");
+}
+
+static int table_words(int count, char **words)
+{
+    (void)count;
+    return table_command(words[0], words[1]);
+}
+
+static int summary_words(int count, char **words)
+{
+    (void)count;
+    return summary_command(words[0], words[1]);
+}
+
+static int help_words(int count, char **words)
+{
+    (void)count, (void)words;
+    printf("%s", usage);
+    return COMPLETE;
+}
+
+static const struct {
+    const char *name;
+    int least, most;
+    int (*command)(int count, char **words);
+    const char *needs;
+} commands[] = {
+    {"check", 1, -1, check_command, "check needs a FILE or several"},
+    {"show", 1, 1, show_command, "show needs one FILE"},
+    {"run", 2, 2, run_words, "run needs a FILE and a RESULT"},
+    {"settle", 2, 3, settle_words, "settle needs a FILE, a LOAD and perhaps a BUDGET"},
+    {"table", 2, 2, table_words, "table needs a FILE and its RESULT"},
+    {"summary", 2, 2, summary_words, "summary needs a FILE and its RESULT"},
+    {"help", 0, -1, help_words, ""},
+    {"--help", 0, -1, help_words, ""},
+    {"-h", 0, -1, help_words, ""},
+};
 
 static int wrong_call(const char *why)
 {
@@ -266,20 +154,29 @@ static int wrong_call(const char *why)
     return FAILED;
 }
 
+static int call(int count, char **words)
+{
+    for (size_t i = 0; i < sizeof commands / sizeof commands[0]; i++)
+        if (strcmp(words[0], commands[i].name) == 0) {
+            if (count - 1 < commands[i].least || (commands[i].most >= 0 && count - 1 > commands[i].most))
+                return wrong_call(commands[i].needs);
+            return commands[i].command(count - 1, words + 1);
+        }
+    return wrong_call("there is no such command");
+}
+
 int main(int argc, char **argv)
 {
-    const char *command = argc < 2 ? "" : argv[1];
-    if (strcmp(command, "check") == 0)
-        return argc > 2 ? look_at_all(argc - 2, argv + 2, 0) : wrong_call("check needs a FILE or several");
-    if (strcmp(command, "show") == 0)
-        return argc == 3 ? look_at_all(1, argv + 2, 1) : wrong_call("show needs one FILE");
-    if (strcmp(command, "help") == 0 || strcmp(command, "--help") == 0 || strcmp(command, "-h") == 0) {
-        printf("%s", usage);
-        return fflush(stdout) == 0 ? COMPLETE : FAILED;
-    }
     if (argc < 2) {
         fprintf(stderr, "%s", usage);
         return FAILED;
     }
-    return wrong_call("there is no such command");
+    int outcome = call(argc - 1, argv + 1);
+    /* A full disk may show only now. */
+    int unwritten = ferror(stdout);
+    if (fclose(stdout) != 0 || unwritten) {
+        fprintf(stderr, "import: the lines cannot be written\n");
+        return FAILED;
+    }
+    return outcome;
 }

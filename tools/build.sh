@@ -15,10 +15,13 @@ for name in $programs $commands; do
 done
 [ -f "$YB_ARCHIVE" ] || { echo "no archive at $YB_ARCHIVE" >&2; exit 1; }
 
+# A program's further parts are named after it.
+shopt -s nullglob
 mkdir -p build/x86_64
 for name in $programs; do
     # shellcheck disable=SC2086 # YB_STATIC may be no word
-    "$YB_CC" -O2 -Wall -Wextra -Werror -std=c11 $YB_STATIC -o "build/x86_64/$name" "c/$name.c" "$YB_ARCHIVE"
+    "$YB_CC" -O2 -Wall -Wextra -Werror -std=c11 $YB_STATIC -o "build/x86_64/$name" "c/$name.c" c/"$name"_*.c \
+        "$YB_ARCHIVE"
 done
 
 for name in $commands; do

@@ -1,0 +1,165 @@
+/* Writing a file whole or not at all: the bytes go to an unfinished file in the same folder, and only when the
+** disk has them does that take the name. What had the name before stays until then. On a failure, and where a
+** signal ends the program, the unfinished file is removed.
+*/
+#define _POSIX_C_SOURCE 200809L /* for openat, fsync and sigaction */
+#include <errno.h>
+#include <fcntl.h>
+#include <signal.h>
+#include <stdlib.h>
+#include <string.h>
+#include <sys/stat.h>
+#include <unistd.h>
+
+#include "import.h"
+
+/* The signals that end a program from outside. */
+static const int endings[] = {SIGINT, SIGTERM, SIGHUP, SIGQUIT};
+enum { ENDINGS = sizeof endings / sizeof endings[0] };
+
+/* The unfinished file, for the handler; there is one as long as is_unfinished is not 0. */
+static char unfinished[64];
+static int folder;
+static volatile sig_atomic_t is_unfinished;
+
+/* Ends the program as the signal would have: its action is the usual one again, and it comes when this returns. */
+static void interrupted(int number)
+{
+    static const char said[] = "import: interrupted; nothing under the name of RESULT has changed\n";
+    if (is_unfinished) {
+        unlinkat(folder, unfinished, 0);
+        ssize_t told = write(STDERR_FILENO, said, sizeof said - 1);
+        (void)told;
+    }
+    raise(number);
+}
+
+/* A signal that the caller has switched off stays so. A file above the caller's limit is a failed write. */
+static void watch_signals(void)
+{
+    struct sigaction action = {.sa_handler = interrupted, .sa_flags = SA_RESETHAND | SA_RESTART}, old;
+    sigemptyset(&action.sa_mask);
+    for (int i = 0; i < ENDINGS; i++)
+        if (sigaction(endings[i], NULL, &old) == 0 && old.sa_handler != SIG_IGN)
+            sigaction(endings[i], &action, NULL);
+    signal(SIGXFSZ, SIG_IGN);
+}
+
+/* Lets the signals wait, so that a file and what is known of it change together. */
+static void hold_signals(sigset_t *before)
+{
+    sigset_t held;
+    sigemptyset(&held);
+    for (int i = 0; i < ENDINGS; i++)
+        sigaddset(&held, endings[i]);
+    sigprocmask(SIG_BLOCK, &held, before);
+}
+
+/* Opens the folder that a name is in, and gives the name in it; -1 where it cannot be opened. */
+static int open_folder(const char *name, const char **last)
+{
+    const char *slash = strrchr(name, '/');
+    *last = slash == NULL ? name : slash + 1;
+    size_t len = (size_t)(*last - name);
+    char *path = malloc(len + 2);
+    if (path == NULL)
+        return -1;
+    memcpy(path, name, len);
+    memcpy(path + len, len == 0 ? "." : "", len == 0 ? 2 : 1);
+    int opened = open(path, O_RDONLY | O_DIRECTORY | O_CLOEXEC);
+    free(path);
+    return opened;
+}
+
+/* Makes a file under a name that no file has. The mode is as for any new file. */
+static int open_unfinished(void)
+{
+    int opened = -1;
+    sigset_t before;
+    hold_signals(&before);
+    for (int i = 0; i < 100 && opened < 0 && (i == 0 || errno == EEXIST); i++) {
+        snprintf(unfinished, sizeof unfinished, ".import-unfinished-%ld-%d", (long)getpid(), i);
+        opened = openat(folder, unfinished, O_WRONLY | O_CREAT | O_EXCL | O_CLOEXEC, 0666);
+    }
+    is_unfinished = opened >= 0;
+    sigprocmask(SIG_SETMASK, &before, NULL);
+    return opened;
+}
+
+/* A file that is replaced hands on its permissions. Gives 0, or -1. */
+static int keep_mode(int to, const char *last)
+{
+    struct stat there;
+    if (fstatat(folder, last, &there, 0) != 0)
+        return 0;
+    return fchmod(to, there.st_mode & 0777);
+}
+
+static int write_all(int to, const uint8_t *bytes, size_t len)
+{
+    while (len != 0) {
+        ssize_t written = write(to, bytes, len);
+        if (written > 0) {
+            bytes += written;
+            len -= (size_t)written;
+        } else if (written == 0 || errno != EINTR) {
+            return -1;
+        }
+    }
+    return 0;
+}
+
+/* The bytes on the disk, in the unfinished file, which is then closed whatever happened. */
+static int fill_unfinished(int to, const char *last, const uint8_t *bytes, size_t len)
+{
+    int done = keep_mode(to, last) == 0 && write_all(to, bytes, len) == 0 && fsync(to) == 0;
+    int why = errno;
+    if (close(to) != 0 && done)
+        return -1;
+    errno = why;
+    return done ? 0 : -1;
+}
+
+/* Gives the unfinished file its name where it was filled, and removes it where it was not. */
+static int finish(int filled, const char *last)
+{
+    sigset_t before;
+    hold_signals(&before);
+    int done = filled == 0 && renameat(folder, unfinished, folder, last) == 0;
+    int why = errno;
+    if (!done)
+        unlinkat(folder, unfinished, 0);
+    is_unfinished = 0;
+    sigprocmask(SIG_SETMASK, &before, NULL);
+    errno = why;
+    return done ? 0 : -1;
+}
+
+static int unwritten(const char *name)
+{
+    const char *why = errno == ENOENT ? "there is no such folder" : strerror(errno);
+    failed(name, "cannot be written: ", why);
+    fprintf(stderr, "    Nothing under that name has changed. Give RESULT another name, or make room, and call again.\n");
+    return FAILED;
+}
+
+/* The name itself is on the disk only when the folder is; not every disk can be asked for that. */
+static int keep_name(const char *name)
+{
+    if (fsync(folder) == 0 || errno == EINVAL || errno == ENOTSUP)
+        return COMPLETE;
+    return failed(name, "written, but the disk did not confirm its name; call again: ", strerror(errno));
+}
+
+int write_whole(const char *name, const uint8_t *bytes, size_t len)
+{
+    const char *last;
+    watch_signals();
+    folder = open_folder(name, &last);
+    if (folder < 0)
+        return unwritten(name);
+    int to = open_unfinished();
+    int outcome = to < 0 || finish(fill_unfinished(to, last, bytes, len), last) != 0 ? unwritten(name) : keep_name(name);
+    close(folder);
+    return outcome;
+}
