@@ -6,7 +6,7 @@ cd "$(dirname "${BASH_SOURCE[0]}")/.."
 . tools/env.sh
 yb_toolchain || { echo "$YB_CC_WHY" >&2; exit 1; }
 
-programs='host test_surface watts import'
+programs='host test_surface test_stack watts import'
 commands='watts import'
 
 # Nothing of an earlier build may stand in for what fails to build now.

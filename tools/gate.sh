@@ -105,6 +105,11 @@ surface() {
     $YB_EMULATOR build/x86_64/test_surface
 }
 
+stack() {
+    # shellcheck disable=SC2086 # YB_EMULATOR may be no word
+    $YB_EMULATOR build/x86_64/test_stack
+}
+
 reference() {
     (cd reference && cargo test --release --offline --no-fail-fast "$@")
 }
@@ -123,13 +128,16 @@ if [ -n "$YB_CC" ]; then
     # Where it was not built the tests that need it say so.
     [ -x build/x86_64/host ] || unset YB_HOST
     step line 'C surface' surface
+    step line 'C stack' stack
     step cargo 'reference and archive' reference
     step line 'watts command' c/test_watts.sh
     step line 'import command' c/test_import.sh
     step line 'stick_check' c/test_stick_check.sh
+    step one 'sample season' make --no-print-directory sample
 else
     step cargo 'reference' reference --lib --bins
-    for tests in 'C surface' 'the archive beside the reference' 'watts command' 'import command' 'stick_check'; do
+    for tests in 'C surface' 'C stack' 'the archive beside the reference' 'watts command' 'import command' \
+        'stick_check' 'sample season'; do
         echo "NOT RUN: $tests: $YB_CC_WHY"
     done
 fi
