@@ -19,7 +19,7 @@ int make_run(struct run *run, const struct stick *stick)
     run->len = (size_t)room;
     run->bytes = calloc(1, run->len);
     if (run->bytes == NULL)
-        return failed(stick->name, "cannot be run: ", "no memory for the result; close other programs and call again");
+        return failed(stick->name, "no memory for its result; ", "close other programs and call again");
     if (yb_run(stick->bytes, stick->len, run->bytes, run->len) != 0) {
         free(run->bytes);
         return fault(stick->name);
@@ -80,7 +80,7 @@ static int write_result(const char *result, const struct run *run)
     return outcome;
 }
 
-/* The line is out before anything is written, so that RESULT is new only where the status is 0. */
+/* The line is out before anything is written: where it cannot be, RESULT is as it was. */
 int run_command(const char *file, const char *result)
 {
     struct stick stick;

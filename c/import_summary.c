@@ -150,8 +150,9 @@ static void print_settings(const struct stick *stick, uint32_t seconds)
 {
     static const char *const modes[] = {"", " (PeakShave)", " (Support)", " (PeakShaveLow)"};
     const uint8_t *settings = settings_of(stick);
-    printf("%u units, steps of %" PRIu32 " s, mode %u%s, target %" PRId32 " W, band %u W, factor %u\n", units_of(stick),
-        seconds, settings[0], settings[0] < 4 ? modes[settings[0]] : "", signed_at(settings + 1),
+    printf("%u units, steps of %" PRIu32 " s, mode %u%s, ", units_of(stick), seconds, settings[0],
+        settings[0] < 4 ? modes[settings[0]] : "");
+    printf("target %" PRId32 " W, band %u W, factor %u\n", signed_at(settings + 1),
         (unsigned)number_at(settings + 5, 4), (unsigned)number_at(settings + 9, 2));
 }
 

@@ -139,7 +139,7 @@ static int unwritten(const char *name)
 {
     const char *why = errno == ENOENT ? "there is no such folder" : strerror(errno);
     failed(name, "cannot be written: ", why);
-    fprintf(stderr, "    Nothing under that name has changed. Give RESULT another name, or make room, and call again.\n");
+    fprintf(stderr, "    Nothing under that name has changed. Make room or give RESULT another name, and call again.\n");
     return FAILED;
 }
 
@@ -159,7 +159,8 @@ int write_whole(const char *name, const uint8_t *bytes, size_t len)
     if (folder < 0)
         return unwritten(name);
     int to = open_unfinished();
-    int outcome = to < 0 || finish(fill_unfinished(to, last, bytes, len), last) != 0 ? unwritten(name) : keep_name(name);
+    int written = to >= 0 && finish(fill_unfinished(to, last, bytes, len), last) == 0;
+    int outcome = written ? keep_name(name) : unwritten(name);
     close(folder);
     return outcome;
 }

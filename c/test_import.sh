@@ -246,8 +246,8 @@ suite() {
     rm -rf "$work/examples"
 }
 
-# The fields of small sticks: a fleet of one unit and steps of 60 s, of two units; the unit of the figures D1 to D3 with
-# a reserve of 100,000 J and a given store; settings with a mode, a target and a band; readings; the end.
+# The fields of small sticks: a fleet of one unit or two and steps of 60 s; the unit of the figures D1 to D3, with a
+# reserve of 100,000 J and a given store; settings with a mode, a target and a band; a reading; the end.
 fleet_1='01 0006 01 01 0000003C'
 fleet_2='01 0006 01 02 0000003C'
 missing='05 0000'
@@ -393,7 +393,7 @@ not_written() {
 }
 
 # failed_write RESULT WHY: the same for a result that was tried.
-advice='    Nothing under that name has changed. Give RESULT another name, or make room, and call again.'
+advice='    Nothing under that name has changed. Make room or give RESULT another name, and call again.'
 failed_write() {
     good test "$status|$output|$error" = \
         "2|examples/season.stick: complete, 336 steps|import: $1: cannot be written: $2"$'\n'"$advice"
@@ -506,18 +506,19 @@ settle_suite() {
     check 2 '' "$needs"$'\n'"$usage" settle "$stick" 1 2 3
 
     # Figure C1, at every budget.
-    local first=(0 150 175 187 193 193) lines budget
+    local budget second sum words where lines
     for budget in 1 2 3 4 5 10000; do
-        local second=${first[budget < 5 ? budget : 5]} sum words=': not settled'
+        second=$(cut -d ' ' -f $((budget < 5 ? budget : 5)) <<<'150 175 187 193 193')
         sum=$((100 + second))
-        if [ "$budget" -gt 4 ]; then
-            words='settled after 4 changing passes'
-        else
-            words="not settled within $budget passes, $budget changed a request"
-        fi
-        lines=$(printf '%s: %s\nunit\trequest W\trating W\n0\t100\t100\n1\t%d\t1000\nsum of requests %d W, reading left %d W: %s %s' \
-            "$work/c1" "$words" "$second" "$sum" $((1000 - sum)) "$([ "$sum" -ge 290 ] && echo within || echo not within)" \
-            'half the band (20 W) of the target (700 W)')
+        words="not settled within $budget passes, $budget changed a request"
+        if [ "$budget" -gt 4 ]; then words='settled after 4 changing passes'; fi
+        where=within
+        if [ "$sum" -lt 290 ]; then where='not within'; fi
+        lines="$work/c1: $words
+unit	request W	rating W
+0	100	100
+1	$second	1000
+sum of requests $sum W, reading left $((1000 - sum)) W: $where half the band (20 W) of the target (700 W)"
         check 0 "$lines" '' settle "$work/c1" 1000 "$budget"
     done
     check 0 "$lines" '' settle "$work/c1" 1000
@@ -768,14 +769,14 @@ no_result_suite() {
     good test "$status|$error" = '2|import: the lines cannot be written'
 }
 
-# As many units and steps as there can be, with the largest draw: more joules than 64 bits hold, and a result of 160 MiB.
+# As many units and steps as there can be, with the largest draw: more joules than 64 bits hold, and 160 MiB.
 largest_suite() {
     local i
     {
         bytes 01 0006 01 40 00015180
         for ((i = 0; i < 64; i++)); do
-            bytes 02 0031 000009184E72A000 0000000000000000 000009184E72A000 05F5E100 05F5E100 00989680 00000000 2710 \
-                03E8 2710 2710 00
+            bytes 02 0031 000009184E72A000 0000000000000000 000009184E72A000 05F5E100 05F5E100 00989680 00000000 \
+                2710 03E8 2710 2710 00
         done
         bytes "$(settings 1 0 0)"
         head -c 65535 /dev/zero | tr '\0' x | sed 's/x/\x05\x00\x00/g'
@@ -825,8 +826,8 @@ fault_suite() {
         good written season
     done
     faulty fsync:2:5 "$stick"
-    good test "$status|$error" = "2|import: $work/out/result: written, but the disk did not confirm its name; call again: \
-Input/output error"
+    good test "$status|$error" = "2|import: $work/out/result: written, but the disk did not confirm its name; call \
+again: Input/output error"
     good written season
     # A signal at each of them. From the last on the result is there.
     for signal in 1 2 3 15; do
@@ -871,8 +872,8 @@ ended_suite() {
         called="run, ended by $signal" output=
         # A program in the background of a script does not hear INT unless it is told to.
         # shellcheck disable=SC2086 # YB_EMULATOR may be no word
-        (trap - INT && IMPORT_FAULTS=write:1:-19 exec $YB_EMULATOR build/x86_64/import_faults run examples/season.stick \
-            "$work/out/result" >/dev/null 2>"$work/error") &
+        (trap - INT && IMPORT_FAULTS=write:1:-19 exec $YB_EMULATOR build/x86_64/import_faults \
+            run examples/season.stick "$work/out/result" >/dev/null 2>"$work/error") &
         pid=$!
         until grep -q '^State:.*T' "/proc/$pid/status" 2>/dev/null; do
             kill -0 "$pid" 2>/dev/null || break

@@ -1052,8 +1052,8 @@ static const uint8_t whole_case[] = {
     0x7F, 0, 4, 0, 0, 0, 1,
 };
 static const uint8_t whole_result[] = {
-    0x11, 0, 0x25, 0, 0, 0, 0, 0, 0, 0, 0, 0, 0xBF, 0xF0, 0, 0, 0, 0, 0, 0, 0, 0, 0, 0, 0, 0, 0, 0, 0, 0x36, 0xEE, 0x80,
-    0, 0, 0, 0, 0, 0, 0xEA, 0x60,
+    0x11, 0, 0x25, 0, 0, 0, 0, 0, 0, 0, 0, 0, 0xBF, 0xF0, 0, 0, 0, 0, 0, 0, 0, 0, 0, 0,
+    0, 0, 0, 0, 0, 0x36, 0xEE, 0x80, 0, 0, 0, 0, 0, 0, 0xEA, 0x60,
     0x1F, 0, 4, 0, 0, 0, 1,
 };
 
@@ -1105,7 +1105,7 @@ static void check_room(const uint8_t *file, size_t len, size_t room_len, int at_
         bad += (at < lent || at >= lent + written) && *at != fill;
     if (got != number || bad != 0) {
         wrong++;
-        fprintf(stderr, "yb_run, a file of %zu bytes and room of %zu: number %" PRIu32 ", expected %" PRIu32 "%s\n", len,
+        fprintf(stderr, "yb_run, a file of %zu bytes, room of %zu: number %" PRIu32 "; expected %" PRIu32 "%s\n", len,
             room_len, got, number, bad == 0 ? "" : "; the room is not as expected");
     }
 }
