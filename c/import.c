@@ -21,13 +21,15 @@ static const char usage[] =
     "       import settle FILE LOAD [BUDGET]  study where the file's fleet settles over a fixed load of LOAD watts\n"
     "       import table FILE RESULT          show a result as a table, a line for each step and unit\n"
     "       import summary FILE RESULT        show a result as a planner reads it, a line for each unit\n"
-    "       import help                       show this\n"
+    "       import help                       show this, and what the columns and the exit statuses mean\n";
+
+static const char meanings[] =
     "\n"
     "FILE is a run file as it is on a stick, RESULT the result file that run made of it. Steps and units are\n"
     "counted from 0, as in RESULT. Power is positive when a unit gives and negative when it takes.\n"
     "\n"
-    "run      replaces a RESULT that is there. One that was interrupted by force may leave a file named\n"
-    "         .import-unfinished-NUMBER beside RESULT, which can be deleted.\n"
+    "run      replaces a RESULT that is there. If it is killed (kill -9, a power cut) a file whose name begins with\n"
+    "         .import-unfinished may be left beside RESULT; delete it.\n"
     "settle   LOAD is 0 to 100000000, BUDGET the most passes, 1 to 10000; without it 10000. Target, band and factor\n"
     "         are the file's, and the mode is 1 (PeakShave). The reading left is the load less all requests.\n"
     "table    columns parted by tabs: step, unit, request, delivered power, vars, stored energy, loss.\n"
@@ -127,7 +129,7 @@ static int summary_words(int count, char **words)
 static int help_words(int count, char **words)
 {
     (void)count, (void)words;
-    printf("%s", usage);
+    printf("%s%s", usage, meanings);
     return COMPLETE;
 }
 

@@ -239,6 +239,12 @@ int ask(struct stick *stick, const char *name)
     return stick->number == 0 ? COMPLETE : REFUSED;
 }
 
+/* A result in the stick's place is told from other bytes that are no stick. */
+static int looks_like_a_result(const struct stick *stick)
+{
+    return stick->number == 2 && stick->place == 0 && stick->len != 0 && (file[0] == 0x11 || file[0] == 0x1F);
+}
+
 void print_answer(const struct stick *stick, int show)
 {
     print_name(stdout, stick->name);
@@ -250,6 +256,8 @@ void print_answer(const struct stick *stick, int show)
     printf(": refused %" PRIu32 " (%s) at byte %" PRIu64 " after %" PRIu32 " steps\n", stick->number,
         known != 0 ? refusals[known].name : "unknown refusal", stick->place, stick->steps);
     print_advice(stick, refusals[known].advice);
+    if (looks_like_a_result(stick))
+        printf("    It looks like a result file; where a command takes both, the stick's file comes first.\n");
     if (show)
         print_value(stick);
 }

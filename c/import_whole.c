@@ -86,11 +86,13 @@ static int open_unfinished(void)
     return opened;
 }
 
-/* A file that is replaced hands on its permissions. Gives 0, or -1. */
+/* A file that is replaced hands on its permissions, which some disks cannot change. Gives 0, or -1. */
 static int keep_mode(int to, const char *last)
 {
-    struct stat there;
+    struct stat there, here;
     if (fstatat(folder, last, &there, 0) != 0)
+        return 0;
+    if (fstat(to, &here) == 0 && (here.st_mode & 0777) == (there.st_mode & 0777))
         return 0;
     return fchmod(to, there.st_mode & 0777);
 }

@@ -109,14 +109,23 @@ as_other() {
     output=$(cat "$work/output")
 }
 
-usage=$(sed -n '/^static const char usage/,/;$/s/^ *"\(.*\)\\n".*$/\1/p' c/import.c)
+# text NAME: a text of the tool's source.
+text() {
+    sed -n "/^static const char $1\\[/,/;\$/s/^ *\"\\(.*\\)\\\\n\".*\$/\\1/p" c/import.c
+}
+
+usage=$(text usage)
+help=$usage$'\n'$(text meanings)
 
 suite() {
     local name stick=examples/season.stick
 
     check 2 '' "$usage"
-    check 0 "$usage" '' help
-    check 0 "$usage" '' --help
+    check 0 "$help" '' help
+    check 0 "$help" '' --help
+    check 0 "$help" '' -h
+    good like "$usage" 'usage: import check*import help *mean'
+    good like "$help" '*or a file that cannot be read or written.'
     check 2 '' "import: there is no such command"$'\n'"$usage" "$stick"
     check 2 '' "import: there is no such command"$'\n'"$usage" ''
     check 2 '' "import: check needs a FILE or several"$'\n'"$usage" check
@@ -762,6 +771,11 @@ END
 # What is refused or cannot be read or written.
 no_result_suite() {
     local stick=examples/season.stick command name
+    # The two in the wrong order.
+    for name in season none; do
+        call summary "$work/$name.result" "$stick"
+        good like "$status $output" $'1 *: refused 2 (unknown tag) at byte 0 after 0 steps\n*\n    It looks like a result *'
+    done
     for command in table summary; do
         for name in examples/refused-* "$work/empty" "$work/season.result" c/import.c; do
             check 1 "$("$import" check "$name" 2>/dev/null)" "import: $name: refused; nothing is shown" \
