@@ -521,7 +521,7 @@ full_suite() {
         umount "$work/disk"
         rm "$work/out"
     else
-        echo 'NOT RUN: a full disk: no small disk can be mounted here; the faults below stand for it'
+        echo 'NOT RUN: a full disk: no small disk can be mounted here; the made faults stand for it'
     fi
 }
 
