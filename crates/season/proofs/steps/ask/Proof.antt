@@ -10,8 +10,8 @@ enum-known-r c = search needs
 enum-told : tie.Need-enum-told
 enum-told c = search needs
 
-returns : tie.Need-returns
-returns c =
+returns-missing : tie.Need-returns
+returns-missing c =
     let s = c .before .before .before .before .before .before .before .before in
     ask-none (s .args .file .now) (s .args .stored .now) (s .args .requests .now) (s .args .r) (c .enum-told .given .1)
 
@@ -143,7 +143,7 @@ ask-spec =
     (tie.spec
     enum-known-r
     enum-told
-    returns
+    returns-missing
     settings-place-requires
     add-u8-at
     u8-at-requires
