@@ -5,7 +5,7 @@ use Prim.Native.Nat.{ℕ, zero, suc, _+_, _-_, _*_, _≤_, _<_, _^_}
 use native.Mathlib.Nat.{le-refl}
 use native.Mathlib.Omega.{arith}
 use lib.Dec.{ltb, eqb}
-use lib.IntN.{ℤ, natAbs}
+use lib.IntN.{ℤ, pos, negℤ, natAbs}
 use lib.Signed.{mag}
 use mir.Syntax.{w32}
 use mir.Val.{toZ, ofZ}
@@ -15,16 +15,17 @@ use Rattle.whole.proofs.OverLaws.{and-parts}
 use Rattle.whole.proofs.SignLaws.{read}
 use Rattle.whole.specs.Largest.{largest}
 use Rattle.whole.specs.Signed.{negative}
-use Rattle.storage.proofs.RangeLaws.{Bounds}
-use Rattle.storage.proofs.EnergyLaws.{removed-covers, added-covered}
-use Rattle.storage.proofs.LimitLaws.{held-most, deliverable-most, deliverable-within, takeable-most, takeable-within}
+use Rattle.storage.proofs.RangeLaws.{Bounds, bounds}
+use Rattle.storage.proofs.EnergyLaws.{energy-fits, removed-covers, added-covered}
+use Rattle.storage.proofs.LimitLaws.{held-read, held-most, deliverable-most, deliverable-within, takeable-most, takeable-within}
 use Rattle.storage.specs.declared.Unit.{Unit}
 use Rattle.storage.specs.declared.Flow.{Flow}
 use Rattle.storage.specs.declared.Flow.the-variants.{Out, In, Idle}
+use Rattle.storage.specs.declared.Move.{Move}
 use Rattle.storage.specs.declared.Outcome.{Outcome}
 use Rattle.storage.specs.declared.Stepped.the-variants.{Done, RefusedBy}
-use Rattle.storage.specs.Ranges.{unitIn, secondsIn, stepRefusal}
-use Rattle.storage.specs.Posts.{Ranged, Carried}
+use Rattle.storage.specs.Ranges.{idleDraw, unitIn, secondsIn, stepRefusal}
+use Rattle.storage.specs.Posts.{Ranged, Carried, Moving, movedBy, moveBy}
 use Rattle.storage.specs.Step.{removedBy, addedBy, deliverable, takeable, heldSize, outFlow, discharged, charged, flowOf, wattsOf, varsOf, storedOf, lossOf, outcomeOf, stepOf, steppedOf}
 
 -- ---- what flows, case by case
@@ -59,18 +60,35 @@ module _ (u : Unit) (s p : ℕ) where
   unfolding charged
   charged-none z = simp (eq-eqb (addedBy u s (takeable u s p)) 0 z)
 
-  pub charged-some : (addedBy u s (takeable u s p) ≡ 0 → ⊥) → In (takeable u s p) ≡ charged u s p
+  charged-is : (addedBy u s (takeable u s p) ≡ 0 → ⊥) → In (takeable u s p) ≡ charged u s p
   unfolding charged
-  charged-some n = simp (ne-eqb (addedBy u s (takeable u s p)) 0 n)
+  charged-is n = simp (ne-eqb (addedBy u s (takeable u s p)) 0 n)
+
+  pub charged-some : (x : ℕ) → x ≡ takeable u s p → (addedBy u s x ≡ 0 → ⊥) → In x ≡ charged u s p
+  charged-some x e n = ap In e ∙ charged-is (λ z. n (ap (addedBy u s) e ∙ z))
 
 module _ (u : Unit) (s : ℕ) (request : ℤ) where
-  pub flow-in : negative request ≡ true → charged u s (heldSize u request) ≡ flowOf u s request
+  flow-in : negative request ≡ true → charged u s (heldSize u request) ≡ flowOf u s request
   unfolding flowOf
   flow-in e = simp e
 
-  pub flow-out : negative request ≡ false → discharged u s (heldSize u request) ≡ flowOf u s request
+  flow-out : negative request ≡ false → discharged u s (heldSize u request) ≡ flowOf u s request
   unfolding flowOf
   flow-out e = simp e
+
+-- the same from the held size n that the code has, of the request that is read back from its bits, with what the flow moves; and n is small
+module _ (u : Unit) (s : ℕ) (request : ℤ) (n : ℕ) (h : mag request < 2 ^ 31) (e : n ≡ heldSize u (toZ w32 (ofZ w32 request))) where
+  pub held-small : Ranged u s → n ≤ 100000000
+  held-small r =
+      let b = bounds r in
+      let m = held-most u request in
+      omega (arith, held-read u request n h e)
+
+  pub move-in : negative request ≡ true → moveBy u s (charged u s n) ≡ moveBy u s (flowOf u s request)
+  move-in t = ap (moveBy u s) (ap (charged u s) (held-read u request n h e) ∙ flow-in u s request t)
+
+  pub move-out : negative request ≡ false → moveBy u s (discharged u s n) ≡ moveBy u s (flowOf u s request)
+  move-out t = ap (moveBy u s) (ap (discharged u s) (held-read u request n h e) ∙ flow-out u s request t)
 
 -- ---- what is delivered is covered by what is removed, and what is drawn covers what is added
 module _ (u : Unit) (s x : ℕ) (b : Bounds u s) where
@@ -126,30 +144,140 @@ module _ (u : Unit) (s : ℕ) (request : ℤ) where
   pub flow-carried : Carried u s (flowOf u s request)
   flow-carried = able-carried u s (heldSize u request) (held-most u request .1) (flowOf u s request) flow-able
 
--- the flow that the code has, of the request that is read back from its bits
-pub flow-read : (u : Unit) (s : ℕ) (request : ℤ) → mag request < 2 ^ 31 → (f : Flow) → f ≡ flowOf u s (toZ w32 (ofZ w32 request)) → f ≡ flowOf u s request
-flow-read u s request h f e = e ∙ ap (flowOf u s) (read w32 request h)
+-- ---- a flow with what it moves
+module _ (u : Unit) (s : ℕ) where
+  move-is : (f : Flow) {g : Flow} → f ≡ g → (n : ℕ) → n ≡ movedBy u s f → _≡_ {A = Move} (record { flow = f; moved = n }) (moveBy u s g)
+  move-is f e n h = cc
 
-pub carried : (u : Unit) (s : ℕ) (request : ℤ) → mag request < 2 ^ 31 → (f : Flow) → f ≡ flowOf u s (toZ w32 (ofZ w32 request)) → Carried u s f
-carried u s request h f e = subst⁻¹ (Carried u s) (flow-read u s request h f e) (flow-carried u s request)
+  pub idle-moves : (n : ℕ) → n ≡ idleDraw u → _≡_ {A = Move} (record { flow = Idle; moved = n }) (moveBy u s Idle)
+  unfolding movedBy
+  idle-moves n h = move-is Idle refl n h
 
--- a step is the outcome of its flow, each number as the code has it
-pub outcome-is : (u : Unit) (s : ℕ) (request : ℤ) → mag request < 2 ^ 31 → (f : Flow) → f ≡ flowOf u s (toZ w32 (ofZ w32 request))
-    → (watts vars : ℤ) → mag watts < 2 ^ 31 → mag vars < 2 ^ 31 → (stored loss : ℕ)
-    → watts ≡ wattsOf u f → vars ≡ varsOf u (toZ w32 (ofZ w32 watts)) → stored ≡ storedOf u s f → loss ≡ lossOf u s f
-    → _≡_ {A = Outcome} (record { watts = toZ w32 (ofZ w32 watts); vars = toZ w32 (ofZ w32 vars); stored = stored; loss = loss }) (stepOf u s request)
-unfolding stepOf outcomeOf
-outcome-is u s request h f e watts vars hw hv stored loss ew ev es el =
-    let r : f ≡ flowOf u s request = flow-read u s request h f e in
-    cc (read w32 watts hw, read w32 vars hv)
+  pub out-moves : (x : ℕ) {f : Flow} → Out x ≡ f → (n : ℕ) → n ≡ removedBy u s x → _≡_ {A = Move} (record { flow = Out x; moved = n }) (moveBy u s f)
+  unfolding movedBy
+  out-moves x e n h = move-is (Out x) e n h
 
--- ---- what is known of a flow by its kind
-module _ (u : Unit) (s : ℕ) (flow : Flow) (x : ℕ) where
-  pub out-is : flow ≡ Out x → Carried u s flow → (x ≤ u .kva) × (removedBy u s x ≤ u .stored)
-  out-is e h = subst (Carried u s) e h
+  pub in-moves : (x : ℕ) {f : Flow} → In x ≡ f → (n : ℕ) → n ≡ addedBy u s x → _≡_ {A = Move} (record { flow = In x; moved = n }) (moveBy u s f)
+  unfolding movedBy
+  in-moves x e n h = move-is (In x) e n h
 
-  pub in-is : flow ≡ In x → Carried u s flow → (x ≤ u .kva) × (addedBy u s x ≤ u .rated - u .stored)
-  in-is e h = subst (Carried u s) e h
+-- the flow that the code has, of the request that is read back from its bits, and what it moves
+module _ (u : Unit) (s : ℕ) (request : ℤ) (h : mag request < 2 ^ 31) (m : Move) (e : m ≡ moveBy u s (flowOf u s (toZ w32 (ofZ w32 request)))) where
+  flow-read : m ≡ moveBy u s (flowOf u s request)
+  flow-read = e ∙ ap (λ (z : ℤ). moveBy u s (flowOf u s z)) (read w32 request h)
+
+  pub moving : Ranged u s → Moving u s (m .flow) (m .moved)
+  moving r =
+      let k : Carried u s (flowOf u s request) = flow-carried u s request in
+      subst⁻¹ (λ (n : Move). Moving u s (n .flow) (n .moved)) flow-read (record { ranged = r; carried = k; moved-is = refl })
+
+  -- a step is the outcome of its flow, each number as the code has it
+  pub outcome-is : (watts vars : ℤ) → mag watts < 2 ^ 31 → mag vars < 2 ^ 31 → (stored loss : ℕ)
+      → watts ≡ wattsOf u (m .flow) → vars ≡ varsOf u (toZ w32 (ofZ w32 watts)) → stored ≡ storedOf u s (m .flow) → loss ≡ lossOf u s (m .flow)
+      → _≡_ {A = Outcome} (record { watts = toZ w32 (ofZ w32 watts); vars = toZ w32 (ofZ w32 vars); stored = stored; loss = loss }) (stepOf u s request)
+  unfolding stepOf outcomeOf
+  outcome-is watts vars hw hv stored loss ew ev es el =
+      let r : m .flow ≡ flowOf u s request = ap (λ (n : Move). n .flow) flow-read in
+      cc (read w32 watts hw, read w32 vars hv)
+
+-- ---- the numbers of a step by what its flow moves, for each kind of flow, and what keeps them in their types
+module _ {u : Unit} {s : ℕ} {flow : Flow} {moved : ℕ} (m : Moving u s flow moved) where
+  moves : (f : Flow) → flow ≡ f → moved ≡ movedBy u s f
+  moves f e = m .moved-is ∙ ap (movedBy u s) e
+
+  module _ {x : ℕ} (e : flow ≡ Out x) where
+    out-moved : moved ≡ removedBy u s x
+    unfolding movedBy
+    out-moved = moves (Out x) e
+
+    pub out-small : x ≤ 100000000
+    out-small =
+        let b = bounds (m .ranged) in
+        let k = subst (Carried u s) e (m .carried) in
+        omega arith
+
+    pub out-held : moved ≤ u .stored
+    out-held =
+        let k = subst (Carried u s) e (m .carried) in
+        omega (arith, out-moved)
+
+    pub out-covers : x * s ≤ moved
+    out-covers = omega (arith, out-moved, removal-covers u s x (bounds (m .ranged)))
+
+    pub out-fits : x * s < 2 ^ 64
+    out-fits = energy-fits x s out-small (bounds (m .ranged) .seconds-most)
+
+    pub out-watts : pos x ≡ wattsOf u flow
+    unfolding wattsOf
+    out-watts = sym (ap (wattsOf u) e)
+
+    pub out-stored : u .stored - moved ≡ storedOf u s flow
+    unfolding storedOf
+    out-stored = ap (λ (n : ℕ). u .stored - n) out-moved ∙ sym (ap (storedOf u s) e)
+
+    pub out-loss : moved - x * s ≡ lossOf u s flow
+    unfolding lossOf
+    out-loss = ap (λ (n : ℕ). n - x * s) out-moved ∙ sym (ap (lossOf u s) e)
+
+  module _ {x : ℕ} (e : flow ≡ In x) where
+    in-moved : moved ≡ addedBy u s x
+    unfolding movedBy
+    in-moved = moves (In x) e
+
+    pub in-small : x ≤ 100000000
+    in-small =
+        let b = bounds (m .ranged) in
+        let k = subst (Carried u s) e (m .carried) in
+        omega arith
+
+    pub in-room : u .stored + moved ≤ 10000000000000
+    in-room =
+        let b = bounds (m .ranged) in
+        let k = subst (Carried u s) e (m .carried) in
+        omega (arith, in-moved)
+
+    pub in-covered : moved ≤ x * s
+    in-covered = omega (arith, in-moved, addition-covered u s x (bounds (m .ranged)))
+
+    pub in-fits : x * s < 2 ^ 64
+    in-fits = energy-fits x s in-small (bounds (m .ranged) .seconds-most)
+
+    pub in-watts : negℤ (pos x) ≡ wattsOf u flow
+    unfolding wattsOf
+    in-watts = sym (ap (wattsOf u) e)
+
+    pub in-stored : u .stored + moved ≡ storedOf u s flow
+    unfolding storedOf
+    in-stored = ap (λ (n : ℕ). u .stored + n) in-moved ∙ sym (ap (storedOf u s) e)
+
+    pub in-loss : x * s - moved ≡ lossOf u s flow
+    unfolding lossOf
+    in-loss = ap (λ (n : ℕ). x * s - n) in-moved ∙ sym (ap (lossOf u s) e)
+
+  module _ (e : flow ≡ Idle) where
+    idle-moved : moved ≡ idleDraw u
+    unfolding movedBy
+    idle-moved = moves Idle e
+
+    pub idle-small : moved ≤ 100000000
+    idle-small =
+        let b = bounds (m .ranged) in
+        omega (arith, idle-moved)
+
+    pub idle-fits : moved * s < 2 ^ 64
+    idle-fits = energy-fits moved s idle-small (bounds (m .ranged) .seconds-most)
+
+    pub idle-watts : negℤ (pos moved) ≡ wattsOf u flow
+    unfolding wattsOf
+    idle-watts = ap (λ (n : ℕ). negℤ (pos n)) idle-moved ∙ sym (ap (wattsOf u) e)
+
+    pub idle-stored : u .stored ≡ storedOf u s flow
+    unfolding storedOf
+    idle-stored = sym (ap (storedOf u s) e)
+
+    pub idle-loss : moved * s ≡ lossOf u s flow
+    unfolding lossOf
+    idle-loss = ap (λ (n : ℕ). n * s) idle-moved ∙ sym (ap (lossOf u s) e)
 
 -- ---- a step of any numbers
 module _ (u : Unit) (s : ℕ) (request : ℤ) where

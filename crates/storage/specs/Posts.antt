@@ -5,7 +5,8 @@ use mathlib.Core.Path.{_≡_}
 use Rattle.storage.specs.declared.Unit.{Unit}
 use Rattle.storage.specs.declared.Flow.{Flow}
 use Rattle.storage.specs.declared.Flow.the-variants.{Out, In, Idle}
-use Rattle.storage.specs.Ranges.{unitIn, secondsIn}
+use Rattle.storage.specs.declared.Move.{Move}
+use Rattle.storage.specs.Ranges.{idleDraw, unitIn, secondsIn}
 use Rattle.storage.specs.Step.{removedBy, addedBy}
 
 -- a unit and a step length in their ranges
@@ -18,3 +19,19 @@ abbrev pub Carried : Unit → ℕ → Flow → Type 0
 Carried u seconds (Out x) = (x ≤ u .kva) × (removedBy u seconds x ≤ u .stored)
 Carried u seconds (In x) = (x ≤ u .kva) × (addedBy u seconds x ≤ u .rated - u .stored)
 Carried u seconds Idle = 0 ≤ 0
+
+-- what a flow moves: the joules that it takes out of the store or puts into it; of an idle unit the watts that it draws
+unfoldable pub movedBy : Unit → ℕ → Flow → ℕ
+movedBy u seconds (Out x) = removedBy u seconds x
+movedBy u seconds (In x) = addedBy u seconds x
+movedBy u seconds Idle = idleDraw u
+
+-- a flow with what it moves
+abbrev pub moveBy : Unit → ℕ → Flow → Move
+moveBy u seconds flow = record { flow = flow; moved = movedBy u seconds flow }
+
+-- a unit and a step length in their ranges, a flow that the unit can carry, and the number that it moves
+pub record Moving (u : Unit) (seconds : ℕ) (flow : Flow) (moved : ℕ) : Type 0 where
+  pub ranged : Ranged u seconds
+  pub carried : Carried u seconds flow
+  pub moved-is : moved ≡ movedBy u seconds flow

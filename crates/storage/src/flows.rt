@@ -1,48 +1,68 @@
 ghost use mathlib.Core.Path.{_≡_};
 ghost use Prim.Native.Nat.{_≤_};
+ghost use Rattle.storage.specs.declared.Flow.the-variants.{Idle};
 ghost use Rattle.storage.specs.Step.{discharged, charged, flowOf, wattsOf, storedOf, lossOf};
-ghost use Rattle.storage.specs.Posts.{Ranged, Carried};
+ghost use Rattle.storage.specs.Posts.{Ranged, Moving, moveBy};
 use super::Flow;
+use super::Move;
 use super::Unit;
 use super::energy;
 use super::limits;
 use super::ranges;
 
-// What a request of p watts out makes flow.
-fn discharge(u: Unit, seconds: u32, p: u64) -> Flow
+// What moves where the unit idles.
+fn idle(u: Unit, seconds: u32) -> Move
+    ensures { λ r. ⌜ r ≡ moveBy u seconds Idle ⌝ }
+{
+    Move {
+        flow: Flow::Idle,
+        moved: ranges::idle_draw(u),
+    }
+}
+
+// What a request of p watts out makes flow, and what that moves.
+fn discharge(u: Unit, seconds: u32, p: u64) -> Move
     requires { ⌜ Ranged u seconds ⌝ }
-    ensures { λ r. ⌜ r ≡ discharged u seconds p ⌝ }
+    requires { ⌜ p ≤ 100000000 ⌝ }
+    ensures { λ r. ⌜ r ≡ moveBy u seconds (discharged u seconds p) ⌝ }
 {
     if p == 0 {
-        return Flow::Idle;
+        return idle(u, seconds);
     }
     if u.stored < u.reserve {
-        return Flow::Idle;
+        return idle(u, seconds);
     }
     let x = energy::deliver(u, seconds, p);
     if x == 0 {
-        return Flow::Idle;
+        return idle(u, seconds);
     }
-    Flow::Out(x)
+    Move {
+        flow: Flow::Out(x),
+        moved: energy::removed(u, seconds, x),
+    }
 }
 
-// What a request of p watts in makes flow.
-fn charge(u: Unit, seconds: u32, p: u64) -> Flow
+// What a request of p watts in makes flow, and what that moves.
+fn charge(u: Unit, seconds: u32, p: u64) -> Move
     requires { ⌜ Ranged u seconds ⌝ }
     requires { ⌜ p ≤ 100000000 ⌝ }
-    ensures { λ r. ⌜ r ≡ charged u seconds p ⌝ }
+    ensures { λ r. ⌜ r ≡ moveBy u seconds (charged u seconds p) ⌝ }
 {
     let x = energy::take_in(u, seconds, p);
-    if energy::added(u, seconds, x) == 0 {
-        return Flow::Idle;
+    let moved = energy::added(u, seconds, x);
+    if moved == 0 {
+        return idle(u, seconds);
     }
-    Flow::In(x)
+    Move {
+        flow: Flow::In(x),
+        moved,
+    }
 }
 
-// What flows in a step.
-pub fn flow(u: Unit, seconds: u32, request: i32) -> Flow
+// What flows in a step, and what that moves, worked out once for the numbers below.
+pub fn flow(u: Unit, seconds: u32, request: i32) -> Move
     requires { ⌜ Ranged u seconds ⌝ }
-    ensures { λ r. ⌜ r ≡ flowOf u seconds request ⌝ }
+    ensures { λ r. ⌜ r ≡ moveBy u seconds (flowOf u seconds request) ⌝ }
 {
     let p = limits::held(u, request) as u64;
     if request < 0 {
@@ -52,40 +72,37 @@ pub fn flow(u: Unit, seconds: u32, request: i32) -> Flow
 }
 
 // The watts at the grid.
-pub fn watts(u: Unit, seconds: u32, flow: Flow) -> i32
-    requires { ⌜ Ranged u seconds ⌝ }
-    requires { ⌜ Carried u seconds flow ⌝ }
+pub fn watts(u: Unit, seconds: u32, flow: Flow, moved: u64) -> i32
+    requires { ⌜ Moving u seconds flow moved ⌝ }
     ensures { λ r. ⌜ r ≡ wattsOf u flow ⌝ }
 {
     match flow {
         Flow::Out(x) => whole::signed32(false, x as u32),
         Flow::In(x) => whole::signed32(true, x as u32),
-        Flow::Idle => whole::signed32(true, ranges::idle_draw(u) as u32),
+        Flow::Idle => whole::signed32(true, moved as u32),
     }
 }
 
 // The store after the step.
-pub fn stored(u: Unit, seconds: u32, flow: Flow) -> u64
-    requires { ⌜ Ranged u seconds ⌝ }
-    requires { ⌜ Carried u seconds flow ⌝ }
+pub fn stored(u: Unit, seconds: u32, flow: Flow, moved: u64) -> u64
+    requires { ⌜ Moving u seconds flow moved ⌝ }
     ensures { λ r. ⌜ r ≡ storedOf u seconds flow ⌝ }
 {
     match flow {
-        Flow::Out(x) => u.stored - energy::removed(u, seconds, x),
-        Flow::In(x) => u.stored + energy::added(u, seconds, x),
+        Flow::Out(_) => u.stored - moved,
+        Flow::In(_) => u.stored + moved,
         Flow::Idle => u.stored,
     }
 }
 
 // The loss of the step in joules.
-pub fn loss(u: Unit, seconds: u32, flow: Flow) -> u64
-    requires { ⌜ Ranged u seconds ⌝ }
-    requires { ⌜ Carried u seconds flow ⌝ }
+pub fn loss(u: Unit, seconds: u32, flow: Flow, moved: u64) -> u64
+    requires { ⌜ Moving u seconds flow moved ⌝ }
     ensures { λ r. ⌜ r ≡ lossOf u seconds flow ⌝ }
 {
     match flow {
-        Flow::Out(x) => energy::removed(u, seconds, x) - x * (seconds as u64),
-        Flow::In(x) => x * (seconds as u64) - energy::added(u, seconds, x),
-        Flow::Idle => ranges::idle_draw(u) * (seconds as u64),
+        Flow::Out(x) => moved - x * (seconds as u64),
+        Flow::In(x) => x * (seconds as u64) - moved,
+        Flow::Idle => moved * (seconds as u64),
     }
 }

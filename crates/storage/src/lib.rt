@@ -35,6 +35,13 @@ pub enum Flow {
     Idle,
 }
 
+// A flow with what it moves: joules out of the store or into it; of an idle unit the watts that it
+// draws.
+pub struct Move {
+    pub flow: Flow,
+    pub moved: u64,
+}
+
 // What a step gives: watts at the grid, vars, the store after it, and the loss in joules.
 pub struct Outcome {
     pub watts: i32,

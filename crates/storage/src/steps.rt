@@ -13,13 +13,15 @@ pub fn step_within(u: Unit, seconds: u32, request: i32) -> Outcome
     requires { ⌜ Ranged u seconds ⌝ }
     ensures { λ r. ⌜ r ≡ stepOf u seconds request ⌝ }
 {
-    let flow = flows::flow(u, seconds, request);
-    let watts = flows::watts(u, seconds, flow);
+    let m = flows::flow(u, seconds, request);
+    let flow = m.flow;
+    let moved = m.moved;
+    let watts = flows::watts(u, seconds, flow, moved);
     Outcome {
         watts,
         vars: limits::vars(u, watts),
-        stored: flows::stored(u, seconds, flow),
-        loss: flows::loss(u, seconds, flow),
+        stored: flows::stored(u, seconds, flow, moved),
+        loss: flows::loss(u, seconds, flow, moved),
     }
 }
 

@@ -1,8 +1,11 @@
--- The code is the definition: the watts that can be taken, idle where they add nothing. They are no more than asked, so their addition fits.
+-- The code is the definition: the watts that can be taken with what they add, idle where they add nothing. They are no more than asked, so their
+-- addition fits.
 use borrow.Author.Needs.{needs}
+use mathlib.Core.Path.{ap, _∙_}
 use native.Mathlib.Omega.{arith}
 use Rattle.storage.proofs.LimitLaws.{takeable-most}
-use Rattle.storage.proofs.StepLaws.{charged-none, charged-some}
+use Rattle.storage.proofs.StepLaws.{charged-none, charged-some, in-moves}
+use Rattle.storage.specs.Posts.{moveBy}
 use Rattle.storage.proofs.flows.charge.Statement.{statement}
 use Rattle.storage.proofs.flows.charge.Tie as tie
 
@@ -16,15 +19,23 @@ added-requires c κs =
     let e = c .take-in .ensures in
     (s .pre .0, omega arith)
 
+idle-requires : tie.Need-idle-requires
+idle-requires c κs = search needs
+
 returns : tie.Need-returns
 returns c =
-    let x = c .before .before .before .args in
-    charged-none (x .u) (x .seconds) (x .p) (cc (c .before .before .take-in .ensures, c .before .added .ensures, c .if1 .taken))
+    let a = c .before .before in
+    let x = a .before .before .args in
+    let none = charged-none (x .u) (x .seconds) (x .p) (cc (a .before .take-in .ensures, a .added .ensures, c .before .if1 .taken)) in
+    c .idle .ensures ∙ ap (moveBy (x .u) (x .seconds)) none
 
 returns-2 : tie.Need-returns-2
 returns-2 c =
-    let x = c .before .before .before .args in
-    cc (charged-some (x .u) (x .seconds) (x .p) (λ z. c .if1 .left (cc (z, c .before .before .take-in .ensures, c .before .added .ensures))), c .before .before .take-in .ensures)
+    let a = c .before in
+    let x = a .before .before .args in
+    let t = a .before .take-in in
+    let some = charged-some (x .u) (x .seconds) (x .p) (t .result) (t .ensures) (λ z. c .if1 .left (cc (z, a .added .ensures))) in
+    in-moves (x .u) (x .seconds) (t .result) some (a .added .result) (a .added .ensures)
 
 pub charge-spec : {M : Type 1} → statement M
-charge-spec = tie.close (tie.spec take-in-requires added-requires returns returns-2)
+charge-spec = tie.close (tie.spec take-in-requires added-requires idle-requires returns returns-2)

@@ -1,13 +1,9 @@
 -- The code is the definition: the held size charges where the request is below 0 and discharges otherwise. It is at most S, so at most 100,000,000.
 use borrow.Author.Needs.{needs}
-use mathlib.Core.Path.{sym, ap, _∙_}
-use native.Mathlib.Omega.{arith}
+use mathlib.Core.Path.{sym, _∙_}
 use mir.Syntax.{w32}
 use Rattle.whole.proofs.SignLaws.{sign-is}
-use Rattle.storage.proofs.RangeLaws.{bounds}
-use Rattle.storage.proofs.LimitLaws.{held-read, held-most}
-use Rattle.storage.proofs.StepLaws.{flow-in, flow-out}
-use Rattle.storage.specs.Step.{charged, discharged}
+use Rattle.storage.proofs.StepLaws.{held-small, move-in, move-out}
 use Rattle.storage.proofs.flows.flow.Statement.{statement}
 use Rattle.storage.proofs.flows.flow.Tie as tie
 
@@ -20,27 +16,32 @@ cast-p c = search needs
 charge-requires : tie.Need-charge-requires
 charge-requires c κs =
     let s = c .before .before in
-    let b = bounds (s .pre) in
-    let m = held-most (s .args .u) (s .args .request) in
-    let e = held-read (s .args .u) (s .args .request) (c .before .held .result) (s .fits .request .sfits) (c .before .held .ensures) in
-    (s .pre, omega arith)
+    let x = s .args in
+    let p = c .before .held in
+    (s .pre, held-small (x .u) (x .seconds) (x .request) (p .result) (s .fits .request .sfits) (p .ensures) (s .pre))
 
 returns : tie.Need-returns
 returns c =
     let s = c .before .before .before in
     let x = s .args in
-    let p = held-read (x .u) (x .request) (c .before .before .held .result) (s .fits .request .sfits) (c .before .before .held .ensures) in
-    c .charge .ensures ∙ ap (charged (x .u) (x .seconds)) p ∙ flow-in (x .u) (x .seconds) (x .request) (sym (sign-is w32 (x .request) (s .fits .request)) ∙ c .before .if1 .taken)
+    let p = c .before .before .held in
+    let below = sym (sign-is w32 (x .request) (s .fits .request)) ∙ c .before .if1 .taken in
+    c .charge .ensures ∙ move-in (x .u) (x .seconds) (x .request) (p .result) (s .fits .request .sfits) (p .ensures) below
 
 discharge-requires : tie.Need-discharge-requires
-discharge-requires c κs = search needs
+discharge-requires c κs =
+    let s = c .before .before in
+    let x = s .args in
+    let p = c .before .held in
+    (s .pre, held-small (x .u) (x .seconds) (x .request) (p .result) (s .fits .request .sfits) (p .ensures) (s .pre))
 
 returns-2 : tie.Need-returns-2
 returns-2 c =
     let s = c .before .before .before in
     let x = s .args in
-    let p = held-read (x .u) (x .request) (c .before .before .held .result) (s .fits .request .sfits) (c .before .before .held .ensures) in
-    c .discharge .ensures ∙ ap (discharged (x .u) (x .seconds)) p ∙ flow-out (x .u) (x .seconds) (x .request) (sym (sign-is w32 (x .request) (s .fits .request)) ∙ c .before .if1 .left)
+    let p = c .before .before .held in
+    let above = sym (sign-is w32 (x .request) (s .fits .request)) ∙ c .before .if1 .left in
+    c .discharge .ensures ∙ move-out (x .u) (x .seconds) (x .request) (p .result) (s .fits .request .sfits) (p .ensures) above
 
 pub flow-spec : {M : Type 1} → statement M
 flow-spec =

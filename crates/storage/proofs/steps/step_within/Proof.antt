@@ -1,7 +1,7 @@
--- A step is what flows, and then the watts, the vars, the store and the loss of that flow, which the unit can carry.
+-- A step is what flows with what that moves, and then the watts, the vars, the store and the loss of that flow, which the unit can carry.
 use borrow.Author.Needs.{needs}
 use Rattle.storage.proofs.RangeLaws.{bounds}
-use Rattle.storage.proofs.StepLaws.{carried, outcome-is}
+use Rattle.storage.proofs.StepLaws.{moving, outcome-is}
 use Rattle.storage.proofs.steps.step_within.Statement.{statement}
 use Rattle.storage.proofs.steps.step_within.Tie as tie
 
@@ -11,7 +11,7 @@ flow-requires c κs = search needs
 watts-requires : tie.Need-watts-requires
 watts-requires c κs =
     let s = c .before in
-    (s .pre, carried (s .args .u) (s .args .seconds) (s .args .request) (s .fits .request .sfits) (c .flow .result) (c .flow .ensures))
+    moving (s .args .u) (s .args .seconds) (s .args .request) (s .fits .request .sfits) (c .flow .result) (c .flow .ensures) (s .pre)
 
 vars-requires : tie.Need-vars-requires
 vars-requires c κs = bounds (c .before .before .pre) .vars-most
@@ -20,13 +20,13 @@ stored-requires : tie.Need-stored-requires
 stored-requires c κs =
     let s = c .before .before .before in
     let f = c .before .before .flow in
-    (s .pre, carried (s .args .u) (s .args .seconds) (s .args .request) (s .fits .request .sfits) (f .result) (f .ensures))
+    moving (s .args .u) (s .args .seconds) (s .args .request) (s .fits .request .sfits) (f .result) (f .ensures) (s .pre)
 
 loss-requires : tie.Need-loss-requires
 loss-requires c κs =
     let s = c .before .before .before .before in
     let f = c .before .before .before .flow in
-    (s .pre, carried (s .args .u) (s .args .seconds) (s .args .request) (s .fits .request .sfits) (f .result) (f .ensures))
+    moving (s .args .u) (s .args .seconds) (s .args .request) (s .fits .request .sfits) (f .result) (f .ensures) (s .pre)
 
 returns : tie.Need-returns
 returns c =
