@@ -2,8 +2,9 @@
 use mathlib.Core.List.{List, map}
 use mathlib.Core.Path.{_≡_, refl}
 use lib.IntN.{ℤ}
+use lib.Ieee.{toBits, div, ofInt}
 use Rattle.figures.specs.Table.{Figure, table}
 
 pub figures-hold : map (λ (f : Figure). f .given) table ≡ map (λ (f : Figure). f .stated) table
-unfolding table
+unfolding table toBits div ofInt
 figures-hold = refl

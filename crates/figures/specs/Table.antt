@@ -1,12 +1,14 @@
--- The bench figures of document 01 as one table: for each the answer that the definitions of the crates below give, and the one that the document states.
+-- The bench figures of document 01, its whole case and its result of no steps as one table: for each the answer that the definitions of the crates below give, and the one that the document states.
 -- An answer is the refusal's number, 0 where there is none, and then its values. A kW figure stands by its bit pattern.
-use mathlib.Core.List.{List, [], _∷_}
+use mathlib.Core.List.{List, [], _∷_, map}
 use Prim.Native.Nat.{ℕ}
 use lib.IntN.{ℤ, pos, negℤ}
 use lib.Ieee.{binary64, ofBits}
 use mathlib.Core.Bool.{cond}
 use lib.ListN.{length, replicate}
 use Rattle.whole.specs.Largest.{legOf}
+use Rattle.octets.specs.BigEndian.{bytesOf}
+use Rattle.season.specs.Answers.{runAnswer, runLeaves}
 use Rattle.storage.specs.declared.Unit.{Unit}
 use Rattle.storage.specs.Step.{stepOf}
 use Rattle.controller.specs.declared.Settings.{Settings}
@@ -18,7 +20,7 @@ use Rattle.reading.specs.declared.Watts.the-variants.{Whole, Refused}
 use Rattle.reading.specs.Conversion.{wattsOf, numberOf}
 
 pub data Name : Type 0 where
-  A1 A2 A3 A4 B1 B2 B3 B4 B5 C1 D1 D2 D3 E1 : Name
+  A1 A2 A3 A4 B1 B2 B3 B4 B5 C1 D1 D2 D3 E1 WholeCase ZeroSteps : Name
 
 pub record Figure : Type 0 where
   pub name : Name
@@ -113,8 +115,27 @@ pair = units (100 ∷ 1000 ∷ []) (1 ∷ 1 ∷ [])
 abbrev pub settling : Settings
 settling = set 1 (pos 700) 20 1000
 
+-- the answer of a run into a room of n zeros: what the room then holds
+unfoldable pub run : List ℕ → ℕ → List ℤ
+unfolding runAnswer runLeaves
+run file n = pos (runAnswer file n .number) ∷ map pos (runLeaves file (replicate n 0))
+
+-- the run files of the whole case and of one with no steps: a unit of 3,600,000 J, all of it stored, with R and S of 1,000, 60 s a step. Their bytes
+-- and those of the results stand as one number.
+unfoldable pub missingOnce : List ℕ
+unfolding bytesOf
+missingOnce = bytesOf 86 0x01000601010000003c020031000000000036ee800000000000000000000000000036ee80000003e8000003e8000003e80000000000012710271027100003000c01000000000000000003e8000500007f000400000001
+
+unfoldable pub noSteps : List ℕ
+unfolding bytesOf
+noSteps = bytesOf 83 0x01000601010000003c020031000000000036ee800000000000000000000000000036ee80000003e8000003e8000003e80000000000012710271027100003000c01000000000000000003e8007f000400000000
+
+unfoldable pub bytes : ℕ → ℕ → List ℤ
+unfolding bytesOf
+bytes n v = pos 0 ∷ map pos (bytesOf n v)
+
 unfoldable pub table : List Figure
-unfolding kilowatts leg pass after study step
+unfolding kilowatts leg pass after study step run missingOnce noSteps bytes
 table =
     figure A1 (kilowatts 0x3ff8_0000_0000_0000) (value (pos 1500))
     ∷ figure A2 (kilowatts 0x3fb0_0000_0000_0000) (value (pos 63))
@@ -142,4 +163,6 @@ table =
     ∷ figure D3 (step (holding 0) 60 (negℤ (pos 1000))) (pos 0 ∷ negℤ (pos 1000) ∷ pos 0 ∷ pos 42720 ∷ pos 17280 ∷ [])
     ∷ figure E1 (leg 5 3) (value (pos 4))
     ∷ figure E1 (leg 10 7) (value (pos 7))
+    ∷ figure WholeCase (run missingOnce 47) (bytes 47 0x110025000000000000000000bff000000000000000000000000000000036ee80000000000000ea601f000400000001)
+    ∷ figure ZeroSteps (run noSteps 7) (bytes 7 0x1f000400000000)
     ∷ []
