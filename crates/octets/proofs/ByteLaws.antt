@@ -3,9 +3,9 @@ use mathlib.Core.Path.{_≡_, refl, sym}
 use mathlib.Core.List.{List, [], _∷_, _++_, append-nil, append-assoc}
 use Prim.Native.Nat.{ℕ, zero, suc, _+_, _*_, _/_, _%_, _^_, _<_}
 use native.Mathlib.Nat.{add-zero, zero-add, add-suc, add-assoc, mul-assoc, pow-suc, pow-succ', div-one, div-div-eq-div-mul, mod-one, one-le-pow, le-step, lt-suc-self}
-use native.Mathlib.Numerals.{add-one}
+use native.Mathlib.Numerals.{add-one, one-add}
 use native.Mathlib.Omega.{arith}
-use lib.Arith.{digits-lt, digits-div, digits-mod, mod-mul}
+use lib.Arith.{digits-lt, mod-mul}
 use lib.Dec.{lit<}
 use lib.ListN.{length, getD, length-append, List·getD-append}
 use lib.Seq.{getD-at}
@@ -14,19 +14,19 @@ use mir.Val.{Fits}
 use Rattle.octets.specs.BigEndian.{be, bytesOf}
 
 -- every place weighs something
-pow-pos : (n : ℕ) → 0 < 256 ^ n
+pub pow-pos : (n : ℕ) → 0 < 256 ^ n
 pow-pos n = one-le-pow n 256 (lit< tt)
 
 -- a byte fits 16 bits
 pub byte-fits : {a : ℕ} → Fits w8 a → Fits w16 a
 byte-fits h = omega arith
 
--- so it does with the weight of the first of two
+-- so it does with the greater weight of two
 pub high-fits : {a : ℕ} → Fits w8 a → Fits w16 (a * 256)
 high-fits h = omega arith
 
 -- and so do two together
-pub both-fit : {a b : ℕ} → Fits w8 a → Fits w8 b → Fits w16 (a * 256 + b)
+pub both-fit : {a b : ℕ} → Fits w8 a → Fits w8 b → Fits w16 (a + b * 256)
 both-fit h l = omega arith
 
 -- ---- the number in the bytes
@@ -46,6 +46,10 @@ be-split n (suc m) s at =
   where
     step : (a b c x p : ℕ) → a ≡ b * p + c → a * 256 + x ≡ b * (p * 256) + (c * 256 + x)
     step a b c x p e = let q : b * p * 256 ≡ b * (p * 256) = mul-assoc b p 256 in omega arith
+
+-- the first of n + 1 bytes weighs most
+pub be-first : (n : ℕ) (s : List ℕ) (at : ℕ) → be (suc n) s at ≡ getD s at 0 * 256 ^ n + be n s (at + 1)
+be-first n s at = rw (← one-add n, be-split 1 n s at, be-one s at)
 
 -- the number is known by its bytes
 pub be-same : (n : ℕ) (s t : List ℕ) (at to : ℕ) → ((i : ℕ) → i < n → getD s (at + i) 0 ≡ getD t (to + i) 0) → be n s at ≡ be n t to
@@ -73,13 +77,14 @@ unfolding bytesOf
 bytes-split n zero v = rw (add-zero n, append-nil, div-one v)
 bytes-split n (suc m) v = rw (add-suc n m, pow-succ' 256 m, bytes-split n m (v / 256), div-div-eq-div-mul v 256 (256 ^ m), append-assoc)
 
--- the n lowest bytes see nothing of the number above 256 ^ n
-pub bytes-low : (n v : ℕ) → bytesOf n (v % 256 ^ n) ≡ bytesOf n v
+-- one byte is itself
+bytes-one : (v : ℕ) → bytesOf 1 v ≡ v % 256 ∷ []
 unfolding bytesOf
-bytes-low zero v = refl
-bytes-low (suc n) v =
-    let r : v % 256 < 256 = omega arith in
-    rw (pow-suc 256 n, mod-mul v (pow-pos n) (lit< tt), digits-div (v / 256 % 256 ^ n) r, digits-mod (v / 256 % 256 ^ n) r, bytes-low n (v / 256))
+bytes-one v = refl
+
+-- the highest of n + 1 bytes comes first
+pub bytes-first : (n v : ℕ) → bytesOf (suc n) v ≡ v / 256 ^ n % 256 ∷ bytesOf n v
+bytes-first n v = rw (← one-add n, bytes-split 1 n v, bytes-one (v / 256 ^ n))
 
 -- ---- there and back
 

@@ -2,13 +2,13 @@
 use mathlib.Core.Path.{_≡_, sym, ap, _∙_}
 use mathlib.Core.List.{List, [], _∷_, _++_, append-assoc}
 use mathlib.Core.Logic.{_⊎_, inl, inr}
-use Prim.Native.Nat.{ℕ, _+_, _-_, _/_, _%_, _^_, _≤_, _<_}
+use Prim.Native.Nat.{ℕ, _+_, _-_, _%_, _^_, _≤_, _<_}
 use native.Mathlib.Nat.{zero-add, add-assoc, mod-eq-of-lt}
 use native.Mathlib.Numerals.{add-one}
 use native.Mathlib.Omega.{arith}
 use lib.ListN.{length, getD, take, drop, set, length-append, length-take, length-drop, List·getD-append}
 use lib.Seq.{length-take-le, take-at, drop-append-add, drop-drop, getD-append-add, getD-take, getD-drop, set-split, append-snoc}
-use Rattle.octets.proofs.ByteLaws.{be-same, be-bytes, bytes-length, bytes-split, bytes-low}
+use Rattle.octets.proofs.ByteLaws.{be-same, be-bytes, bytes-length}
 use Rattle.octets.specs.BigEndian.{be, bytesOf, laid}
 
 -- laying bytes within a list keeps its length
@@ -50,13 +50,6 @@ module _ (s : List ℕ) (at : ℕ) (h : at ≤ length s) where
         length-append a b,
         add-assoc at (length a) (length b),
       )
-
-  -- a number laid in two parts is laid whole
-  pub laid-parts : (n m v : ℕ) (t u : List ℕ) → t ≡ laid s at (bytesOf n (v / 256 ^ m)) → u ≡ laid t (at + n) (bytesOf m (v % 256 ^ m)) → u ≡ laid s at (bytesOf (n + m) v)
-  laid-parts n m v t u d e =
-      let a = bytesOf n (v / 256 ^ m) in
-      let l : length a ≡ n = bytes-length n (v / 256 ^ m) in
-      cc (laid-laid a (bytesOf m v), bytes-split n m v, bytes-low m v)
 
   -- ---- the bytes of the list, with others laid over it
   -- before them

@@ -1,2 +1,3 @@
 -- Numbers and doubles at a place of a list of bytes.
 pub mod BigEndian
+pub mod LowFirst

@@ -1,6 +1,7 @@
 // Big-endian numbers and doubles at a place of lent bytes, read and written. Each read states its
 // value as one definition over the width, and each write the whole slice at exit.
 mod doubles;
+mod lows;
 mod reads;
 mod writes;
 

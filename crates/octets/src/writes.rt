@@ -4,6 +4,7 @@ ghost use lib.ListN.{length};
 ghost use mir.Syntax.{w32};
 ghost use mir.Val.{ofZ};
 ghost use Rattle.octets.specs.BigEndian.{bytesOf, laid};
+use super::lows;
 
 // Lays a byte at a place.
 pub fn put_u8(s: &mut [u8], at: usize, v: u8)
@@ -18,8 +19,7 @@ pub fn put_u16(s: &mut [u8], at: usize, v: u16)
     requires { ⌜ at + 2 ≤ length (now s) ⌝ }
     ensures { λ _. ⌜ now (s .exit) ≡ laid (now (s .entry)) at (bytesOf 2 v) ⌝ }
 {
-    s[at] = (v / 256) as u8;
-    s[at + 1] = (v % 256) as u8;
+    lows::put_low16(s, at, lows::swap16(v));
 }
 
 // Lays a number over four bytes at a place.
@@ -27,8 +27,7 @@ pub fn put_u32(s: &mut [u8], at: usize, v: u32)
     requires { ⌜ at + 4 ≤ length (now s) ⌝ }
     ensures { λ _. ⌜ now (s .exit) ≡ laid (now (s .entry)) at (bytesOf 4 v) ⌝ }
 {
-    put_u16(s, at, (v / 65536) as u16);
-    put_u16(s, at + 2, (v % 65536) as u16);
+    lows::put_low32(s, at, lows::swap32(v));
 }
 
 // Lays a number over eight bytes at a place.
@@ -36,8 +35,7 @@ pub fn put_u64(s: &mut [u8], at: usize, v: u64)
     requires { ⌜ at + 8 ≤ length (now s) ⌝ }
     ensures { λ _. ⌜ now (s .exit) ≡ laid (now (s .entry)) at (bytesOf 8 v) ⌝ }
 {
-    put_u32(s, at, (v / 4294967296) as u32);
-    put_u32(s, at + 4, (v % 4294967296) as u32);
+    lows::put_low64(s, at, lows::swap64(v));
 }
 
 // Lays a signed number, two's complement, over four bytes at a place.

@@ -1,40 +1,22 @@
--- Each byte replaced is one laid, and a number laid in two parts is laid whole.
+-- The bytes of the swapped number, the lowest first, are those of the number, the highest first.
 use borrow.Author.Needs.{needs}
-use Prim.Native.Nat.{_+_, _/_, _%_}
-use native.Mathlib.Omega.{arith}
-use lib.ListN.{set, length-set}
-use Rattle.octets.proofs.LaidLaws.{laid-one, laid-parts}
+use Rattle.octets.proofs.LowLaws.{low-bytes-swapped}
 use Rattle.octets.proofs.writes.put_u16.Statement.{statement}
 use Rattle.octets.proofs.writes.put_u16.Tie as tie
 
-cast-s : tie.Need-cast-s
-cast-s c = search needs
+swap16-requires : tie.Need-swap16-requires
+swap16-requires c κs = search needs
 
-slice-write-s : tie.Need-slice-write-s
-slice-write-s c = search needs
-
-cast-s-2 : tie.Need-cast-s-2
-cast-s-2 c = search needs
-
-add-s : tie.Need-add-s
-add-s c = search needs
-
-slice-write-s-2 : tie.Need-slice-write-s-2
-slice-write-s-2 c = simp length-set (omega arith)
+put-low16-requires : tie.Need-put-low16-requires
+put-low16-requires c κs = search needs
 
 same-length : tie.Need-same-length
 same-length c = search needs
 
 returns : tie.Need-returns
 returns c =
-    let s = c .args .s .now in
-    let at = c .args .at in
-    let v = c .args .v in
-    let t = set s at (v / 256) in
-    laid-parts s at (omega arith) 1 1 v t (set t (at + 1) (v % 256))
-    (laid-one s at (v / 256) (omega arith) (omega arith))
-    (laid-one t (at + 1) (v % 256) (simp length-set (omega arith)) (omega arith))
+    let put = c .before .before in
+    cc (put .put-low16 .ensures, put .before .swap16 .ensures, low-bytes-swapped 2 (put .before .before .before .before .args .v))
 
 pub put-u16-spec : {M : Type 1} → statement M
-put-u16-spec =
-    tie.close (tie.spec cast-s slice-write-s cast-s-2 add-s slice-write-s-2 same-length returns)
+put-u16-spec = tie.close (tie.spec swap16-requires put-low16-requires same-length returns)

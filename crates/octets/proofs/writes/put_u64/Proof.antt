@@ -1,43 +1,22 @@
--- A number laid in two parts is laid whole.
+-- The bytes of the swapped number, the lowest first, are those of the number, the highest first.
 use borrow.Author.Needs.{needs}
-use native.Mathlib.Omega.{arith}
-use Rattle.octets.proofs.LaidLaws.{laid-parts}
+use Rattle.octets.proofs.LowLaws.{low-bytes-swapped}
 use Rattle.octets.proofs.writes.put_u64.Statement.{statement}
 use Rattle.octets.proofs.writes.put_u64.Tie as tie
 
-cast-put-u32 : tie.Need-cast-put-u32
-cast-put-u32 c = search needs
+swap64-requires : tie.Need-swap64-requires
+swap64-requires c κs = search needs
 
-put-u32-requires : tie.Need-put-u32-requires
-put-u32-requires c κs = search needs
-
-add-put-u32 : tie.Need-add-put-u32
-add-put-u32 c = search needs
-
-cast-put-u32-2 : tie.Need-cast-put-u32-2
-cast-put-u32-2 c = search needs
-
-put-u32-requires-2 : tie.Need-put-u32-requires-2
-put-u32-requires-2 c κs = search needs
+put-low64-requires : tie.Need-put-low64-requires
+put-low64-requires c κs = search needs
 
 same-length : tie.Need-same-length
 same-length c = search needs
 
 returns : tie.Need-returns
 returns c =
-    let second = c .before .before in
-    let first = second .before .before .before .before in
-    let s = first .before .before .before in
-    laid-parts (s .args .s .now) (s .args .at) (omega arith) 4 4 (s .args .v) (first .put-u32 .last .0) (second .put-u322 .last .0) (first .put-u32 .ensures) (second .put-u322 .ensures)
+    let put = c .before .before in
+    cc (put .put-low64 .ensures, put .before .swap64 .ensures, low-bytes-swapped 8 (put .before .before .before .before .args .v))
 
 pub put-u64-spec : {M : Type 1} → statement M
-put-u64-spec =
-    tie.close
-    (tie.spec
-    cast-put-u32
-    put-u32-requires
-    add-put-u32
-    cast-put-u32-2
-    put-u32-requires-2
-    same-length
-    returns)
+put-u64-spec = tie.close (tie.spec swap64-requires put-low64-requires same-length returns)

@@ -1,0 +1,45 @@
+-- A number of two bytes is the first and 256 times the second; both are below 256, so nothing wraps.
+use borrow.Author.Needs.{needs}
+use Prim.Native.Nat.{_+_}
+use native.Mathlib.Omega.{arith}
+use Rattle.octets.proofs.ByteLaws.{byte-fits, high-fits, both-fit}
+use Rattle.octets.proofs.LowLaws.{low-one, low-split}
+use Rattle.octets.proofs.lows.low16_at.Statement.{statement}
+use Rattle.octets.proofs.lows.low16_at.Tie as tie
+
+shared-slice-read-result : tie.Need-shared-slice-read-result
+shared-slice-read-result c = search needs
+
+cast-result : tie.Need-cast-result
+cast-result c = byte-fits (c .shared-slice-known .given _)
+
+add-result : tie.Need-add-result
+add-result c = search needs
+
+shared-slice-read-result-2 : tie.Need-shared-slice-read-result-2
+shared-slice-read-result-2 c = search needs
+
+cast-result-2 : tie.Need-cast-result-2
+cast-result-2 c = byte-fits (c .shared-slice-known2 .given _)
+
+mul-result : tie.Need-mul-result
+mul-result c = high-fits (c .shared-slice-known2 .given _)
+
+add-result-2 : tie.Need-add-result-2
+add-result-2 c = both-fit (c .before .shared-slice-known .given _) (c .shared-slice-known2 .given _)
+
+returns : tie.Need-returns
+returns c = let x = c .before .before .args in omega (arith, low-split 1 1 (x .s .now) (x .at), low-one (x .s .now) (x .at), low-one (x .s .now) (x .at + 1))
+
+pub low16-at-spec : {M : Type 1} → statement M
+low16-at-spec =
+    tie.close
+    (tie.spec
+    shared-slice-read-result
+    cast-result
+    add-result
+    shared-slice-read-result-2
+    cast-result-2
+    mul-result
+    add-result-2
+    returns)
