@@ -21,12 +21,12 @@ pow-pos n = one-le-pow n 256 (lit< tt)
 pub byte-fits : {a : ℕ} → Fits w8 a → Fits w16 a
 byte-fits h = omega arith
 
--- so it does with the greater weight of two
+-- so it does with the weight of the first of two
 pub high-fits : {a : ℕ} → Fits w8 a → Fits w16 (a * 256)
 high-fits h = omega arith
 
 -- and so do two together
-pub both-fit : {a b : ℕ} → Fits w8 a → Fits w8 b → Fits w16 (a + b * 256)
+pub both-fit : {a b : ℕ} → Fits w8 a → Fits w8 b → Fits w16 (a * 256 + b)
 both-fit h l = omega arith
 
 -- ---- the number in the bytes

@@ -3,43 +3,17 @@
 use mathlib.Core.Path.{_≡_, refl, sym}
 use mathlib.Core.List.{List, _++_}
 use Prim.Native.Nat.{ℕ, zero, suc, _+_, _*_, _/_, _%_, _^_, _≤_, _<_}
-use native.Mathlib.Nat.{add-zero, zero-add, suc-add, add-assoc, mul-assoc, add-mul, add-comm, pow-suc, pow-succ', div-one, div-div-eq-div-mul, mod-eq-of-lt}
-use native.Mathlib.Numerals.{add-one, one-add}
+use native.Mathlib.Nat.{zero-add, suc-add, add-assoc, mul-assoc, add-mul, pow-suc, pow-succ', div-one, div-div-eq-div-mul, mod-eq-of-lt}
+use native.Mathlib.Numerals.{add-one}
 use native.Mathlib.Omega.{arith}
-use lib.Arith.{digits-lt, digits-div, digits-mod, mod-mul}
+use lib.Arith.{digits-div, digits-mod, mod-mul}
 use lib.Dec.{lit<}
-use lib.ListN.{length, getD, set}
+use lib.ListN.{length, set}
 use lib.Pow.{pow-add}
-use mir.Syntax.{w8}
-use mir.Val.{Fits}
-use Rattle.octets.proofs.ByteLaws.{pow-pos, be-first, bytes-first}
+use Rattle.octets.proofs.ByteLaws.{pow-pos, bytes-first}
 use Rattle.octets.proofs.LaidLaws.{laid-set, laid-laid}
-use Rattle.octets.specs.BigEndian.{be, bytesOf, laid}
-use Rattle.octets.specs.LowFirst.{low, lowBytes, swapped}
-
--- ---- the number in the bytes
-
--- one byte is its own number
-pub low-one : (s : List ℕ) (at : ℕ) → low 1 s at ≡ getD s at 0
-unfolding low
-low-one s at = omega arith
-
--- the last m of n + m bytes weigh 256 ^ n times as much
-pub low-split : (n m : ℕ) (s : List ℕ) (at : ℕ) → low (n + m) s at ≡ low n s at + low m s (at + n) * 256 ^ n
-unfolding low
-low-split zero m s at = rw (zero-add m, add-zero at) (omega arith)
-low-split (suc n) m s at =
-    rw (suc-add n m, pow-suc 256 n, low-split n m s (at + 1), add-assoc at 1 n, one-add n)
-    (step (getD s at 0) (low n s (at + 1)) (low m s (at + suc n)) (256 ^ n))
-  where
-    step : (x a b p : ℕ) → x + (a + b * p) * 256 ≡ x + a * 256 + b * (p * 256)
-    step x a b p = let q : b * p * 256 ≡ b * (p * 256) = mul-assoc b p 256 in omega arith
-
--- n bytes hold a number below 256 ^ n
-pub low-below : (n : ℕ) (s : List ℕ) (at : ℕ) → ((i : ℕ) → Fits w8 (getD s i 0)) → low n s at < 256 ^ n
-unfolding low
-low-below zero s at h = lit< tt
-low-below (suc n) s at h = rw (pow-suc 256 n, add-comm (getD s at 0) (low n s (at + 1) * 256)) (digits-lt (low-below n s (at + 1) h) (h at .fits))
+use Rattle.octets.specs.BigEndian.{bytesOf, laid}
+use Rattle.octets.specs.LowFirst.{lowBytes, swapped}
 
 -- ---- the bytes of a number
 
@@ -104,12 +78,6 @@ swapped-split (suc n) m v =
       add-assoc (v % 256 * (256 ^ n * 256 ^ m)) (swapped n (v / 256) * 256 ^ m) (swapped m (v / (256 * 256 ^ n))),
     )
 
--- n bytes swapped are n bytes still
-pub swapped-below : (n v : ℕ) → swapped n v < 256 ^ n
-unfolding swapped
-swapped-below zero v = lit< tt
-swapped-below (suc n) v = rw (pow-succ' 256 n) (digits-lt (omega arith) (swapped-below n (v / 256)))
-
 -- nothing is seen of the number above 256 ^ n
 swapped-cut : (n v : ℕ) → swapped n (v % 256 ^ n) ≡ swapped n v
 unfolding swapped
@@ -125,19 +93,6 @@ swapped-last : (n v : ℕ) → swapped (suc n) v ≡ swapped n v * 256 + v / 256
 swapped-last n v = rw (← add-one n, swapped-split n 1 v, swapped-one (v / 256 ^ n))
 
 -- ---- the big-endian number is the swapped one
-
--- read, of a list of bytes
-pub swapped-low : (n : ℕ) (s : List ℕ) (at : ℕ) → ((i : ℕ) → Fits w8 (getD s i 0)) → swapped n (low n s at) ≡ be n s at
-unfolding swapped low be
-swapped-low zero s at h = refl
-swapped-low (suc n) s at h =
-    rw (
-      add-comm (getD s at 0) (low n s (at + 1) * 256),
-      digits-mod (low n s (at + 1)) (h at .fits),
-      digits-div (low n s (at + 1)) (h at .fits),
-      swapped-low n s (at + 1) h,
-    )
-    (sym (be-first n s at))
 
 -- written
 pub low-bytes-swapped : (n v : ℕ) → lowBytes n (swapped n v) ≡ bytesOf n v

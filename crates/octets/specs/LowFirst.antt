@@ -2,12 +2,6 @@
 -- A big-endian number is the swapped one of these; the contracts of other crates do not speak of them.
 use Prim.Native.Nat.{ℕ, zero, suc, _+_, _*_, _/_, _%_, _^_}
 use mathlib.Core.List.{List, [], _∷_}
-use lib.ListN.{getD}
-
--- the number in n bytes of a list from a place on, the first byte weighing least
-unfoldable pub low : ℕ → List ℕ → ℕ → ℕ
-low zero s at = 0
-low (suc n) s at = getD s at 0 + low n s (at + 1) * 256
 
 -- the n lowest bytes of a number, the first weighing least
 unfoldable pub lowBytes : ℕ → ℕ → List ℕ

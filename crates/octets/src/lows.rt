@@ -1,11 +1,11 @@
 ghost use mathlib.Core.Path.{_≡_};
 ghost use Prim.Native.Nat.{_+_, _≤_};
 ghost use lib.ListN.{length};
-ghost use Rattle.octets.specs.LowFirst.{low, lowBytes, swapped};
+ghost use Rattle.octets.specs.LowFirst.{lowBytes, swapped};
 ghost use Rattle.octets.specs.BigEndian.{laid};
 
-// A number's bytes in the other order. A big-endian number is read and written as the swapped one,
-// lowest byte first: the compiler makes one load or store and one swap of that.
+// A number's bytes in the other order. A big-endian number is written as the swapped one, lowest byte
+// first: the compiler makes one store and one swap of that.
 pub fn swap16(v: u16) -> u16
     ensures { λ r. ⌜ r ≡ swapped 2 v ⌝ }
 {
@@ -22,28 +22,6 @@ pub fn swap64(v: u64) -> u64
     ensures { λ r. ⌜ r ≡ swapped 8 v ⌝ }
 {
     (swap32((v % 4294967296) as u32) as u64) * 4294967296 + (swap32((v / 4294967296) as u32) as u64)
-}
-
-// The number in bytes at a place, the first weighing least.
-pub fn low16_at(s: &[u8], at: usize) -> u16
-    requires { ⌜ at + 2 ≤ length (now s) ⌝ }
-    ensures { λ r. ⌜ r ≡ low 2 (now (s .entry)) at ⌝ }
-{
-    (s[at] as u16) + (s[at + 1] as u16) * 256
-}
-
-pub fn low32_at(s: &[u8], at: usize) -> u32
-    requires { ⌜ at + 4 ≤ length (now s) ⌝ }
-    ensures { λ r. ⌜ r ≡ low 4 (now (s .entry)) at ⌝ }
-{
-    (low16_at(s, at) as u32) + (low16_at(s, at + 2) as u32) * 65536
-}
-
-pub fn low64_at(s: &[u8], at: usize) -> u64
-    requires { ⌜ at + 8 ≤ length (now s) ⌝ }
-    ensures { λ r. ⌜ r ≡ low 8 (now (s .entry)) at ⌝ }
-{
-    (low32_at(s, at) as u64) + (low32_at(s, at + 4) as u64) * 4294967296
 }
 
 // Lays a number's bytes at a place, the first weighing least.

@@ -4,7 +4,6 @@ ghost use lib.ListN.{length};
 ghost use mir.Syntax.{w32, w64};
 ghost use mir.Val.{toZ};
 ghost use Rattle.octets.specs.BigEndian.{be};
-use super::lows;
 
 // The byte at a place.
 pub fn u8_at(s: &[u8], at: usize) -> u8
@@ -19,7 +18,7 @@ pub fn u16_at(s: &[u8], at: usize) -> u16
     requires { ⌜ at + 2 ≤ length (now s) ⌝ }
     ensures { λ r. ⌜ r ≡ be 2 (now (s .entry)) at ⌝ }
 {
-    lows::swap16(lows::low16_at(s, at))
+    (s[at] as u16) * 256 + (s[at + 1] as u16)
 }
 
 // The number in four bytes at a place.
@@ -27,7 +26,7 @@ pub fn u32_at(s: &[u8], at: usize) -> u32
     requires { ⌜ at + 4 ≤ length (now s) ⌝ }
     ensures { λ r. ⌜ r ≡ be 4 (now (s .entry)) at ⌝ }
 {
-    lows::swap32(lows::low32_at(s, at))
+    (u16_at(s, at) as u32) * 65536 + (u16_at(s, at + 2) as u32)
 }
 
 // The number in eight bytes at a place.
@@ -35,7 +34,7 @@ pub fn u64_at(s: &[u8], at: usize) -> u64
     requires { ⌜ at + 8 ≤ length (now s) ⌝ }
     ensures { λ r. ⌜ r ≡ be 8 (now (s .entry)) at ⌝ }
 {
-    lows::swap64(lows::low64_at(s, at))
+    (u32_at(s, at) as u64) * 4294967296 + (u32_at(s, at + 4) as u64)
 }
 
 // The signed number, two's complement, in four bytes at a place.

@@ -26,6 +26,13 @@ unfolding column
 column-at value file i h =
     each-at (λ (j : ℕ) (_ : ℕ). value (unitOf file j)) (replicate (unitsOf file) 0) i 0 (le-trans h (le-of-eq (sym (length-replicate (unitsOf file) 0))))
 
+-- a list that is a column: its length and its values
+pub energies : (value : Unit → ℕ) (xs file : List ℕ) → xs ≡ column value file → length xs ≡ unitsOf file
+energies value xs file e = ap length e ∙ column-length value file
+
+pub energy : (value : Unit → ℕ) (xs file : List ℕ) → xs ≡ column value file → (i : ℕ) → i < unitsOf file → getD xs i 0 ≡ value (unitOf file i)
+energy value xs file e i h = ap (λ (t : List ℕ). getD t i 0) e ∙ column-at value file i h
+
 -- ---- lists of one length, filled by the index alone, are equal
 module _ {A : Type 0} (f : ℕ → A) where
   from-filled : (k : ℕ) (xs ys : List A) → length xs ≡ length ys → eachFrom k (λ (i : ℕ) (_ : A). f i) xs ≡ eachFrom k (λ (i : ℕ) (_ : A). f i) ys

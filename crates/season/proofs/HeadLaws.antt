@@ -106,20 +106,39 @@ module _ (file : List ℕ) (h : Headed file) where
           weight-small = column-small (λ (u : Unit). u .weight) 10000 (λ i l. unit-bounds i l .weight-most);
         }
 
--- ---- one step of a unit, as the code has it: its value's place, the unit there and the seconds
-module _ (file : List ℕ) (i s place seconds : ℕ) (u : Unit) (ep : place ≡ unitPlace i) (eu : u ≡ unitAt file place) (es : seconds ≡ secondsOf file) where
-  same-unit : u ≡ unitOf file i
-  same-unit = eu ∙ ap (unitAt file) ep
+-- ---- one step of a unit, as the code has it: its value's place, the unit there with its energies, and the seconds
 
-  pub give-ranged : Headed file → i < unitsOf file → s ≤ unitOf file i .rated → Ranged (holding u s) seconds
+-- a unit with these energies
+abbrev pub energized : Unit → ℕ → ℕ → ℕ → Unit
+energized u rated reserve stored = record {
+  rated = rated;
+  reserve = reserve;
+  stored = stored;
+  rating = u .rating;
+  kva = u .kva;
+  «idle_loss» = u .«idle_loss»;
+  «var_request» = u .«var_request»;
+  weight = u .weight;
+  inverter = u .inverter;
+  charge = u .charge;
+  discharge = u .discharge;
+  priority = u .priority;
+}
+
+module _ (file : List ℕ) (i rated reserve s place seconds : ℕ) (u : Unit) (ep : place ≡ unitPlace i) (eu : u ≡ unitAt file place) (es : seconds ≡ secondsOf file) (er : rated ≡ unitOf file i .rated) (ev : reserve ≡ unitOf file i .reserve) where
+  same-unit : energized u rated reserve s ≡ holding (unitOf file i) s
+  same-unit =
+      ap₂ (λ (a b : ℕ). energized u a b s) er ev ∙ ap (λ (v : Unit). energized v (unitOf file i .rated) (unitOf file i .reserve) s) (eu ∙ ap (unitAt file) ep)
+
+  pub give-ranged : Headed file → i < unitsOf file → s ≤ rated → Ranged (energized u rated reserve s) seconds
   give-ranged h l w =
-      subst (λ (v : Unit). Ranged (holding v s) seconds) (sym same-unit)
-      (subst (λ (n : ℕ). Ranged (holding (unitOf file i) s) n) (sym es) (unit-ranged file h i s l w))
+      subst (λ (v : Unit). Ranged v seconds) (sym same-unit)
+      (subst (λ (n : ℕ). Ranged (holding (unitOf file i) s) n) (sym es) (unit-ranged file h i s l (le-trans w (le-of-eq er))))
 
-  pub give-is : (o : Outcome) (r : ℤ) → mag r < 2 ^ 31 → o ≡ stepOf (holding u s) seconds (toZ w32 (ofZ w32 r)) → o ≡ given file i s r
+  pub give-is : (o : Outcome) (r : ℤ) → mag r < 2 ^ 31 → o ≡ stepOf (energized u rated reserve s) seconds (toZ w32 (ofZ w32 r)) → o ≡ given file i s r
   unfolding given
   give-is o r f e =
-      e ∙ ap (stepOf (holding u s) seconds) (read w32 r f) ∙ ap (λ (v : Unit). stepOf (holding v s) seconds r) same-unit
+      e ∙ ap (stepOf (energized u rated reserve s) seconds) (read w32 r f) ∙ ap (λ (v : Unit). stepOf v seconds r) same-unit
       ∙ ap (λ (n : ℕ). stepOf (holding (unitOf file i) s) n r) es
 
 -- ---- at first: what the file says is stored, which is no more than rated, and requests of zero

@@ -34,14 +34,19 @@ pub fn load(
     }
 }
 
-// One step of unit i, which holds so much and is asked a request.
-pub fn give(file: &[u8], i: usize, held: u64, request: i32) -> Outcome
+// One step of unit i, which holds so much and is asked a request. Its energies are handed over: they
+// stand in lists already.
+pub fn give(file: &[u8], i: usize, rated: u64, reserve: u64, held: u64, request: i32) -> Outcome
     requires { ⌜ Headed (now file) ⌝ }
     requires { ⌜ i < unitsOf (now file) ⌝ }
-    requires { ⌜ held ≤ unitOf (now file) i .rated ⌝ }
+    requires { ⌜ rated ≡ unitOf (now file) i .rated ⌝ }
+    requires { ⌜ reserve ≡ unitOf (now file) i .reserve ⌝ }
+    requires { ⌜ held ≤ rated ⌝ }
     ensures { λ r. ⌜ r ≡ given (now (file .entry)) i held request ⌝ }
 {
     let mut u = stick::unit_at(file, stick::unit_place(i));
+    u.rated = rated;
+    u.reserve = reserve;
     u.stored = held;
     storage::step_within(u, stick::seconds(file), request)
 }

@@ -2,8 +2,9 @@ ghost use mathlib.Core.Path.{_≡_};
 ghost use Prim.Native.Nat.{_+_, _*_, _≤_};
 ghost use lib.ListN.{length};
 ghost use Rattle.octets.specs.BigEndian.{laid};
+ghost use Rattle.storage.specs.declared.Unit.{Unit};
 ghost use Rattle.stick.specs.Said.{unitsOf};
-ghost use Rattle.season.specs.Run.{standing, askedBy, storedAfter, recordsOf, after, recordsBy};
+ghost use Rattle.season.specs.Run.{column, standing, askedBy, storedAfter, recordsOf, after, recordsBy};
 ghost use Rattle.season.specs.Posts.{Headed, Columns, Held};
 use super::fleet;
 use super::records;
@@ -41,12 +42,16 @@ fn ask(
 fn give_all(
     file: &[u8],
     step: u32,
+    rated: &[u64],
+    reserve: &[u64],
     requests: &[i32],
     stored: &mut [u64],
     room: &mut [u8],
     at: usize,
 )
     requires { ⌜ Headed (now file) ⌝ }
+    requires { ⌜ now rated ≡ column (λ (u : Unit). u .rated) (now file) ⌝ }
+    requires { ⌜ now reserve ≡ column (λ (u : Unit). u .reserve) (now file) ⌝ }
     requires { ⌜ Held (now file) (now stored) (now requests) ⌝ }
     requires { ⌜ at + 40 * unitsOf (now file) ≤ length (now room) ⌝ }
     ensures { λ _. ⌜ now (stored .exit) ≡ storedAfter (now (file .entry)) (now (stored .entry)) (now (requests .entry)) ⌝ }
@@ -55,7 +60,7 @@ fn give_all(
     let mut i = 0;
     while i < requests.len() {
         let request = requests[i];
-        let o = fleet::give(file, i, stored[i], request);
+        let o = fleet::give(file, i, rated[i], reserve[i], stored[i], request);
         let left = o.stored;
         stored[i] = left;
         records::put_record(room, at + 40 * i, step, i as u8, request, o);
@@ -87,5 +92,5 @@ pub fn step(
     ensures { λ _. ⌜ Held (now (file .entry)) (now (stored .exit)) (now (requests .exit)) ⌝ }
 {
     ask(file, r, rated, reserve, stored, rating, weight, requests);
-    give_all(file, k, requests, stored, room, at);
+    give_all(file, k, rated, reserve, requests, stored, room, at);
 }

@@ -1,17 +1,43 @@
--- A big-endian number is the one whose first byte weighs least, with its bytes in the other order.
+-- A number of four bytes is that of the first two times 256 ^ 2 and that of the other two.
 use borrow.Author.Needs.{needs}
-use Rattle.octets.proofs.LowLaws.{swapped-low}
+use native.Mathlib.Omega.{arith}
+use Rattle.octets.proofs.ByteLaws.{be-split}
 use Rattle.octets.proofs.reads.u32_at.Statement.{statement}
 use Rattle.octets.proofs.reads.u32_at.Tie as tie
 
-low32-at-requires : tie.Need-low32-at-requires
-low32-at-requires c κs = search needs
+u16-at-requires : tie.Need-u16-at-requires
+u16-at-requires c κs = search needs
 
-swap32-requires : tie.Need-swap32-requires
-swap32-requires c κs = search needs
+cast-result : tie.Need-cast-result
+cast-result c = search needs
+
+mul-result : tie.Need-mul-result
+mul-result c = search needs
+
+add-u16-at : tie.Need-add-u16-at
+add-u16-at c = search needs
+
+u16-at-requires-2 : tie.Need-u16-at-requires-2
+u16-at-requires-2 c κs = search needs
+
+cast-result-2 : tie.Need-cast-result-2
+cast-result-2 c = search needs
+
+add-result : tie.Need-add-result
+add-result c = search needs
 
 returns : tie.Need-returns
-returns c = let x = c .before .before in cc (swapped-low 4 (x .before .args .s .now) (x .before .args .at) (x .shared-slice-known .given))
+returns c = let x = c .before .before .before .args in omega (arith, be-split 2 2 (x .s .now) (x .at), c .before .u16-at .ensures, c .u16-at2 .ensures)
 
 pub u32-at-spec : {M : Type 1} → statement M
-u32-at-spec = tie.close (tie.spec low32-at-requires swap32-requires returns)
+u32-at-spec =
+    tie.close
+    (tie.spec
+    u16-at-requires
+    cast-result
+    mul-result
+    add-u16-at
+    u16-at-requires-2
+    cast-result-2
+    add-result
+    returns)

@@ -1,17 +1,43 @@
--- A big-endian number is the one whose first byte weighs least, with its bytes in the other order.
+-- A number of eight bytes is that of the first four times 256 ^ 4 and that of the other four.
 use borrow.Author.Needs.{needs}
-use Rattle.octets.proofs.LowLaws.{swapped-low}
+use native.Mathlib.Omega.{arith}
+use Rattle.octets.proofs.ByteLaws.{be-split}
 use Rattle.octets.proofs.reads.u64_at.Statement.{statement}
 use Rattle.octets.proofs.reads.u64_at.Tie as tie
 
-low64-at-requires : tie.Need-low64-at-requires
-low64-at-requires c κs = search needs
+u32-at-requires : tie.Need-u32-at-requires
+u32-at-requires c κs = search needs
 
-swap64-requires : tie.Need-swap64-requires
-swap64-requires c κs = search needs
+cast-result : tie.Need-cast-result
+cast-result c = search needs
+
+mul-result : tie.Need-mul-result
+mul-result c = search needs
+
+add-u32-at : tie.Need-add-u32-at
+add-u32-at c = search needs
+
+u32-at-requires-2 : tie.Need-u32-at-requires-2
+u32-at-requires-2 c κs = search needs
+
+cast-result-2 : tie.Need-cast-result-2
+cast-result-2 c = search needs
+
+add-result : tie.Need-add-result
+add-result c = search needs
 
 returns : tie.Need-returns
-returns c = let x = c .before .before in cc (swapped-low 8 (x .before .args .s .now) (x .before .args .at) (x .shared-slice-known .given))
+returns c = let x = c .before .before .before .args in omega (arith, be-split 4 4 (x .s .now) (x .at), c .before .u32-at .ensures, c .u32-at2 .ensures)
 
 pub u64-at-spec : {M : Type 1} → statement M
-u64-at-spec = tie.close (tie.spec low64-at-requires swap64-requires returns)
+u64-at-spec =
+    tie.close
+    (tie.spec
+    u32-at-requires
+    cast-result
+    mul-result
+    add-u32-at
+    u32-at-requires-2
+    cast-result-2
+    add-result
+    returns)

@@ -1,4 +1,4 @@
--- The unit is the one that the file gives, with what it holds now in place of what the file says.
+-- The unit is the one that the file gives, with what it holds now in place of what the file says; its other energies are the file's.
 use borrow.Author.Needs.{needs}
 use Rattle.season.proofs.HeadLaws.{give-ranged, give-is}
 use Rattle.season.proofs.fleet.give.Statement.{statement}
@@ -18,8 +18,24 @@ step-within-requires c κs =
     let u = c .before .unit-at in
     let p = c .before .before .unit-place in
     let s = c .before .before .before .before in
-    let (h, (l, w)) = s .pre in
-    give-ranged (s .args .file .now) (s .args .i) (s .args .held) (p .result) (c .seconds .result) (u .result) (p .ensures) (u .ensures) (c .seconds .ensures) h l w
+    let (h, (l, (er, (ev, w)))) = s .pre in
+    give-ranged
+    (s .args .file .now)
+    (s .args .i)
+    (s .args .rated)
+    (s .args .reserve)
+    (s .args .held)
+    (p .result)
+    (c .seconds .result)
+    (u .result)
+    (p .ensures)
+    (u .ensures)
+    (c .seconds .ensures)
+    er
+    ev
+    h
+    l
+    w
 
 returns : tie.Need-returns
 returns c =
@@ -27,9 +43,12 @@ returns c =
     let u = t .before .unit-at in
     let p = t .before .before .unit-place in
     let s = t .before .before .before .before in
+    let (h, (l, (er, (ev, w)))) = s .pre in
     give-is
     (s .args .file .now)
     (s .args .i)
+    (s .args .rated)
+    (s .args .reserve)
     (s .args .held)
     (p .result)
     (t .seconds .result)
@@ -37,6 +56,8 @@ returns c =
     (p .ensures)
     (u .ensures)
     (t .seconds .ensures)
+    er
+    ev
     (c .step-within .result)
     (s .args .request)
     (s .fits .request .sfits)
