@@ -18,3 +18,30 @@ pub fn part(v: &[u8]) {
     say::number(stick::part_start(&v[4..], place));
     say::number(stick::part_size(&v[4..], place));
 }
+
+// R: a room's length and a file. Number, place and steps of the run, and the result's bytes.
+pub fn run(v: &[u8]) {
+    if v.len() < 2 {
+        return say::unknown();
+    }
+    let n = octets::u16_at(v, 0) as usize;
+    if 8192 < n {
+        return say::unknown();
+    }
+    let mut room = [0u8; 8192];
+    run_in(&v[2..], &mut room[..n]);
+}
+
+// The run in a room.
+fn run_in(file: &[u8], room: &mut [u8]) {
+    let a = season::run(file, room);
+    let number = a.number;
+    let place = a.place;
+    let steps = a.steps;
+    say::refusal(number);
+    say::number(place);
+    say::number(steps as u64);
+    if number == 0 {
+        say::bytes(room, season::room(file));
+    }
+}

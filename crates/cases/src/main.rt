@@ -19,6 +19,7 @@ fn answer(kind: u8, value: &[u8]) {
         b'S' => steps::step(value),
         b'C' => files::check(value),
         b'V' => files::part(value),
+        b'R' => files::run(value),
         b'L' => wholes::leg(value),
         b'U' => wholes::up(value),
         b'Z' => wholes::cut(value),

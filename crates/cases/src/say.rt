@@ -20,6 +20,17 @@ pub fn signed(z: i64) {
     io::print_decimal(STDOUT_FILENO, whole::size64(z));
 }
 
+// The first bytes of a room, in hexadecimal, two digits each.
+pub fn bytes(room: &[u8], count: u64) {
+    io::write_all(STDOUT_FILENO, b" ");
+    let mut i = 0;
+    while i < room.len() && (i as u64) < count {
+        let byte = room[i];
+        io::print_hex(STDOUT_FILENO, byte as u64, 2);
+        i += 1;
+    }
+}
+
 // A case that is none of this program's.
 pub fn unknown() {
     io::write_all(STDOUT_FILENO, b"?");
