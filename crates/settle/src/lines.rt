@@ -1,0 +1,114 @@
+ghost use Prim.Native.Nat.{_≤_};
+ghost use lib.ListN.{length};
+use super::sums;
+use controller::Studied;
+use libc::STDERR_FILENO;
+use libc::STDOUT_FILENO;
+
+// A text on standard output.
+fn text(s: &[u8]) {
+    io::write_all(STDOUT_FILENO, s);
+}
+
+// A number.
+fn number(n: u64) {
+    io::print_decimal(STDOUT_FILENO, n);
+}
+
+// A signed number.
+fn signed(z: i64) {
+    if whole::below_zero64(z) {
+        text(b"-");
+    }
+    number(whole::size64(z));
+}
+
+// Whether the study settled, and after how many passes.
+pub fn outcome(r: Studied, budget: u32) {
+    let passes = r.passes;
+    if r.settled {
+        text(b"standard input: settled after ");
+        number(passes as u64);
+        text(b" changing passes\n");
+    } else {
+        text(b"standard input: not settled within ");
+        number(budget as u64);
+        text(b" passes, ");
+        number(passes as u64);
+        text(b" changed a request\n");
+    }
+}
+
+// A unit's line.
+fn unit(i: usize, request: i32, rating: u32) {
+    number(i as u64);
+    text(b"\t");
+    signed(request as i64);
+    text(b"\t");
+    number(rating as u64);
+    text(b"\n");
+}
+
+// A line for each unit.
+pub fn units(requests: &[i32], rating: &[u32]) {
+    text(b"unit\trequest W\trating W\n");
+    let mut i = 0;
+    while i < requests.len() && i < rating.len() {
+        unit(i, requests[i], rating[i]);
+        i += 1;
+    }
+}
+
+// What is left of the load, and how it lies to the target.
+pub fn left(load: u32, target: i32, band: u32, requests: &[i32])
+    requires { ⌜ length (now requests) ≤ 64 ⌝ }
+{
+    let sum = sums::asked(requests);
+    let left = sums::minus(load as i64, sum);
+    let off = whole::size64(sums::minus(left, target as i64));
+    text(b"sum of requests ");
+    signed(sum);
+    text(b" W, reading left ");
+    signed(left);
+    text(b" W: ");
+    if (band as u64) < 2 * off {
+        text(b"not ");
+    }
+    text(b"within half the band (");
+    number(band as u64);
+    text(b" W) of the target (");
+    signed(target as i64);
+    text(b" W)\n");
+}
+
+// A word of the call that is outside its range.
+fn outside(name: &[u8], word: &[u8], range: &[u8]) {
+    text(name);
+    text(word);
+    text(b": refused 5 (value out of range)\n");
+    text(range);
+}
+
+// The study refused the load or the budget, and no other value: those of the file are in their
+// ranges.
+pub fn refused(load_word: &[u8], load: u32, budget_word: &[u8], budget: u32) {
+    if 100000000 < load {
+        outside(b"LOAD ", load_word, b"    A load is 0 to 100,000,000 W.\n");
+    }
+    if budget < 1 || 10000 < budget {
+        outside(
+            b"BUDGET ",
+            budget_word,
+            b"    A budget is 1 to 10,000 passes.\n",
+        );
+    }
+    io::write_all(
+        STDERR_FILENO,
+        b"standard input: no study; call again with another ",
+    );
+    if 100000000 < load {
+        io::write_all(STDERR_FILENO, b"LOAD\n");
+    } else {
+        io::write_all(STDERR_FILENO, b"BUDGET\n");
+    }
+}
