@@ -1,4 +1,4 @@
-# make test is the gate; make sample runs a season; make bench times the check.
+# make test is the gate; make sample runs a season; make bench times the library beside ordinary Rust.
 
 export CARGO_TARGET_DIR := $(CURDIR)/build/reference
 
@@ -8,7 +8,7 @@ test:
 	@tools/gate.sh
 
 # A season from the stick to the planner's summary: SAMPLE=FILE takes another stick.
-SAMPLE := examples/season.stick
+SAMPLE := examples/harvest.stick
 RESULT := build/$(basename $(notdir $(SAMPLE))).result
 
 sample: target/staticlib/libyesbrulka.a
@@ -17,7 +17,7 @@ sample: target/staticlib/libyesbrulka.a
 	build/import run $(SAMPLE) $(RESULT)
 	build/import summary $(SAMPLE) $(RESULT)
 
-# The check's time beside the reference's; no part of the gate.
+# The times of the check and of the run beside ordinary Rust; no part of the gate.
 bench: target/staticlib/libyesbrulka.a
 	@tools/bench.sh
 

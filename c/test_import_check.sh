@@ -36,8 +36,8 @@ check_suite() {
     refused examples/refused-09-bytes-after-end.stick 9 'bytes after the end' 9043 336
     refused examples/refused-12-too-many-steps.stick 12 'too many bytes or steps' 196785 65535
     call check examples/*
-    good test "$status|$error" = '1|import: 10 of 11 files refused'
-    good test "$(grep -c '^examples/.*: refused' "$work/output") $(wc -l <"$work/output")" = '10 21'
+    good test "$status|$error" = '1|import: 10 of 12 files refused'
+    good test "$(grep -c '^examples/.*: refused' "$work/output") $(wc -l <"$work/output")" = '10 22'
     # Each number has its own advice.
     good test "$(grep '^    ' "$work/output" | sort -u | wc -l)" = 10
 

@@ -132,12 +132,12 @@ if [ -n "$YB_CC" ]; then
     step cargo 'reference and archive' reference
     step line 'watts command' c/test_watts.sh
     step line 'import command' c/test_import.sh
-    step line 'stick_check' c/test_stick_check.sh
+    step line 'programs' c/test_programs.sh
     step one 'sample season' make --no-print-directory sample
 else
     step cargo 'reference' reference --lib --bins
     for tests in 'C surface' 'C stack' 'the archive beside the reference' 'watts command' 'import command' \
-        'stick_check' 'sample season'; do
+        'programs' 'sample season'; do
         echo "NOT RUN: $tests: $YB_CC_WHY"
     done
 fi
