@@ -3,16 +3,16 @@ use mathlib.Core.Path.{_≡_, sym, ap, _∙_}
 use mathlib.Core.Logic.{_⊎_, inl, inr}
 use mathlib.Core.Bool.{Bool}
 use Prim.Native.Nat.{ℕ, _+_, _-_, _*_, _/_, _≤_, _<_, _^_, min}
-use native.Mathlib.Nat.{mul-le-mul, zero-mul, eq-zero-or-pos}
+use native.Mathlib.Nat.{le-refl, le-antisymm, mul-le-mul, zero-mul, eq-zero-or-pos}
 use native.Mathlib.Omega.{arith}
 use lib.Dec.{leb, eqb}
 use lib.IntN.{ℤ, natAbs}
 use lib.Signed.{mag}
 use mir.Syntax.{w32}
 use mir.Val.{toZ, ofZ}
-use borrow.Author.Tests.{leb-true, eq-eqb, ne-eqb}
+use borrow.Author.Tests.{leb-true, le-leb, eq-eqb, ne-eqb}
 use Rattle.whole.proofs.Choice.{by-test}
-use Rattle.whole.proofs.LargestLaws.{largest-le, largest-passes, largest-upto}
+use Rattle.whole.proofs.LargestLaws.{largest-le, largest-tops, largest-passes, largest-upto}
 use Rattle.whole.proofs.SignLaws.{read}
 use Rattle.whole.specs.Largest.{legOf}
 use Rattle.whole.specs.Signed.{negative, signed}
@@ -58,6 +58,19 @@ vars-are u watts hv hw below size side q eb es ed eq = cc (read w32 (u .«var_re
 pub deliverable-most : (u : Unit) (s p : ℕ) → deliverable u s p ≤ p
 unfolding deliverable
 deliverable-most u s p = largest-le (λ (x : ℕ). leb (removedBy u s x) (u .stored - u .reserve)) p
+
+-- all of p, where the test passes at p
+pub deliverable-all : (u : Unit) (s p : ℕ) → removedBy u s p ≤ u .stored - u .reserve → p ≡ deliverable u s p
+unfolding deliverable
+deliverable-all u s p h =
+    let ok : ℕ → Bool = λ (x : ℕ). leb (removedBy u s x) (u .stored - u .reserve) in
+    le-antisymm (largest-tops ok p p (le-refl p) (le-leb (removedBy u s p) (u .stored - u .reserve) h)) (largest-le ok p)
+
+pub takeable-all : (u : Unit) (s p : ℕ) → addedBy u s p ≤ u .rated - u .stored → p ≡ takeable u s p
+unfolding takeable
+takeable-all u s p h =
+    let ok : ℕ → Bool = λ (x : ℕ). leb (addedBy u s x) (u .rated - u .stored) in
+    le-antisymm (largest-tops ok p p (le-refl p) (le-leb (addedBy u s p) (u .rated - u .stored) h)) (largest-le ok p)
 
 pub takeable-most : (u : Unit) (s p : ℕ) → takeable u s p ≤ p
 unfolding takeable

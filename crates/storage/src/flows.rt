@@ -20,7 +20,25 @@ fn idle(u: Unit, seconds: u32) -> Move
     }
 }
 
-// What a request of p watts out makes flow, and what that moves.
+// What a request of p watts out makes flow where the store may not cover all of it.
+fn discharge_less(u: Unit, seconds: u32, p: u64) -> Move
+    requires { ⌜ Ranged u seconds ⌝ }
+    requires { ⌜ p ≤ 100000000 ⌝ }
+    requires { ⌜ u .reserve ≤ u .stored ⌝ }
+    ensures { λ r. ⌜ r ≡ moveBy u seconds (discharged u seconds p) ⌝ }
+{
+    let x = energy::deliver(u, seconds, p);
+    if x == 0 {
+        return idle(u, seconds);
+    }
+    Move {
+        flow: Flow::Out(x),
+        moved: energy::removed(u, seconds, x),
+    }
+}
+
+// What a request of p watts out makes flow, and what that moves: all of it, where the store covers
+// that.
 fn discharge(u: Unit, seconds: u32, p: u64) -> Move
     requires { ⌜ Ranged u seconds ⌝ }
     requires { ⌜ p ≤ 100000000 ⌝ }
@@ -32,18 +50,18 @@ fn discharge(u: Unit, seconds: u32, p: u64) -> Move
     if u.stored < u.reserve {
         return idle(u, seconds);
     }
-    let x = energy::deliver(u, seconds, p);
-    if x == 0 {
-        return idle(u, seconds);
+    let all = energy::removed(u, seconds, p);
+    if u.stored - u.reserve < all {
+        return discharge_less(u, seconds, p);
     }
     Move {
-        flow: Flow::Out(x),
-        moved: energy::removed(u, seconds, x),
+        flow: Flow::Out(p),
+        moved: all,
     }
 }
 
-// What a request of p watts in makes flow, and what that moves.
-fn charge(u: Unit, seconds: u32, p: u64) -> Move
+// What a request of p watts in makes flow where the store may not have room for all of it.
+fn charge_less(u: Unit, seconds: u32, p: u64) -> Move
     requires { ⌜ Ranged u seconds ⌝ }
     requires { ⌜ p ≤ 100000000 ⌝ }
     ensures { λ r. ⌜ r ≡ moveBy u seconds (charged u seconds p) ⌝ }
@@ -56,6 +74,26 @@ fn charge(u: Unit, seconds: u32, p: u64) -> Move
     Move {
         flow: Flow::In(x),
         moved,
+    }
+}
+
+// What a request of p watts in makes flow, and what that moves: all of it, where the store has room
+// for that.
+fn charge(u: Unit, seconds: u32, p: u64) -> Move
+    requires { ⌜ Ranged u seconds ⌝ }
+    requires { ⌜ p ≤ 100000000 ⌝ }
+    ensures { λ r. ⌜ r ≡ moveBy u seconds (charged u seconds p) ⌝ }
+{
+    let all = energy::added(u, seconds, p);
+    if u.rated - u.stored < all {
+        return charge_less(u, seconds, p);
+    }
+    if all == 0 {
+        return idle(u, seconds);
+    }
+    Move {
+        flow: Flow::In(p),
+        moved: all,
     }
 }
 

@@ -1,41 +1,57 @@
--- The code is the definition: the watts that can be taken with what they add, idle where they add nothing. They are no more than asked, so their
--- addition fits.
+-- All that is asked where the store has room for what it adds, since then it is the largest count, and idle where that is nothing; less otherwise.
 use borrow.Author.Needs.{needs}
-use mathlib.Core.Path.{ap, _∙_}
-use native.Mathlib.Omega.{arith}
-use Rattle.storage.proofs.LimitLaws.{takeable-most}
+use mathlib.Core.Path.{sym, ap, _∙_, subst}
+use Prim.Native.Nat.{ℕ, _-_, _≤_}
+use Rattle.storage.proofs.RangeLaws.{bounds}
+use Rattle.storage.proofs.LimitLaws.{takeable-all}
 use Rattle.storage.proofs.StepLaws.{charged-none, charged-some, in-moves}
 use Rattle.storage.specs.Posts.{moveBy}
+use Rattle.storage.specs.Step.{addedBy}
 use Rattle.storage.proofs.flows.charge.Statement.{statement}
 use Rattle.storage.proofs.flows.charge.Tie as tie
 
-take-in-requires : tie.Need-take-in-requires
-take-in-requires c κs = search needs
-
 added-requires : tie.Need-added-requires
-added-requires c κs =
-    let s = c .before in
-    let m = takeable-most (s .args .u) (s .args .seconds) (s .args .p) in
-    let e = c .take-in .ensures in
-    (s .pre .0, omega arith)
+added-requires c κs = search needs
+
+sub-if1 : tie.Need-sub-if1
+sub-if1 c = bounds (c .before .before .pre .0) .stored-most
+
+charge-less-requires : tie.Need-charge-less-requires
+charge-less-requires c κs = search needs
+
+returns : tie.Need-returns
+returns c = search needs
 
 idle-requires : tie.Need-idle-requires
 idle-requires c κs = search needs
 
-returns : tie.Need-returns
-returns c =
-    let a = c .before .before in
-    let x = a .before .before .args in
-    let none = charged-none (x .u) (x .seconds) (x .p) (cc (a .before .take-in .ensures, a .added .ensures, c .before .if1 .taken)) in
-    c .idle .ensures ∙ ap (moveBy (x .u) (x .seconds)) none
-
 returns-2 : tie.Need-returns-2
 returns-2 c =
-    let a = c .before in
-    let x = a .before .before .args in
-    let t = a .before .take-in in
-    let some = charged-some (x .u) (x .seconds) (x .p) (t .result) (t .ensures) (λ z. c .if1 .left (cc (z, a .added .ensures))) in
-    in-moves (x .u) (x .seconds) (t .result) some (a .added .result) (a .added .ensures)
+    let e = c .before .before in
+    let a = e .before .before in
+    let x = a .before .args in
+    let fits = subst (λ (n : ℕ). n ≤ x .u .rated - x .u .stored) (a .added .ensures) (e .if1 .left) in
+    let same = takeable-all (x .u) (x .seconds) (x .p) fits in
+    let none = charged-none (x .u) (x .seconds) (x .p) (ap (addedBy (x .u) (x .seconds)) (sym same) ∙ sym (a .added .ensures) ∙ c .before .if2 .taken) in
+    c .idle .ensures ∙ ap (moveBy (x .u) (x .seconds)) none
+
+returns-3 : tie.Need-returns-3
+returns-3 c =
+    let e = c .before in
+    let a = e .before .before in
+    let x = a .before .args in
+    let fits = subst (λ (n : ℕ). n ≤ x .u .rated - x .u .stored) (a .added .ensures) (e .if1 .left) in
+    let all = charged-some (x .u) (x .seconds) (x .p) (x .p) (takeable-all (x .u) (x .seconds) (x .p) fits) (λ z. c .if2 .left (a .added .ensures ∙ z)) in
+    in-moves (x .u) (x .seconds) (x .p) all (a .added .result) (a .added .ensures)
 
 pub charge-spec : {M : Type 1} → statement M
-charge-spec = tie.close (tie.spec take-in-requires added-requires idle-requires returns returns-2)
+charge-spec =
+    tie.close
+    (tie.spec
+    added-requires
+    sub-if1
+    charge-less-requires
+    returns
+    idle-requires
+    returns-2
+    returns-3)
