@@ -2,9 +2,9 @@
 use mathlib.Core.Path.{_≡_, refl, sym, ap, _∙_, subst, subst⁻¹}
 use mathlib.Core.Bool.{Bool, true, false, not, cond, _&&_}
 use Prim.Native.Nat.{ℕ, zero, suc, _+_, _-_, _*_, _≤_, _<_, _^_}
-use native.Mathlib.Nat.{le-refl}
+use native.Mathlib.Nat.{le-refl, mul-le-mul, lt-of-le-of-lt}
 use native.Mathlib.Omega.{arith}
-use lib.Dec.{ltb, eqb}
+use lib.Dec.{ltb, eqb, lit<}
 use lib.IntN.{ℤ, pos, negℤ, natAbs}
 use lib.Signed.{mag}
 use mir.Syntax.{w32}
@@ -25,7 +25,7 @@ use Rattle.storage.specs.declared.Move.{Move}
 use Rattle.storage.specs.declared.Outcome.{Outcome}
 use Rattle.storage.specs.declared.Stepped.the-variants.{Done, RefusedBy}
 use Rattle.storage.specs.Ranges.{idleDraw, unitIn, secondsIn, stepRefusal}
-use Rattle.storage.specs.Posts.{Ranged, Carried, Moving, movedBy, moveBy}
+use Rattle.storage.specs.Posts.{Ranged, Carried, Moving, movedBy, moveBy, idleVars, restOf}
 use Rattle.storage.specs.Step.{removedBy, addedBy, deliverable, takeable, heldSize, outFlow, discharged, charged, flowOf, wattsOf, varsOf, storedOf, lossOf, outcomeOf, stepOf, steppedOf}
 
 -- ---- what flows, case by case
@@ -278,6 +278,48 @@ module _ {u : Unit} {s : ℕ} {flow : Flow} {moved : ℕ} (m : Moving u s flow m
     pub idle-loss : moved * s ≡ lossOf u s flow
     unfolding lossOf
     idle-loss = ap (λ (n : ℕ). n * s) idle-moved ∙ sym (ap (lossOf u s) e)
+
+-- ---- a step of a unit that is asked nothing
+module _ (u : Unit) (s : ℕ) where
+  -- nothing is held, so nothing flows
+  idle-flows : flowOf u s (pos 0) ≡ Idle
+  idle-flows =
+      let m = held-most u (pos 0) .0 in
+      sym (discharged-nothing u s (heldSize u (pos 0)) (omega arith) ∙ flow-out u s (pos 0) refl)
+
+  idle-outcome : outcomeOf u s Idle ≡ restOf (idleDraw u) (idleVars u) (u .stored) s
+  unfolding outcomeOf wattsOf storedOf lossOf
+  idle-outcome = refl
+
+  pub idle-step : stepOf u s (pos 0) ≡ restOf (idleDraw u) (idleVars u) (u .stored) s
+  unfolding stepOf
+  idle-step = ap (outcomeOf u s) idle-flows ∙ idle-outcome
+
+-- what an idle unit draws, and its vars then, as the code has them
+pub idle-draw-small : (u : Unit) → unitIn u ≡ true → (n : ℕ) → n ≡ idleDraw u → n ≤ 100000000
+idle-draw-small u h n e =
+    let b : Bounds u 1 = bounds (record { unit = h; seconds-in = refl }) in
+    omega (arith, e)
+
+pub idle-vars-most : (u : Unit) → unitIn u ≡ true → natAbs (u .«var_request») ≤ 100000000
+idle-vars-most u h = let b : Bounds u 1 = bounds (record { unit = h; seconds-in = refl }) in b .vars-most
+
+pub idle-vars-are : (u : Unit) (n : ℕ) → n ≡ idleDraw u → (watts vars : ℤ) → mag watts < 2 ^ 31 → mag vars < 2 ^ 31 → watts ≡ negℤ (pos n)
+    → vars ≡ varsOf u (toZ w32 (ofZ w32 watts)) → toZ w32 (ofZ w32 vars) ≡ idleVars u
+unfolding wattsOf
+idle-vars-are u n e watts vars hw hv ew ev =
+    read w32 vars hv ∙ ev ∙ ap (varsOf u) (read w32 watts hw ∙ ew ∙ ap (λ (k : ℕ). negℤ (pos k)) e)
+
+-- a rest, each number as the code has it
+pub rest-is : (draw : ℕ) (vars : ℤ) (held s : ℕ) (watts : ℤ) → mag watts < 2 ^ 31 → mag vars < 2 ^ 31 → watts ≡ negℤ (pos draw)
+    → _≡_ {A = Outcome} (record { watts = toZ w32 (ofZ w32 watts); vars = toZ w32 (ofZ w32 vars); stored = held; loss = draw * s }) (restOf draw vars held s)
+rest-is draw vars held s watts hw hv ew = cc (read w32 watts hw, read w32 vars hv)
+
+-- its loss fits 64 bits, whatever the step's length
+pub rest-fits : (draw s : ℕ) → draw ≤ 100000000 → s < 2 ^ 32 → draw * s < 2 ^ 64
+rest-fits draw s hd hs =
+    let l : s ≤ 4294967295 = omega arith in
+    lt-of-le-of-lt (mul-le-mul hd l) (lit< tt)
 
 -- ---- a step of any numbers
 module _ (u : Unit) (s : ℕ) (request : ℤ) where

@@ -1,13 +1,15 @@
 -- The parts of contracts by name: what the code of a step may count on.
-use Prim.Native.Nat.{ℕ, _-_, _≤_}
+use Prim.Native.Nat.{ℕ, _-_, _*_, _≤_}
+use lib.IntN.{ℤ, pos, negℤ}
 use mathlib.Core.Bool.{true}
 use mathlib.Core.Path.{_≡_}
 use Rattle.storage.specs.declared.Unit.{Unit}
 use Rattle.storage.specs.declared.Flow.{Flow}
 use Rattle.storage.specs.declared.Flow.the-variants.{Out, In, Idle}
 use Rattle.storage.specs.declared.Move.{Move}
+use Rattle.storage.specs.declared.Outcome.{Outcome}
 use Rattle.storage.specs.Ranges.{idleDraw, unitIn, secondsIn}
-use Rattle.storage.specs.Step.{removedBy, addedBy}
+use Rattle.storage.specs.Step.{removedBy, addedBy, wattsOf, varsOf}
 
 -- a unit and a step length in their ranges
 pub record Ranged (u : Unit) (seconds : ℕ) : Type 0 where
@@ -35,3 +37,11 @@ pub record Moving (u : Unit) (seconds : ℕ) (flow : Flow) (moved : ℕ) : Type 
   pub ranged : Ranged u seconds
   pub carried : Carried u seconds flow
   pub moved-is : moved ≡ movedBy u seconds flow
+
+-- the vars of a unit that idles
+abbrev pub idleVars : Unit → ℤ
+idleVars u = varsOf u (wattsOf u Idle)
+
+-- what a step gives where the unit idles, by what it draws and its vars then
+abbrev pub restOf : ℕ → ℤ → ℕ → ℕ → Outcome
+restOf draw vars held seconds = record { watts = negℤ (pos draw); vars = vars; stored = held; loss = draw * seconds }

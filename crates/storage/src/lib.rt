@@ -9,6 +9,8 @@ mod steps;
 
 pub use ranges::idle_draw;
 pub use ranges::unit_in;
+pub use steps::idle_vars;
+pub use steps::rest;
 pub use steps::step;
 pub use steps::step_within;
 

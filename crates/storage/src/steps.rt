@@ -1,6 +1,9 @@
 ghost use mathlib.Core.Path.{_≡_};
 ghost use Rattle.storage.specs.Step.{stepOf, steppedOf};
-ghost use Rattle.storage.specs.Posts.{Ranged};
+ghost use mathlib.Core.Bool.{true};
+ghost use Prim.Native.Nat.{_≤_};
+ghost use Rattle.storage.specs.Ranges.{unitIn};
+ghost use Rattle.storage.specs.Posts.{Ranged, idleVars, restOf};
 use super::Outcome;
 use super::Stepped;
 use super::Unit;
@@ -22,6 +25,28 @@ pub fn step_within(u: Unit, seconds: u32, request: i32) -> Outcome
         vars: limits::vars(u, watts),
         stored: flows::stored(u, seconds, flow, moved),
         loss: flows::loss(u, seconds, flow, moved),
+    }
+}
+
+// The vars of a unit that idles.
+pub fn idle_vars(u: Unit) -> i32
+    requires { ⌜ unitIn u ≡ true ⌝ }
+    ensures { λ r. ⌜ r ≡ idleVars u ⌝ }
+{
+    limits::vars(u, whole::signed32(true, ranges::idle_draw(u) as u32))
+}
+
+// One step of a unit that is asked nothing, by what it draws while it idles, its vars then, and what
+// it holds.
+pub fn rest(draw: u32, vars: i32, held: u64, seconds: u32) -> Outcome
+    requires { ⌜ draw ≤ 100000000 ⌝ }
+    ensures { λ r. ⌜ r ≡ restOf draw vars held seconds ⌝ }
+{
+    Outcome {
+        watts: whole::signed32(true, draw),
+        vars,
+        stored: held,
+        loss: (draw as u64) * (seconds as u64),
     }
 }
 
