@@ -12,6 +12,8 @@ use Rattle.whole.specs.Over.{eachFrom, each}
 use Rattle.whole.proofs.OverLaws.{each-length, each-at}
 use Rattle.storage.specs.declared.Unit.{Unit}
 use Rattle.storage.specs.Ranges.{idleDraw, unitIn, secondsIn}
+use Rattle.storage.specs.Step.{wattsOf, varsOf}
+use Rattle.storage.specs.Posts.{idleVars}
 use Rattle.storage.proofs.RangeLaws.{Bounds, bounds}
 use Rattle.stick.specs.Said.{unitsOf}
 use Rattle.season.specs.Run.{unitOf, column, holding}
@@ -69,3 +71,12 @@ holding-in u s e t h =
     let b : Bounds u 1 = bounds {u = u} {seconds = 1} (record { unit = e; seconds-in = t }) in
     let same : leb s (u .rated) ≡ leb (u .stored) (u .rated) = le-leb s (u .rated) h ∙ sym (le-leb (u .stored) (u .rated) (b .stored-most)) in
     cc
+
+-- and it draws the same while it idles, with the same vars
+pub holding-draw : (u : Unit) (s : ℕ) → idleDraw (holding u s) ≡ idleDraw u
+unfolding idleDraw
+holding-draw u s = refl
+
+pub holding-vars : (u : Unit) (s : ℕ) → idleVars (holding u s) ≡ idleVars u
+unfolding varsOf wattsOf idleDraw
+holding-vars u s = refl

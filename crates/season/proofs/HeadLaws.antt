@@ -19,18 +19,19 @@ use Rattle.octets.specs.BigEndian.{be}
 use Rattle.controller.specs.Posts.{Sound}
 use Rattle.controller.proofs.SoundLaws.{settings-small, everywhere}
 use Rattle.storage.specs.declared.Unit.{Unit}
-use Rattle.storage.specs.Ranges.{unitIn, secondsIn}
+use Rattle.storage.specs.Ranges.{idleDraw, unitIn, secondsIn}
 use Rattle.storage.specs.declared.Outcome.{Outcome}
 use Rattle.storage.specs.Step.{stepOf}
-use Rattle.storage.specs.Posts.{Ranged}
+use Rattle.storage.specs.Posts.{Ranged, idleVars, restOf}
 use Rattle.storage.proofs.RangeLaws.{Bounds, bounds}
+use Rattle.storage.proofs.StepLaws.{idle-step}
 use Rattle.stick.specs.Fields.{fleetIn, unitAt, settingsAt}
 use Rattle.stick.specs.Said.{unitsOf, secondsOf, unitPlace, settingsPlace, readingsPlace, readingsFrom, readingsOf, Said}
 use Rattle.stick.proofs.SaidProved.{accepted}
 use Rattle.season.specs.Run.{unitOf, column, holding, fleetNow, Standing, standing, atFirst, given, resultFrom, resultOf}
 use Rattle.season.specs.Answers.{needed}
 use Rattle.season.specs.Posts.{Headed, Columns, Held, Readable, Accepted}
-use Rattle.season.proofs.FleetLaws.{column-length, column-at, holding-in}
+use Rattle.season.proofs.FleetLaws.{column-length, column-at, holding-in, holding-draw, holding-vars}
 
 -- ---- an accepted file has such a head, and its readings
 fleet-parts : (file : List ℕ) → fleetIn file 3 ≡ true → (1 ≤ unitsOf file) × (unitsOf file ≤ 64) × (secondsIn (secondsOf file) ≡ true)
@@ -140,6 +141,23 @@ module _ (file : List ℕ) (i rated reserve s place seconds : ℕ) (u : Unit) (e
   give-is o r f e =
       e ∙ ap (stepOf (energized u rated reserve s) seconds) (read w32 r f) ∙ ap (λ (v : Unit). stepOf v seconds r) same-unit
       ∙ ap (λ (n : ℕ). stepOf (holding (unitOf file i) s) n r) es
+
+-- ---- the same where nothing is asked, from what the unit draws while it idles and its vars then
+nothing-asked : (r : ℤ) → mag r < 2 ^ 31 → ofZ w32 r ≡ 0 → r ≡ pos 0
+nothing-asked r f e = sym (read w32 r f) ∙ ap (toZ w32) e
+
+module _ (file : List ℕ) (i s draw : ℕ) (vars : ℤ) (seconds : ℕ) (ed : draw ≡ idleDraw (unitOf file i)) (ev : vars ≡ idleVars (unitOf file i)) (es : seconds ≡ secondsOf file) where
+  rest-given : restOf draw vars s seconds ≡ given file i s (pos 0)
+  unfolding given
+  rest-given =
+      let u = unitOf file i in
+      let d : draw ≡ idleDraw (holding u s) = ed ∙ sym (holding-draw u s) in
+      let v : vars ≡ idleVars (holding u s) = ev ∙ sym (holding-vars u s) in
+      ap₂ (λ (n : ℕ) (z : ℤ). restOf n z s seconds) d v ∙ sym (idle-step (holding u s) seconds) ∙ ap (λ (n : ℕ). stepOf (holding u s) n (pos 0)) es
+
+  pub rest-is : (o : Outcome) (r : ℤ) → mag r < 2 ^ 31 → mag vars < 2 ^ 31 → ofZ w32 r ≡ 0 → o ≡ restOf draw (toZ w32 (ofZ w32 vars)) s seconds → o ≡ given file i s r
+  rest-is o r f g z e =
+      e ∙ ap (λ (v : ℤ). restOf draw v s seconds) (read w32 vars g) ∙ rest-given ∙ ap (given file i s) (sym (nothing-asked r f z))
 
 -- ---- at first: what the file says is stored, which is no more than rated, and requests of zero
 pub first-held : (file stored : List ℕ) (rs : List ℤ) → Headed file → standing stored rs ≡ atFirst file → Held file stored rs

@@ -1,17 +1,20 @@
--- A loop that fills lists in place, each by the index alone, and the six lists of a fleet that are filled so from the file. Assumes nothing.
+-- A loop that fills lists in place, each by the index alone; the six lists of a fleet that are filled so from the file, and the two of how its units
+-- idle. Assumes nothing.
 use mathlib.Core.Path.{_≡_, refl, sym, ap, ap₂, _∙_}
 use mathlib.Core.List.{List}
 use Prim.Native.Nat.{ℕ, _+_, _≤_, _<_}
 use native.Mathlib.Nat.{le-trans, le-of-eq}
 use native.Mathlib.Omega.{arith}
 use lib.IntN.{ℤ, pos}
-use lib.ListN.{length, set}
+use lib.ListN.{length, getD, set}
 use Rattle.whole.specs.Over.{each}
-use Rattle.whole.proofs.OverLaws.{part, part-none, part-all, part-length, part-more}
+use Rattle.whole.proofs.OverLaws.{each-at, part, part-none, part-all, part-length, part-more}
 use Rattle.storage.specs.declared.Unit.{Unit}
+use Rattle.storage.specs.Ranges.{idleDraw}
+use Rattle.storage.specs.Posts.{idleVars}
 use Rattle.stick.specs.Said.{unitsOf}
 use Rattle.season.specs.Run.{unitOf, column, standing, atFirst}
-use Rattle.season.specs.Posts.{Columns, Lengths}
+use Rattle.season.specs.Posts.{Columns, Rests, Lengths}
 use Rattle.season.proofs.FleetLaws.{filled-column, constant}
 
 -- ---- a list of n elements of which the first i are filled
@@ -37,6 +40,9 @@ module _ {A : Type 0} {f : ℕ → A} {n : ℕ} {l : List A} where
 
     filling-all : i ≡ n → now ≡ each (λ (j : ℕ) (_ : A). f j) l
     filling-all e = r .done ∙ ap (part (λ (j : ℕ) (_ : A). f j) l) (e ∙ sym (r .long)) ∙ part-all (λ (j : ℕ) (_ : A). f j) l
+
+    filling-at : i ≡ n → (k : ℕ) → k < n → (d : A) → getD now k d ≡ f k
+    filling-at e k h d = ap (λ (t : List A). getD t k d) (filling-all e) ∙ each-at (λ (j : ℕ) (_ : A). f j) l k d (le-trans h (le-of-eq (sym (r .long))))
 
 -- ---- the lists of a fleet
 pub record Lists : Type 0 where
@@ -119,3 +125,34 @@ module _ {file : List ℕ} {a : Lists} where
       loading-standing =
           ap₂ standing (full (λ (u : Unit). u .stored) (r .stored))
           (filling-all (r .requests) e ∙ constant (pos 0) (a .requests) (unitsOf file) (r .requests .long))
+
+-- ---- what each unit draws while it idles, and its vars then: the first i units of the file are in the lists, which were a and b
+pub record Resting (file a : List ℕ) (b : List ℤ) (draws : List ℕ) (still : List ℤ) (i : ℕ) : Type 0 where
+  pub draws-filled : Filling (λ (j : ℕ). idleDraw (unitOf file j)) (unitsOf file) i a draws
+  pub still-filled : Filling (λ (j : ℕ). idleVars (unitOf file j)) (unitsOf file) i b still
+
+module _ {file a : List ℕ} {b : List ℤ} where
+  pub resting-none : length a ≡ unitsOf file → length b ≡ unitsOf file → Resting file a b a b 0
+  resting-none ea eb = record { draws-filled = filling-none ea; still-filled = filling-none eb }
+
+  module _ {draws : List ℕ} {still : List ℤ} {i : ℕ} (r : Resting file a b draws still i) where
+    pub draws-long : length draws ≡ unitsOf file
+    draws-long = filling-length (r .draws-filled)
+
+    pub still-long : length still ≡ unitsOf file
+    still-long = filling-length (r .still-filled)
+
+    pub resting-more : i < unitsOf file → {u : Unit} → u ≡ unitOf file i → {draw : ℕ} {vars : ℤ} → draw ≡ idleDraw u → vars ≡ idleVars u
+        → Resting file a b (set draws i draw) (set still i vars) (i + 1)
+    resting-more h e ed ev = record {
+      draws-filled = filling-more (r .draws-filled) h (ed ∙ ap idleDraw e);
+      still-filled = filling-more (r .still-filled) h (ev ∙ ap (λ (x : Unit). idleVars x) e);
+    }
+
+    pub resting-all : i ≡ unitsOf file → Rests file draws still
+    resting-all e = record {
+      draws-there = draws-long;
+      still-there = still-long;
+      draws-are = λ k h. filling-at (r .draws-filled) e k h 0;
+      still-are = λ k h. filling-at (r .still-filled) e k h (pos 0);
+    }

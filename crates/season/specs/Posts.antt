@@ -3,11 +3,12 @@ use Prim.Native.Nat.{ℕ, _≤_, _<_}
 use mathlib.Core.Bool.{true}
 use mathlib.Core.List.{List}
 use mathlib.Core.Path.{_≡_}
-use lib.IntN.{ℤ}
+use lib.IntN.{ℤ, pos}
 use lib.ListN.{length, getD}
 use Rattle.controller.specs.Ranges.{settingsIn}
 use Rattle.storage.specs.declared.Unit.{Unit}
-use Rattle.storage.specs.Ranges.{unitIn, secondsIn}
+use Rattle.storage.specs.Ranges.{idleDraw, unitIn, secondsIn}
+use Rattle.storage.specs.Posts.{idleVars}
 use Rattle.stick.specs.Fields.{settingsAt}
 use Rattle.stick.specs.Check.{checkOf}
 use Rattle.stick.specs.Said.{unitsOf, secondsOf, settingsPlace, readingsPlace, further, ReadingThere}
@@ -28,6 +29,13 @@ pub record Columns (file rated reserve rating weight : List ℕ) : Type 0 where
   pub reserve-is : reserve ≡ column (λ (u : Unit). u .reserve) file
   pub rating-is : rating ≡ column (λ (u : Unit). u .rating) file
   pub weight-is : weight ≡ column (λ (u : Unit). u .weight) file
+
+-- what each unit draws while it idles, and its vars then: no step changes them
+pub record Rests (file draws : List ℕ) (still : List ℤ) : Type 0 where
+  pub draws-there : length draws ≡ unitsOf file
+  pub still-there : length still ≡ unitsOf file
+  pub draws-are : (i : ℕ) → i < unitsOf file → getD draws i 0 ≡ idleDraw (unitOf file i)
+  pub still-are : (i : ℕ) → i < unitsOf file → getD still i (pos 0) ≡ idleVars (unitOf file i)
 
 -- a store and a request for each unit, no store above rated
 pub record Held (file stored : List ℕ) (requests : List ℤ) : Type 0 where

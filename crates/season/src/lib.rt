@@ -7,6 +7,7 @@ mod runs;
 mod steps;
 
 pub use fleet::load;
+pub use fleet::load_rests;
 pub use records::put_end;
 pub use runs::room;
 pub use runs::run;

@@ -5,7 +5,7 @@ ghost use Rattle.octets.specs.BigEndian.{laid};
 ghost use Rattle.storage.specs.declared.Unit.{Unit};
 ghost use Rattle.stick.specs.Said.{unitsOf};
 ghost use Rattle.season.specs.Run.{column, standing, askedBy, storedAfter, recordsOf, after, recordsBy};
-ghost use Rattle.season.specs.Posts.{Headed, Columns, Held};
+ghost use Rattle.season.specs.Posts.{Headed, Columns, Rests, Held};
 use super::fleet;
 use super::records;
 use reading::Measure;
@@ -44,6 +44,8 @@ fn give_all(
     step: u32,
     rated: &[u64],
     reserve: &[u64],
+    draws: &[u32],
+    still: &[i32],
     requests: &[i32],
     stored: &mut [u64],
     room: &mut [u8],
@@ -52,6 +54,7 @@ fn give_all(
     requires { ⌜ Headed (now file) ⌝ }
     requires { ⌜ now rated ≡ column (λ (u : Unit). u .rated) (now file) ⌝ }
     requires { ⌜ now reserve ≡ column (λ (u : Unit). u .reserve) (now file) ⌝ }
+    requires { ⌜ Rests (now file) (now draws) (now still) ⌝ }
     requires { ⌜ Held (now file) (now stored) (now requests) ⌝ }
     requires { ⌜ at + 40 * unitsOf (now file) ≤ length (now room) ⌝ }
     ensures { λ _. ⌜ now (stored .exit) ≡ storedAfter (now (file .entry)) (now (stored .entry)) (now (requests .entry)) ⌝ }
@@ -60,7 +63,16 @@ fn give_all(
     let mut i = 0;
     while i < requests.len() {
         let request = requests[i];
-        let o = fleet::give(file, i, rated[i], reserve[i], stored[i], request);
+        let o = fleet::give(
+            file,
+            i,
+            rated[i],
+            reserve[i],
+            draws[i],
+            still[i],
+            stored[i],
+            request,
+        );
         let left = o.stored;
         stored[i] = left;
         records::put_record(room, at + 40 * i, step, i as u8, request, o);
@@ -79,12 +91,15 @@ pub fn step(
     stored: &mut [u64],
     rating: &[u32],
     weight: &[u16],
+    draws: &[u32],
+    still: &[i32],
     requests: &mut [i32],
     room: &mut [u8],
     at: usize,
 )
     requires { ⌜ Headed (now file) ⌝ }
     requires { ⌜ Columns (now file) (now rated) (now reserve) (now rating) (now weight) ⌝ }
+    requires { ⌜ Rests (now file) (now draws) (now still) ⌝ }
     requires { ⌜ Held (now file) (now stored) (now requests) ⌝ }
     requires { ⌜ at + 40 * unitsOf (now file) ≤ length (now room) ⌝ }
     ensures { λ _. ⌜ standing (now (stored .exit)) (now (requests .exit)) ≡ after (now (file .entry)) (standing (now (stored .entry)) (now (requests .entry))) r ⌝ }
@@ -92,5 +107,16 @@ pub fn step(
     ensures { λ _. ⌜ Held (now (file .entry)) (now (stored .exit)) (now (requests .exit)) ⌝ }
 {
     ask(file, r, rated, reserve, stored, rating, weight, requests);
-    give_all(file, k, rated, reserve, requests, stored, room, at);
+    give_all(
+        file,
+        k,
+        rated,
+        reserve,
+        draws,
+        still,
+        requests,
+        stored,
+        room,
+        at,
+    );
 }

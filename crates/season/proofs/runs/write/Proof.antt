@@ -59,21 +59,33 @@ array-borrow-prefix-weight c = few (c .before .before .before .before)
 slice-aggregate-write-with-5 : tie.Need-slice-aggregate-write-with-5
 slice-aggregate-write-with-5 c = prefix (replicate 64 0) (c .before .before .before .before .before) (le-refl 64)
 
-array-borrow-prefix-requests : tie.Need-array-borrow-prefix-requests
-array-borrow-prefix-requests c = few (c .before .before .before .before .before)
+array-borrow-prefix-draws : tie.Need-array-borrow-prefix-draws
+array-borrow-prefix-draws c = few (c .before .before .before .before .before)
 
 slice-aggregate-write-with-6 : tie.Need-slice-aggregate-write-with-6
-slice-aggregate-write-with-6 c = prefix (replicate 64 (pos 0)) (c .before .before .before .before .before .before) (le-refl 64)
+slice-aggregate-write-with-6 c = prefix (replicate 64 0) (c .before .before .before .before .before .before) (le-refl 64)
+
+array-borrow-prefix-still : tie.Need-array-borrow-prefix-still
+array-borrow-prefix-still c = few (c .before .before .before .before .before .before)
+
+slice-aggregate-write-with-7 : tie.Need-slice-aggregate-write-with-7
+slice-aggregate-write-with-7 c = prefix (replicate 64 (pos 0)) (c .before .before .before .before .before .before .before) (le-refl 64)
+
+array-borrow-prefix-requests : tie.Need-array-borrow-prefix-requests
+array-borrow-prefix-requests c = few (c .before .before .before .before .before .before .before)
+
+slice-aggregate-write-with-8 : tie.Need-slice-aggregate-write-with-8
+slice-aggregate-write-with-8 c = prefix (replicate 64 (pos 0)) (c .before .before .before .before .before .before .before .before) (le-refl 64)
 
 write-with-requires : tie.Need-write-with-requires
 write-with-requires c κs =
-    let u = c .before .before .before .before .before .before .before in
+    let u = c .before .before .before .before .before .before .before .before .before in
     let (a, f) = u .before .before .before .pre in
     let zeros : List ℕ = replicate 64 0 in
     let rests : List ℤ = replicate 64 (pos 0) in
     let values : length (take (u .units .result) zeros) ≡ unitsOf (u .before .before .before .args .file .now) = sym (prefix zeros u (le-refl 64)) ∙ u .units .ensures in
     let asks : length (take (u .units .result) rests) ≡ unitsOf (u .before .before .before .args .file .now) = sym (prefix rests u (le-refl 64)) ∙ u .units .ensures in
-    (a, (record { rated-there = values; reserve-there = values; stored-there = values; rating-there = values; weight-there = values; requests-there = asks }, f))
+    (a, (record { rated-there = values; reserve-there = values; stored-there = values; rating-there = values; weight-there = values; requests-there = asks }, (values, (asks, f))))
 
 same-length : tie.Need-same-length
 same-length c = search needs
@@ -96,8 +108,12 @@ write-spec =
     slice-aggregate-write-with-4
     array-borrow-prefix-weight
     slice-aggregate-write-with-5
-    array-borrow-prefix-requests
+    array-borrow-prefix-draws
     slice-aggregate-write-with-6
+    array-borrow-prefix-still
+    slice-aggregate-write-with-7
+    array-borrow-prefix-requests
+    slice-aggregate-write-with-8
     write-with-requires
     same-length
     returns)

@@ -9,24 +9,41 @@ use Rattle.season.proofs.HeadLaws.{head, readable, first-held, first-re
 use Rattle.season.proofs.runs.write_with.Statement.{statement}
 use Rattle.season.proofs.runs.write_with.Tie as tie
 
+-- the way back from what is lent last to the lists of how the units idle, from there to the other lists, and to the start
+abbrev rested : tie.After-all-steps-arg9 → tie.After-load-rests
+rested c = c .before .before .before .before .before .before .before .before .before .before .before .before
+
+abbrev loaded : tie.After-load-rests-arg2 → tie.After-load
+loaded c = c .before .before .before .before .before .before .before .before .before .before .before .before .before
+
+abbrev start : tie.After-load → tie.Start
+start l = l .before .before .before .before .before .before .before .before .before .before .before .before .before .before .before
+
 load-requires : tie.Need-load-requires
 load-requires c κs =
-    let s = c .before .before .before .before .before .before .before .before .before .before .before .before .before in
-    let (a, (n, f)) = s .pre in
+    let s = c .before .before .before .before .before .before .before .before .before .before .before .before .before .before in
+    let (a, (n, (ed, (ev, f)))) = s .pre in
     (head (s .args .file .now) (s .args .count) a, n)
+
+load-rests-requires : tie.Need-load-rests-requires
+load-rests-requires c κs =
+    let s = start (loaded c) in
+    let (a, (n, (ed, (ev, f)))) = s .pre in
+    (head (s .args .file .now) (s .args .count) a, (ed, ev))
 
 all-steps-requires : tie.Need-all-steps-requires
 all-steps-requires c κs =
-    let l = c .before .before .before .before .before .before .before .before .before .before .before .before .before .before .before .before .before .before in
-    let s = l .before .before .before .before .before .before .before .before .before .before .before .before .before .before in
-    let (a, (n, f)) = s .pre in
+    let r = rested c in
+    let l = loaded (r .before) in
+    let s = start l in
+    let (a, (n, (ed, (ev, f)))) = s .pre in
     let (cs, e) = l .load .ensures in
     let stored = l .load .last .1 .1 .1 .0 in
     let requests = l .load .last .1 .1 .1 .1 .1 .1 .0 in
     let file = s .args .file .now in
     let count = s .args .count in
     let h = head file count a in
-    (h, (cs, (first-held file stored requests h e, (readable file count a, first-fits file count (length (s .args .room .now)) a f))))
+    (h, (cs, (r .load-rests .ensures, (first-held file stored requests h e, (readable file count a, first-fits file count (length (s .args .room .now)) a f)))))
 
 same-length : tie.Need-same-length
 same-length c = search needs
@@ -49,12 +66,18 @@ same-length-6 c = search needs
 same-length-7 : tie.Need-same-length-7
 same-length-7 c = search needs
 
+same-length-8 : tie.Need-same-length-8
+same-length-8 c = search needs
+
+same-length-9 : tie.Need-same-length-9
+same-length-9 c = search needs
+
 returns : tie.Need-returns
 returns c =
     let w = c .before .before .before .before .before in
-    let l = c .before .before .before .before .before .before .before .before .before .before .before .before .before .before .before .before .before .before .before .before .before .before .before .before in
-    let s = l .before .before .before .before .before .before .before .before .before .before .before .before .before .before in
-    let (a, (n, f)) = s .pre in
+    let l = loaded (rested (w .before) .before) in
+    let s = start l in
+    let (a, (n, (ed, (ev, f)))) = s .pre in
     let (cs, e) = l .load .ensures in
     let stored = l .load .last .1 .1 .1 .0 in
     let requests = l .load .last .1 .1 .1 .1 .1 .1 .0 in
@@ -65,6 +88,7 @@ write-with-spec =
     tie.close
     (tie.spec
     load-requires
+    load-rests-requires
     all-steps-requires
     same-length
     same-length-2
@@ -73,4 +97,6 @@ write-with-spec =
     same-length-5
     same-length-6
     same-length-7
+    same-length-8
+    same-length-9
     returns)

@@ -8,7 +8,7 @@ ask-requires : tie.Need-ask-requires
 ask-requires c κs = search needs
 
 give-all-requires : tie.Need-give-all-requires
-give-all-requires c κs = let a = c .before .before .before .before in let s = a .before .before .before .before .before .before .before .before .before .before in let (h, (cs, (st, f))) = s .pre in (h, (cs .rated-is, (cs .reserve-is, (asked-held (s .args .file .now) (s .args .stored .now) (s .args .requests .now) (s .args .r) (a .ask .last .1 .1 .1 .1 .1 .1 .1 .0) (a .ask .ensures) st, f))))
+give-all-requires c κs = let a = c .before .before .before .before in let s = a .before .before .before .before .before .before .before .before .before .before .before in let (h, (cs, (rs, (st, f)))) = s .pre in (h, (cs .rated-is, (cs .reserve-is, (rs, (asked-held (s .args .file .now) (s .args .stored .now) (s .args .requests .now) (s .args .r) (a .ask .last .1 .1 .1 .1 .1 .1 .1 .0) (a .ask .ensures) st, f)))))
 
 same-length : tie.Need-same-length
 same-length c = search needs
@@ -23,9 +23,9 @@ returns : tie.Need-returns
 returns c =
     let g = c .before .before .before .before in
     let a = g .before .before .before .before .before in
-    let s = a .before .before .before .before .before .before .before .before .before .before in
-    let (h, (cs, (st, f))) = s .pre in
-    let left = g .give-all .last .1 .1 .1 .1 .1 in
+    let s = a .before .before .before .before .before .before .before .before .before .before .before in
+    let (h, (cs, (rs, (st, f)))) = s .pre in
+    let left = g .give-all .last .1 .1 .1 .1 .1 .1 .1 in
     let (es, er) = g .give-all .ensures in (
       step-standing (s .args .file .now) (s .args .stored .now) (s .args .requests .now) (s .args .r) (a .ask .last .1 .1 .1 .1 .1 .1 .1 .0) (a .ask .ensures) (left .0) es,
       (
