@@ -2,7 +2,7 @@ ghost use mathlib.Core.Path.{_≡_};
 ghost use Prim.Native.Nat.{_*_};
 ghost use lib.ListN.{length};
 ghost use Rattle.stick.specs.Said.{unitsOf};
-ghost use Rattle.season.specs.Posts.{Headed, Columns, Held, Lengths, Readable, Accepted};
+ghost use Rattle.season.specs.Posts.{Headed, Columns, Rests, Held, Lengths, Readable, Accepted};
 use libc::STDOUT_FILENO;
 
 // The end record: whether it was written.
@@ -22,11 +22,14 @@ fn write_steps(
     stored: &mut [u64],
     rating: &[u32],
     weight: &[u16],
+    draws: &[u32],
+    still: &[i32],
     requests: &mut [i32],
     room: &mut [u8],
 ) -> bool
     requires { ⌜ Headed (now file) ⌝ }
     requires { ⌜ Columns (now file) (now rated) (now reserve) (now rating) (now weight) ⌝ }
+    requires { ⌜ Rests (now file) (now draws) (now still) ⌝ }
     requires { ⌜ Held (now file) (now stored) (now requests) ⌝ }
     requires { ⌜ Readable (now file) count ⌝ }
     requires { ⌜ length (now room) ≡ 40 * unitsOf (now file) ⌝ }
@@ -44,6 +47,8 @@ fn write_steps(
             stored,
             rating,
             weight,
+            draws,
+            still,
             requests,
             room,
             0,
@@ -66,14 +71,19 @@ fn write_with(
     stored: &mut [u64],
     rating: &mut [u32],
     weight: &mut [u16],
+    draws: &mut [u32],
+    still: &mut [i32],
     requests: &mut [i32],
     room: &mut [u8],
 ) -> bool
     requires { ⌜ Accepted (now file) count ⌝ }
     requires { ⌜ Lengths (unitsOf (now file)) (now rated) (now reserve) (now stored) (now rating) (now weight) (now requests) ⌝ }
+    requires { ⌜ length (now draws) ≡ unitsOf (now file) ⌝ }
+    requires { ⌜ length (now still) ≡ unitsOf (now file) ⌝ }
     requires { ⌜ length (now room) ≡ 40 * unitsOf (now file) ⌝ }
 {
     season::load(file, rated, reserve, stored, rating, weight, requests);
+    season::load_rests(file, draws, still);
     write_steps(
         file,
         count,
@@ -82,6 +92,8 @@ fn write_with(
         stored,
         rating,
         weight,
+        draws,
+        still,
         requests,
         room,
     )
@@ -97,6 +109,8 @@ pub fn write(file: &[u8], count: u32) -> bool
     let mut stored = [0u64; 64];
     let mut rating = [0u32; 64];
     let mut weight = [0u16; 64];
+    let mut draws = [0u32; 64];
+    let mut still = [0i32; 64];
     let mut requests = [0i32; 64];
     let mut room = [0u8; 2560];
     write_with(
@@ -107,6 +121,8 @@ pub fn write(file: &[u8], count: u32) -> bool
         &mut stored[..n],
         &mut rating[..n],
         &mut weight[..n],
+        &mut draws[..n],
+        &mut still[..n],
         &mut requests[..n],
         &mut room[..40 * n],
     )

@@ -67,24 +67,36 @@ array-borrow-prefix-weight c = few (c .before .before .before .before)
 slice-aggregate-write-with-5 : tie.Need-slice-aggregate-write-with-5
 slice-aggregate-write-with-5 c = prefix (replicate 64 0) (c .before .before .before .before .before) (le-refl 64)
 
-array-borrow-prefix-requests : tie.Need-array-borrow-prefix-requests
-array-borrow-prefix-requests c = few (c .before .before .before .before .before)
+array-borrow-prefix-draws : tie.Need-array-borrow-prefix-draws
+array-borrow-prefix-draws c = few (c .before .before .before .before .before)
 
 slice-aggregate-write-with-6 : tie.Need-slice-aggregate-write-with-6
-slice-aggregate-write-with-6 c = prefix (replicate 64 (pos 0)) (c .before .before .before .before .before .before) (le-refl 64)
+slice-aggregate-write-with-6 c = prefix (replicate 64 0) (c .before .before .before .before .before .before) (le-refl 64)
 
-mul-room : tie.Need-mul-room
-mul-room c = omega (arith, within (c .before .before .before .before .before .before))
-
-array-borrow-prefix-room : tie.Need-array-borrow-prefix-room
-array-borrow-prefix-room c = within (c .before .before .before .before .before .before)
+array-borrow-prefix-still : tie.Need-array-borrow-prefix-still
+array-borrow-prefix-still c = few (c .before .before .before .before .before .before)
 
 slice-aggregate-write-with-7 : tie.Need-slice-aggregate-write-with-7
-slice-aggregate-write-with-7 c = records (c .before .before .before .before .before .before .before)
+slice-aggregate-write-with-7 c = prefix (replicate 64 (pos 0)) (c .before .before .before .before .before .before .before) (le-refl 64)
+
+array-borrow-prefix-requests : tie.Need-array-borrow-prefix-requests
+array-borrow-prefix-requests c = few (c .before .before .before .before .before .before .before)
+
+slice-aggregate-write-with-8 : tie.Need-slice-aggregate-write-with-8
+slice-aggregate-write-with-8 c = prefix (replicate 64 (pos 0)) (c .before .before .before .before .before .before .before .before) (le-refl 64)
+
+mul-room : tie.Need-mul-room
+mul-room c = omega (arith, within (c .before .before .before .before .before .before .before .before))
+
+array-borrow-prefix-room : tie.Need-array-borrow-prefix-room
+array-borrow-prefix-room c = within (c .before .before .before .before .before .before .before .before)
+
+slice-aggregate-write-with-9 : tie.Need-slice-aggregate-write-with-9
+slice-aggregate-write-with-9 c = records (c .before .before .before .before .before .before .before .before .before)
 
 write-with-requires : tie.Need-write-with-requires
 write-with-requires c κs =
-    let u = c .before .before .before .before .before .before .before in
+    let u = c .before .before .before .before .before .before .before .before .before in
     let s = u .before .before in
     let zeros : List ℕ = replicate 64 0 in
     let rests : List ℤ = replicate 64 (pos 0) in
@@ -93,7 +105,7 @@ write-with-requires c κs =
       s .pre,
       (
         record { rated-there = values; reserve-there = values; stored-there = values; rating-there = values; weight-there = values; requests-there = asks },
-        sym (records u) ∙ ap (λ (n : ℕ). 40 * n) (u .units .ensures),
+        (values, (asks, sym (records u) ∙ ap (λ (n : ℕ). 40 * n) (u .units .ensures))),
       ),
     )
 
@@ -115,10 +127,14 @@ write-spec =
     slice-aggregate-write-with-4
     array-borrow-prefix-weight
     slice-aggregate-write-with-5
-    array-borrow-prefix-requests
+    array-borrow-prefix-draws
     slice-aggregate-write-with-6
+    array-borrow-prefix-still
+    slice-aggregate-write-with-7
+    array-borrow-prefix-requests
+    slice-aggregate-write-with-8
     mul-room
     array-borrow-prefix-room
-    slice-aggregate-write-with-7
+    slice-aggregate-write-with-9
     write-with-requires
     returns)
