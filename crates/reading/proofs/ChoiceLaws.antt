@@ -140,24 +140,32 @@ pub choice-widened : (phase : ℕ) (a b c : ℤ) → mag a < 2 ^ 31 → mag b < 
     → choiceOf phase (back (toZ w32 (ofZ w32 a))) (back (toZ w32 (ofZ w32 b))) (back (toZ w32 (ofZ w32 c))) ≡ choiceOf phase a b c
 choice-widened phase a b c ha hb hc = cc (wide-is a ha, wide-is b hb, wide-is c hc)
 
--- ---- whether a reading can be used: what the measure of any phase, here the sum, is refused by
+-- ---- whether a reading can be used, power by power
 pub none-missing : (r : Reading) → r ≡ Missing → 0 ≡ refusalOf r
 unfolding refusalOf
 none-missing r e = sym (ap refusalOf e)
 
-module _ (r : Reading) (p : Phases) (er : r ≡ Power p) (m : Measure) (em : m ≡ measureOf p 0) where
-  by-measure : refusalOf r ≡ measureNumber m
-  unfolding refusalOf measureOf
-  by-measure = ap refusalOf er ∙ same (wattsOf (p .first)) (wattsOf (p .second)) (wattsOf (p .third)) ∙ ap measureNumber (sym em)
-    where
-      same : (x y z : Watts) → usableOf x y z ≡ measureNumber (chosenOf 0 x y z)
-      same Refused y z = refl
-      same (Whole a) Refused z = refl
-      same (Whole a) (Whole b) Refused = refl
-      same (Whole a) (Whole b) (Whole c) = refl
+module _ (r : Reading) (p : Phases) (er : r ≡ Power p) (x : Watts) (ex : x ≡ wattsOf (p .first)) where
+  by-powers : (y z : Watts) → y ≡ wattsOf (p .second) → z ≡ wattsOf (p .third) → usableOf x y z ≡ refusalOf r
+  unfolding refusalOf
+  by-powers y z ey ez =
+      ap (λ (t : Watts). usableOf t y z) ex
+      ∙ ap₂ (usableOf (wattsOf (p .first))) ey ez
+      ∙ sym (ap refusalOf er)
 
-  pub usable : (z : ℤ) → m ≡ Chosen z → 0 ≡ refusalOf r
-  usable z e = sym (by-measure ∙ ap measureNumber e)
+  pub unusable-first : x ≡ Refused → 6 ≡ refusalOf r
+  unusable-first e = ap (λ (t : Watts). usableOf t (wattsOf (p .second)) (wattsOf (p .third))) (sym e) ∙ by-powers (wattsOf (p .second)) (wattsOf (p .third)) refl refl
 
-  pub unusable : (n : ℕ) → m ≡ RefusedBy n → n ≡ refusalOf r
-  unusable n e = sym (by-measure ∙ ap measureNumber e)
+  module _ (a : ℤ) (ea : x ≡ Whole a) (y : Watts) (ey : y ≡ wattsOf (p .second)) where
+    pub unusable-second : y ≡ Refused → 6 ≡ refusalOf r
+    unusable-second e = ap₂ (λ (s t : Watts). usableOf s t (wattsOf (p .third))) (sym ea) (sym e) ∙ by-powers y (wattsOf (p .third)) ey refl
+
+    module _ (b : ℤ) (eb : y ≡ Whole b) (z : Watts) (ez : z ≡ wattsOf (p .third)) where
+      with-third : (w : Watts) → z ≡ w → usableOf (Whole a) (Whole b) w ≡ refusalOf r
+      with-third w e = ap₂ (λ (s t : Watts). usableOf s t w) (sym ea) (sym eb) ∙ ap (usableOf x y) (sym e) ∙ by-powers y z ey ez
+
+      pub unusable-third : z ≡ Refused → 6 ≡ refusalOf r
+      unusable-third e = with-third Refused e
+
+      pub usable : (c : ℤ) → z ≡ Whole c → 0 ≡ refusalOf r
+      usable c e = with-third (Whole c) e

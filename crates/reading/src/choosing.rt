@@ -71,8 +71,14 @@ pub fn refusal(r: Reading) -> u8
     let Reading::Power(p) = r else {
         return 0;
     };
-    match regulated(p, 0) {
-        Measure::Chosen(_) => 0,
-        Measure::RefusedBy(n) => n,
-    }
+    let Watts::Whole(_) = super::converted(p.first) else {
+        return 6;
+    };
+    let Watts::Whole(_) = super::converted(p.second) else {
+        return 6;
+    };
+    let Watts::Whole(_) = super::converted(p.third) else {
+        return 6;
+    };
+    0
 }
