@@ -6,3 +6,4 @@ pub mod StepLaws
 pub mod LoadLaws
 pub mod RunLaws
 pub mod AnswerLaws
+pub mod UsedLaws
