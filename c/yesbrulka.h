@@ -2,9 +2,15 @@
 **
 ** Every function answers for any numbers and for any memory that is lent to it. Unless it says otherwise it
 ** returns 0 or the number of a refusal. On a refusal nothing that was lent has changed. A lent pointer points
-** to memory that holds what it is declared to hold, and no two of a call's lent things overlap. A lent list
-** is a pointer and the number of its elements; the pointer of a list of none may be NULL. A lent file is the
-** list of its bytes. Nothing is kept after a call and nothing is allocated.
+** to memory that holds what it is declared to hold. A lent list is a pointer and the number of its elements; the
+** pointer of a list of none may be NULL. A lent file is the list of its bytes.
+**
+** What a call may write overlaps nothing else that is lent to it. What is declared const it only reads: such lists
+** may overlap each other, and one list may be lent twice in one call.
+**
+** Nothing is kept after a call and nothing is allocated. The functions share no state: they may be called from any
+** thread at any time, as long as nobody else writes what is lent to a call, or reads what it may write, before it
+** returns. A call needs at most 65,536 bytes of stack.
 **
 ** Power is in whole watts, positive for discharge; energy is in whole joules.
 */
@@ -18,19 +24,63 @@
 extern "C" {
 #endif
 
+/* The refusals by their numbers. Those of a file are 1 to 9 and 12. */
+enum {
+    YB_CUT_SHORT = 1, /* one or two bytes are left where tag and length are due, or the value runs past the end */
+    YB_UNKNOWN_TAG = 2, /* the tag is unknown */
+    YB_WRONG_LENGTH = 3, /* the length is not the tag's */
+    YB_OUT_OF_ORDER = 4, /* the field may not come at this point */
+    YB_OUT_OF_RANGE = 5, /* a value is outside its range */
+    YB_NOT_USABLE = 6, /* a reading does not convert to watts */
+    YB_WRONG_COUNT = 7, /* the end field counts other steps than there are */
+    YB_END_MISSING = 8, /* the bytes stop between two fields, before the end field */
+    YB_AFTER_END = 9, /* there are bytes after the end field */
+    YB_DOES_NOT_FIT = 10, /* wrong lengths of lists, a request beyond its rating, both signs, or no such unit */
+    YB_ROOM_TOO_SHORT = 11, /* the room is shorter than the result */
+    YB_TOO_MANY = 12 /* the file is longer than 2,097,152 bytes, or has a step after its 65,535th */
+};
+
+/* The modes of the controller. */
+enum { YB_PEAK_SHAVE = 1, YB_SUPPORT = 2, YB_PEAK_SHAVE_LOW = 3 };
+
+/* The phase choice: the sum of the three, one of them, or the largest or the smallest as signed numbers. */
+enum {
+    YB_PHASE_SUM = 0,
+    YB_PHASE_1 = 1,
+    YB_PHASE_2 = 2,
+    YB_PHASE_3 = 3,
+    YB_PHASE_LARGEST = 4,
+    YB_PHASE_SMALLEST = 5
+};
+
+/* What a unit gives first where its kVA rating does not hold both. */
+enum { YB_WATTS_FIRST = 0, YB_VARS_FIRST = 1 };
+
+/* The most that there can be of units in a fleet, and of steps and bytes in a file. A fleet has at least one unit. */
+enum { YB_MOST_UNITS = 64, YB_MOST_STEPS = 65535, YB_MOST_FILE_BYTES = 2097152 };
+
+/* The ranges of the values: each goes up to its most, and from where it is said; one with a sign from minus its most.
+** Ratings in W and VA, var requests, targets, phase powers and the load of a study have one most. Reserve and stored
+** energy are from 0 to the rated.
+*/
+enum {
+    YB_MOST_SECONDS = 86400, /* a step's length, from 1 */
+    YB_MOST_POWER = 100000000, /* W, VA or var: ratings from 1, a load from 0, the others with a sign */
+    YB_MOST_IDLE_LOSS = 10000000, /* W, from 0 */
+    YB_MOST_WEIGHT = 10000, /* from 1 */
+    YB_LEAST_EFFICIENCY = 1000, /* parts in 10,000 */
+    YB_MOST_EFFICIENCY = 10000,
+    YB_MOST_BAND = 200000000, /* W, from 0 */
+    YB_MOST_FACTOR = 1000, /* thousandths, from 1 */
+    YB_MOST_MEASURE = 300000000, /* W, with a sign */
+    YB_MOST_BUDGET = 10000 /* passes of a study, from 1 */
+};
+#define YB_MOST_RATED UINT64_C(10000000000000) /* J, from 1 */
+
 /* Check a run file of any length.
 **
-** yb_check returns 0 if the file is complete, or the number of its refusal:
-**     1  one or two bytes are left where a field's tag and length are due, or its value runs past the end
-**     2  the tag is unknown
-**     3  the length is not the tag's
-**     4  the field may not come at this point
-**     5  a value is outside its range
-**     6  a reading does not convert to watts
-**     7  the end field counts other steps than there are
-**     8  the bytes stop between two fields, before the end field
-**     9  there are bytes after the end field
-**    12  the file is longer than 2,097,152 bytes, or has a step after its 65,535th
+** yb_check returns 0 if the file is complete, or the number of its refusal, 1 to 9 or 12.
+**
 ** The size of the file is looked at first, then its fields from the first to the last; of several things wrong
 ** with one field, the answer is the first of: tag and length cut short, 2, 3, value cut short, 4, 12, and 5, 6
 ** or 7.
@@ -54,6 +104,31 @@ uint32_t yb_check_steps(const uint8_t *file, size_t file_len);
 */
 uint64_t yb_value_start(const uint8_t *file, size_t file_len, uint64_t place);
 uint64_t yb_value_len(const uint8_t *file, size_t file_len, uint64_t place);
+
+/* Ask what a complete file says.
+**
+** yb_units returns the number of its units, 1 to 64, and yb_seconds the length of its steps, 1 to 86,400. Of a file
+** that is not complete both return 0.
+**
+** yb_settings stores the settings of the file: mode, target and band in W, factor in thousandths, and the phase
+** choice. Returns 0, or the number of yb_check. The five are written only when 0 is returned.
+**
+** yb_unit stores the values of one unit, counted from 0, as they are before the first step: rated, reserve and stored
+** energy; power rating, kVA rating, idle loss and var request; weight; the efficiencies of inverter, charge and
+** discharge; priority. All are within the ranges that yb_step has for them.
+**
+** Returns 0, or the first of these that holds:
+**     the number of yb_check
+**    10  the file's fleet has no such unit
+** The twelve are written only when 0 is returned.
+*/
+uint32_t yb_units(const uint8_t *file, size_t file_len);
+uint32_t yb_seconds(const uint8_t *file, size_t file_len);
+uint32_t yb_settings(const uint8_t *file, size_t file_len, uint8_t *mode, int32_t *target, uint32_t *band,
+    uint16_t *factor, uint8_t *phase);
+uint32_t yb_unit(const uint8_t *file, size_t file_len, uint32_t unit, uint64_t *rated, uint64_t *reserve,
+    uint64_t *stored, uint32_t *rating, uint32_t *kva, uint32_t *idle_loss, int32_t *var_request, uint16_t *weight,
+    uint16_t *inverter, uint16_t *charge, uint16_t *discharge, uint8_t *priority);
 
 /* Run a file: take its readings in turn, each one pass of the controller (none where the reading is missing) and
 ** one step of every unit, and write the result file.
@@ -127,6 +202,20 @@ uint32_t yb_settle(int64_t load, int32_t target, uint32_t band, uint16_t factor,
     const uint64_t *stored, size_t stored_len, const uint32_t *rating, size_t rating_len,
     const uint16_t *weight, size_t weight_len, int32_t *requests, size_t requests_len,
     uint8_t *settled, uint32_t *passes);
+
+/* Study where the fleet of a complete file settles over a fixed load.
+**
+** This is yb_settle over the file's units, as they are before the first step, and its target, band and factor; mode
+** and phase choice of the file do not matter. requests has an element for each unit of the file.
+**
+** Returns 0, or the first of these that holds:
+**     the number of yb_check
+**    10  requests has not as many elements as the file has units
+**     5  load or budget is outside its range
+** requests, *settled and *passes are written only when 0 is returned.
+*/
+uint32_t yb_study(const uint8_t *file, size_t file_len, int64_t load, uint32_t budget, int32_t *requests,
+    size_t requests_len, uint8_t *settled, uint32_t *passes);
 
 /* Take one storage unit through one step of the given length, at a request in W.
 **

@@ -75,8 +75,8 @@ RUSTC=$rustc CARGO_TARGET_DIR=$PWD/build/bench "$cargo" build --quiet --release 
 
 mkdir -p build/x86_64
 # shellcheck disable=SC2086 # YB_STATIC may be no word
-"$YB_CC" -O2 -Wall -Wextra -Werror -std=c11 $YB_STATIC -o build/x86_64/bench c/bench.c "$YB_ARCHIVE" "$library" \
-    -lpthread -ldl
+"$YB_CC" -O2 -Wall -Wextra -Werror -std=c11 $YB_STATIC -Ic -o build/x86_64/bench c/bench/bench.c "$YB_ARCHIVE" \
+    "$library" -lpthread -ldl
 
 heading
 # shellcheck disable=SC2086 # YB_EMULATOR may be no word

@@ -6,22 +6,25 @@ cd "$(dirname "${BASH_SOURCE[0]}")/.."
 . tools/env.sh
 yb_toolchain || { echo "$YB_CC_WHY" >&2; exit 1; }
 
-programs='host test_surface test_stack watts import'
+# Each program is named after its first part in c/, and its further parts are named after it.
+programs='tests/host tests/test_surface tests/test_stack watts/watts import/import'
 commands='watts import'
 
 # Nothing of an earlier build may stand in for what fails to build now.
-for name in $programs $commands; do
-    rm -f "build/x86_64/$name" "build/$name"
+for program in $programs; do
+    rm -f "build/x86_64/${program##*/}"
+done
+for name in $commands; do
+    rm -f "build/$name"
 done
 [ -f "$YB_ARCHIVE" ] || { echo "no archive at $YB_ARCHIVE" >&2; exit 1; }
 
-# A program's further parts are named after it.
 shopt -s nullglob
 mkdir -p build/x86_64
-for name in $programs; do
+for program in $programs; do
     # shellcheck disable=SC2086 # YB_STATIC may be no word
-    "$YB_CC" -O2 -Wall -Wextra -Werror -std=c11 $YB_STATIC -o "build/x86_64/$name" "c/$name.c" c/"$name"_*.c \
-        "$YB_ARCHIVE"
+    "$YB_CC" -O2 -Wall -Wextra -Werror -std=c11 $YB_STATIC -Ic -o "build/x86_64/${program##*/}" "c/$program.c" \
+        "c/$program"_*.c "$YB_ARCHIVE"
 done
 
 for name in $commands; do

@@ -130,9 +130,9 @@ if [ -n "$YB_CC" ]; then
     step line 'C surface' surface
     step line 'C stack' stack
     step cargo 'reference and archive' reference
-    step line 'watts command' c/test_watts.sh
-    step line 'import command' c/test_import.sh
-    step line 'programs' c/test_programs.sh
+    step line 'watts command' c/tests/test_watts.sh
+    step line 'import command' c/tests/test_import.sh
+    step line 'programs' c/tests/test_programs.sh
     step one 'sample season' make --no-print-directory sample
 else
     step cargo 'reference' reference --lib --bins

@@ -1,6 +1,7 @@
 //! The controller: its settings, one pass over a fleet, and the settling study.
 
 use crate::ranges::{self, BAND, BUDGET, FACTOR, LOAD, MEASURE, MODE, RATING, TARGET, UNITS, WEIGHT};
+use crate::storage::Unit;
 use crate::whole::quotient_cut;
 use crate::{LISTS_OR_REQUESTS, OUT_OF_RANGE};
 
@@ -37,6 +38,17 @@ pub struct Fleet {
 }
 
 impl Fleet {
+    /// What a pass knows of units as they are now.
+    pub fn of(units: &[Unit]) -> Fleet {
+        Fleet {
+            rated: units.iter().map(|unit| unit.rated).collect(),
+            reserve: units.iter().map(|unit| unit.reserve).collect(),
+            stored: units.iter().map(|unit| unit.stored).collect(),
+            rating: units.iter().map(|unit| unit.rating).collect(),
+            weight: units.iter().map(|unit| unit.weight).collect(),
+        }
+    }
+
     /// The five lists and the list of requests are of one length, and it is a fleet's.
     fn lengths_fit(&self, requests: usize) -> bool {
         let lengths =

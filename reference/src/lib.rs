@@ -11,6 +11,7 @@ pub mod ranges;
 pub mod reading;
 pub mod samples;
 pub mod season;
+pub mod site;
 pub mod stick;
 pub mod storage;
 pub mod whole;
@@ -42,7 +43,8 @@ pub const NO_END: u32 = 8;
 /// Bytes after an accepted end field.
 pub const BYTES_AFTER_END: u32 = 9;
 
-/// Lists of unequal length, empty or above 64; a request beyond its rating; requests of both signs.
+/// Lists of unequal length, empty or above 64; a request beyond its rating; requests of both signs; a unit number
+/// outside the fleet.
 pub const LISTS_OR_REQUESTS: u32 = 10;
 
 /// A lent room that is shorter than the result.

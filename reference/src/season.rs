@@ -3,8 +3,9 @@
 use crate::controller::{self, Fleet, Passed};
 use crate::octets::{put_f64, put_i32, put_u16, put_u32, put_u64, put_u8};
 use crate::reading::kw;
+use crate::site::Site;
 use crate::stick::{self, Answer, Run};
-use crate::storage::{self, Stepped, Unit};
+use crate::storage::{self, Stepped};
 use crate::ROOM_TOO_SHORT;
 
 pub const RECORD: u8 = 0x11;
@@ -33,17 +34,6 @@ pub struct Step {
     pub records: Vec<Record>,
 }
 
-/// What a pass knows of the units as they are now.
-fn fleet(units: &[Unit]) -> Fleet {
-    Fleet {
-        rated: units.iter().map(|unit| unit.rated).collect(),
-        reserve: units.iter().map(|unit| unit.reserve).collect(),
-        stored: units.iter().map(|unit| unit.stored).collect(),
-        rating: units.iter().map(|unit| unit.rating).collect(),
-        weight: units.iter().map(|unit| unit.weight).collect(),
-    }
-}
-
 /// All steps of a run that an accepted file says. Requests start at zero; each reading is one pass, or none
 /// where it is missing, and then one step of every unit.
 ///
@@ -51,18 +41,19 @@ fn fleet(units: &[Unit]) -> Fleet {
 ///
 /// If a value is outside its range, which no accepted file's is.
 pub fn steps(run: &Run) -> Vec<Step> {
-    let mut units = run.units.clone();
+    let Site { seconds, units, settings, phase, .. } = &run.site;
+    let mut units = units.clone();
     let mut requests = vec![0; units.len()];
     let mut steps = Vec::new();
     for (step, reading) in run.readings.iter().enumerate() {
-        let measure = reading.measure(run.phase).expect("an accepted reading converts");
+        let measure = reading.measure(*phase).expect("an accepted reading converts");
         let passed = measure.map(|measure| {
-            controller::pass(&run.settings, measure, &fleet(&units), &mut requests)
+            controller::pass(settings, measure, &Fleet::of(&units), &mut requests)
                 .expect("an accepted fleet takes a pass")
         });
         let mut records = Vec::new();
         for (i, unit) in units.iter_mut().enumerate() {
-            let stepped = storage::step(run.seconds, unit, requests[i]).expect("a pass keeps to the ratings");
+            let stepped = storage::step(*seconds, unit, requests[i]).expect("a pass keeps to the ratings");
             unit.stored = stepped.stored;
             records.push(Record { step: step as u32, unit: i as u8, request: requests[i], stepped });
         }
@@ -97,7 +88,7 @@ pub fn result(steps: &[Step]) -> Vec<u8> {
 
 /// The bytes of a run's result.
 fn length(run: &Run) -> usize {
-    40 * run.units.len() * run.readings.len() + 7
+    40 * run.site.units.len() * run.readings.len() + 7
 }
 
 /// The bytes of room that a file's result needs; 0 for a refused file.
@@ -128,6 +119,7 @@ mod tests {
     use crate::samples::sticks::{self, whole_case};
     use crate::samples::units::figure_unit;
     use crate::samples::{seasons, Draw};
+    use crate::storage::Unit;
 
     fn hex(bytes: &[u8]) -> String {
         bytes.iter().map(|byte| format!("{byte:02X}")).collect()
@@ -181,10 +173,13 @@ mod tests {
     #[test]
     fn requests_stand_where_a_reading_is_missing() {
         let run = Run {
-            seconds: 60,
-            units: vec![figure_unit(500_000)],
-            settings: controller::Settings { mode: 1, target: 700, band: 20, factor: 1_000 },
-            phase: 0,
+            site: Site {
+                edition: 1,
+                seconds: 60,
+                units: vec![figure_unit(500_000)],
+                settings: controller::Settings { mode: 1, target: 700, band: 20, factor: 1_000 },
+                phase: 0,
+            },
             readings: vec![
                 Reading::Missing,
                 power(1.1),
@@ -207,10 +202,13 @@ mod tests {
     #[test]
     fn a_fleet_runs_down_to_its_reserve_and_stops() {
         let mut run = Run {
-            seconds: 60,
-            units: vec![figure_unit(75_750 + 75_749)],
-            settings: controller::Settings { mode: 1, target: 0, band: 0, factor: 1_000 },
-            phase: 1,
+            site: Site {
+                edition: 1,
+                seconds: 60,
+                units: vec![figure_unit(75_750 + 75_749)],
+                settings: controller::Settings { mode: 1, target: 0, band: 0, factor: 1_000 },
+                phase: 1,
+            },
             readings: vec![power(0.9), power(0.0001), power(0.0001), power(1.0)],
         };
         // The second step has one joule too few for 900 W and leaves some; the fleet is not yet exhausted.
@@ -220,7 +218,7 @@ mod tests {
         assert_eq!(asked_and_given(&run)[2..], [[(900, -12)], [(1_900, -12)]]);
 
         // Stored and reserve are equal after one step: rule 4 takes the request back.
-        run.units = vec![figure_unit(75_750)];
+        run.site.units = vec![figure_unit(75_750)];
         assert_eq!(asked_and_given(&run), [[(900, 900)], [(0, -12)], [(0, -12)], [(0, -12)]]);
         assert_eq!(steps(&run)[1].passed.unwrap().rule, 4);
     }
@@ -230,10 +228,13 @@ mod tests {
     fn the_record_holds_the_request_and_not_what_is_left_of_it() {
         let unit = Unit { kva: 300, var_request: -400, ..figure_unit(500_000) };
         let run = Run {
-            seconds: 60,
-            units: vec![unit, Unit { priority: 1, ..unit }],
-            settings: controller::Settings { mode: 2, target: 1_000, band: 0, factor: 1_000 },
-            phase: 5,
+            site: Site {
+                edition: 1,
+                seconds: 60,
+                units: vec![unit, Unit { priority: 1, ..unit }],
+                settings: controller::Settings { mode: 2, target: 1_000, band: 0, factor: 1_000 },
+                phase: 5,
+            },
             readings: vec![power(0.0)],
         };
         let file = sticks::file(&run);
@@ -253,17 +254,17 @@ mod tests {
             let run = seasons::run(1 + round % 8, 2 + round % 20, &mut draw);
             let steps = steps(&run);
             assert_eq!(steps.len(), run.readings.len());
-            let mut stored: Vec<u64> = run.units.iter().map(|unit| unit.stored).collect();
-            let mut requests = vec![0; run.units.len()];
+            let mut stored: Vec<u64> = run.site.units.iter().map(|unit| unit.stored).collect();
+            let mut requests = vec![0; run.site.units.len()];
             for (reading, step) in run.readings.iter().zip(&steps) {
                 let new: Vec<i32> = step.records.iter().map(|record| record.request).collect();
                 if let Reading::Missing = reading {
                     assert_eq!(new, requests);
                     standing += u32::from(new.iter().any(|&request| request != 0));
                 }
-                for (unit, record) in run.units.iter().zip(&step.records) {
+                for (unit, record) in run.site.units.iter().zip(&step.records) {
                     let before = Unit { stored: stored[usize::from(record.unit)], ..*unit };
-                    assert_eq!(storage::step(run.seconds, &before, record.request), Ok(record.stepped));
+                    assert_eq!(storage::step(run.site.seconds, &before, record.request), Ok(record.stepped));
                     moved += u32::from(before.stored != record.stepped.stored);
                 }
                 stored = step.records.iter().map(|record| record.stepped.stored).collect();
@@ -287,7 +288,7 @@ mod tests {
                 assert_eq!((u8_at(record, 0), u16_at(record, 1)), (Some(0x11), Some(37)));
                 let place = (u32_at(record, 3).unwrap() as usize, usize::from(u8_at(record, 7).unwrap()));
                 assert_eq!(place, (i / units, i % units));
-                assert!(u64_at(record, 24).unwrap() <= run.units[i % units].rated);
+                assert!(u64_at(record, 24).unwrap() <= run.site.units[i % units].rated);
             }
             let end = &bytes[bytes.len() - 7..];
             assert_eq!((&end[..3], u32_at(end, 3)), (&[0x1F, 0, 4][..], Some(count as u32)));

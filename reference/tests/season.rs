@@ -50,15 +50,15 @@ impl Met {
     }
 
     fn run(&mut self, run: &Run, steps: &[Step]) {
-        self.note("units", run.units.len() as u32);
-        self.note("mode", run.settings.mode.into());
-        self.note("phase", run.phase.into());
-        self.note("mode and phase", u32::from(run.settings.mode) * 10 + u32::from(run.phase));
+        self.note("units", run.site.units.len() as u32);
+        self.note("mode", run.site.settings.mode.into());
+        self.note("phase", run.site.phase.into());
+        self.note("mode and phase", u32::from(run.site.settings.mode) * 10 + u32::from(run.site.phase));
         let missing = |reading: Option<&Reading>| matches!(reading, Some(Reading::Missing));
         self.note_if(steps.is_empty(), "no steps");
         self.note_if(missing(run.readings.first()), "first reading missing");
         self.note_if(missing(run.readings.last()), "last reading missing");
-        let mut stored: Vec<u64> = run.units.iter().map(|unit| unit.stored).collect();
+        let mut stored: Vec<u64> = run.site.units.iter().map(|unit| unit.stored).collect();
         for (k, step) in steps.iter().enumerate() {
             match step.passed {
                 Some(passed) => {
@@ -67,7 +67,7 @@ impl Met {
                 }
                 None => self.note_if(step.records.iter().any(|r| r.request != 0), "requests stood"),
             }
-            for (i, (unit, record)) in run.units.iter().zip(&step.records).enumerate() {
+            for (i, (unit, record)) in run.site.units.iter().zip(&step.records).enumerate() {
                 let before = if k == 0 { 0 } else { steps[k - 1].records[i].request };
                 self.note_if(record.request.unsigned_abs() < before.unsigned_abs(), "a request taken back");
                 self.unit_step(unit, stored[i], record);
@@ -425,10 +425,10 @@ fn runs_at_the_ends_of_the_ranges() {
     // The largest need there is, of either sign, over units of every size.
     for round in 0..300 {
         let mut run = seasons::run(1 + round % 9, 2, &mut draw);
-        let sign = if run.settings.mode == 3 { -1 } else { 1 };
+        let sign = if run.site.settings.mode == 3 { -1 } else { 1 };
         let first = 100_000.0 * f64::from(sign);
-        run.phase = 0;
-        run.settings.target = if run.settings.mode == 2 { sign } else { -sign } * 100_000_000;
+        run.site.phase = 0;
+        run.site.settings.target = if run.site.settings.mode == 2 { sign } else { -sign } * 100_000_000;
         run.readings = vec![Reading::Power(Phases { first, second: first, third: first }); 2];
         runs.run_of(&run, Room::Exact);
     }
@@ -515,12 +515,12 @@ fn the_longest_runs() {
     let mut runs = Comparison::start(509);
     for (units, steps, mode) in [(1, 65_535, 1), (64, 8_760, 2), (6, 8_760, 3)] {
         let mut run = seasons::run(units, steps, &mut draw);
-        while run.settings.mode != mode || run.seconds > 3_600 {
+        while run.site.settings.mode != mode || run.site.seconds > 3_600 {
             run = seasons::run(units, steps, &mut draw);
         }
         // Stores for so many hours at full power that some last for all of the run and others do not.
-        for unit in &mut run.units {
-            let power = u64::from(unit.rating.min(unit.kva)) * u64::from(run.seconds);
+        for unit in &mut run.site.units {
+            let power = u64::from(unit.rating.min(unit.kva)) * u64::from(run.site.seconds);
             unit.rated = (power * (1 + draw.below(steps as u64))).min(10_000_000_000_000);
             unit.reserve = unit.rated / 10;
             unit.stored = if mode == 3 { 0 } else { unit.rated };

@@ -276,7 +276,7 @@ fn files_with_another_unit_count() {
             if units > 8 && (count as usize).abs_diff(units) > 2 && draw.below(8) != 0 {
                 continue;
             }
-            let fleet = sticks::fleet_field(1, count, run.seconds);
+            let fleet = sticks::fleet_field(1, count, run.site.seconds);
             let number = if usize::from(count) == units {
                 0
             } else if (1..=64).contains(&count) {

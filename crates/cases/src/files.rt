@@ -15,8 +15,8 @@ pub fn part(v: &[u8]) {
     }
     let place = octets::u32_at(v, 0) as u64;
     say::refusal(0);
-    say::number(stick::part_start(&v[4..], place));
-    say::number(stick::part_size(&v[4..], place));
+    say::number(parts::part_start(&v[4..], place));
+    say::number(parts::part_size(&v[4..], place));
 }
 
 // R: a room's length and a file. Number, place and steps of the run, and the result's bytes.

@@ -5,7 +5,8 @@ ghost use Rattle.controller.specs.Posts.{SameLengths};
 use super::say;
 use controller::PassAnswer;
 use controller::Settings;
-use controller::StudyAnswer;
+use settling::StudyAnswer;
+use settling::Trial;
 
 // Most units that a case may have: one more than a call accepts.
 const MOST: usize = 65;
@@ -177,24 +178,18 @@ fn study_of(
     requires { ⌜ SameLengths (fleetOf (now rated) (now reserve) (now stored) (now rating) (now weight)) (length (now rated)) ⌝ }
 {
     units(v, 23, UNIT, rated, reserve, stored, rating, weight);
-    let load = octets::i64_at(v, 0);
-    let target = octets::i32_at(v, 8);
-    let band = octets::u32_at(v, 12);
-    let factor = octets::u16_at(v, 16);
-    let budget = octets::u32_at(v, 18);
-    let a = controller::settle(
-        load,
-        target,
-        band,
-        factor,
-        budget,
-        rated,
-        reserve,
-        stored,
-        rating,
-        weight,
-        requests,
-    );
+    let settings = Settings {
+        mode: 1,
+        target: octets::i32_at(v, 8),
+        band: octets::u32_at(v, 12),
+        factor: octets::u16_at(v, 16),
+    };
+    let q = Trial {
+        settings,
+        load: octets::i64_at(v, 0),
+        budget: octets::u32_at(v, 18),
+    };
+    let a = settling::settle(q, rated, reserve, stored, rating, weight, requests);
     tell_study(a, requests);
 }
 

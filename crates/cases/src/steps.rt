@@ -1,6 +1,6 @@
 use super::say;
 use storage::Stepped;
-use storage::Unit;
+use unit::Unit;
 
 // S: seconds, a unit's twelve values in the file's order, and the request. Watts, vars, the store
 // after the step and the loss.

@@ -15,7 +15,7 @@ pub fn up(v: &[u8]) {
         return say::unknown();
     }
     say::refusal(0);
-    say::number(whole::up(octets::u64_at(v, 0), octets::u64_at(v, 8)));
+    say::number(whole::ceil(octets::u64_at(v, 0), octets::u64_at(v, 8)));
 }
 
 // Z: a signed number and a divisor. The quotient cut toward zero.

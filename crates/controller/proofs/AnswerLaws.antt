@@ -1,41 +1,34 @@
--- What the calls of any numbers answer, by the first test that fails. Assumes nothing.
-use mathlib.Core.Path.{_≡_, refl, sym, ap, ap₂, _∙_}
+-- What a pass of any numbers answers, by the first test that fails. Assumes nothing.
+use mathlib.Core.Path.{_≡_, sym, ap, ap₂, _∙_}
 use mathlib.Core.Bool.{Bool, true, false, not, cond, _&&_}
 use mathlib.Core.List.{List}
 use Prim.Native.Nat.{ℕ, suc}
-use lib.Dec.{leb, eqb, eqb·suc-zero}
-use lib.IntN.{ℤ, pos}
-use lib.Signed.{leZ}
+use lib.Dec.{eqb, eqb·suc-zero}
+use lib.IntN.{ℤ}
 use lib.ListN.{length}
 use Rattle.whole.specs.Over.{allOf}
 use Rattle.controller.specs.declared.Settings.{Settings}
 use Rattle.controller.specs.declared.Passed.{Passed}
-use Rattle.controller.specs.declared.PassAnswer.{PassAnswer}
 use Rattle.controller.specs.declared.PassAnswer.the-variants.{PassDone, PassRefused}
-use Rattle.controller.specs.declared.Studied.{Studied}
-use Rattle.controller.specs.declared.StudyAnswer.{StudyAnswer}
-use Rattle.controller.specs.declared.StudyAnswer.the-variants.{StudyDone, StudyRefused}
-use Rattle.controller.specs.Study.{studyOf, studyRefusal}
-use Rattle.whole.specs.Interval.{between}
-use Rattle.controller.specs.Ranges.{Fleet, settingsIn, measureIn, unitInAt, lengthsIn, requestsIn, passRefusal}
-use Rattle.controller.specs.Pass.{needOf, passOf, changedOf}
-use Rattle.controller.specs.Posts.{DonePass, DoneStudy}
-use Rattle.controller.specs.Answers.{reportOf, passAnswer, passLeaves, foundBy, studyAnswer, studyLeaves}
+use Rattle.controller.specs.Ranges.{Fleet, settingsIn, measureIn, memberAt, lengthsIn, requestsIn, passRefusal}
+use Rattle.controller.specs.Pass.{passOf, changedOf}
+use Rattle.controller.specs.Posts.{DonePass}
+use Rattle.controller.specs.Answers.{reportOf, passAnswer, passLeaves}
 
--- ---- three tests in a row, each with its refusal; a study has no third
-abbrev graded : Bool → Bool → Bool → ℕ
+-- ---- three tests in a row, each with its refusal
+abbrev pub graded : Bool → Bool → Bool → ℕ
 graded a b c = cond (not a) 10 (cond (not b) 5 (cond (not c) 10 0))
 
-first-fails : (a b c : Bool) → not a ≡ true → graded a b c ≡ 10
+pub first-fails : (a b c : Bool) → not a ≡ true → graded a b c ≡ 10
 first-fails a b c t = ap (λ (x : Bool). cond x 10 (cond (not b) 5 (cond (not c) 10 0))) t
 
-second-fails : (a b c : Bool) → not a ≡ false → not b ≡ true → graded a b c ≡ 5
+pub second-fails : (a b c : Bool) → not a ≡ false → not b ≡ true → graded a b c ≡ 5
 second-fails a b c t u = ap₂ (λ (x y : Bool). cond x 10 (cond y 5 (cond (not c) 10 0))) t u
 
 third-fails : (a b c : Bool) → not a ≡ false → not b ≡ false → not c ≡ true → graded a b c ≡ 10
 third-fails a b c t u v = ap₂ (λ (x y : Bool). cond x 10 (cond y 5 (cond (not c) 10 0))) t u ∙ ap (λ (x : Bool). cond x 10 0) v
 
-none-fails : (a b c : Bool) → not a ≡ false → not b ≡ false → not c ≡ false → graded a b c ≡ 0
+pub none-fails : (a b c : Bool) → not a ≡ false → not b ≡ false → not c ≡ false → graded a b c ≡ 0
 none-fails a b c t u v = ap₂ (λ (x y : Bool). cond x 10 (cond y 5 (cond (not c) 10 0))) t u ∙ ap (λ (x : Bool). cond x 10 0) v
 
 module _ (s : Settings) (m : ℤ) (f : Fleet) (rs : List ℤ) where
@@ -48,22 +41,22 @@ module _ (s : Settings) (m : ℤ) (f : Fleet) (rs : List ℤ) where
         sym (ap (λ (b : Bool). cond b (passOf s m f rs) rs) no),
       )
 
-  module _ (lengths fine requests : Bool) (el : lengths ≡ lengthsIn f (length rs)) (ef : fine ≡ (settingsIn s && measureIn m && allOf (length rs) (unitInAt f))) where
+  module _ (lengths fine requests : Bool) (el : lengths ≡ lengthsIn f (length rs)) (ef : fine ≡ (settingsIn s && measureIn m && allOf (length rs) (memberAt f))) where
     pub wrong-lengths : not lengths ≡ true → (PassRefused 10 ≡ passAnswer s m f rs) × (rs ≡ passLeaves s m f rs)
     unfolding passRefusal
-    wrong-lengths t = refused 9 (first-fails (lengthsIn f (length rs)) (settingsIn s && measureIn m && allOf (length rs) (unitInAt f)) (requestsIn f rs) (sym (ap not el) ∙ t))
+    wrong-lengths t = refused 9 (first-fails (lengthsIn f (length rs)) (settingsIn s && measureIn m && allOf (length rs) (memberAt f)) (requestsIn f rs) (sym (ap not el) ∙ t))
 
     pub wrong-values : not lengths ≡ false → not fine ≡ true → (PassRefused 5 ≡ passAnswer s m f rs) × (rs ≡ passLeaves s m f rs)
     unfolding passRefusal
     wrong-values t u =
-        refused 4 (second-fails (lengthsIn f (length rs)) (settingsIn s && measureIn m && allOf (length rs) (unitInAt f)) (requestsIn f rs) (sym (ap not el) ∙ t) (sym (ap not ef) ∙ u))
+        refused 4 (second-fails (lengthsIn f (length rs)) (settingsIn s && measureIn m && allOf (length rs) (memberAt f)) (requestsIn f rs) (sym (ap not el) ∙ t) (sym (ap not ef) ∙ u))
 
     module _ (er : requests ≡ requestsIn f rs) where
       pub wrong-requests : not lengths ≡ false → not fine ≡ false → not requests ≡ true → (PassRefused 10 ≡ passAnswer s m f rs) × (rs ≡ passLeaves s m f rs)
       unfolding passRefusal
       wrong-requests t u v =
           refused 9
-          (third-fails (lengthsIn f (length rs)) (settingsIn s && measureIn m && allOf (length rs) (unitInAt f)) (requestsIn f rs) (sym (ap not el) ∙ t) (sym (ap not ef) ∙ u) (sym (ap not er) ∙ v))
+          (third-fails (lengthsIn f (length rs)) (settingsIn s && measureIn m && allOf (length rs) (memberAt f)) (requestsIn f rs) (sym (ap not el) ∙ t) (sym (ap not ef) ∙ u) (sym (ap not er) ∙ v))
 
       pub all-fine : not lengths ≡ false → not fine ≡ false → not requests ≡ false → (after : List ℤ) (p : Passed) → DonePass s m f rs after p
           → (PassDone p ≡ passAnswer s m f rs) × (after ≡ passLeaves s m f rs)
@@ -71,41 +64,8 @@ module _ (s : Settings) (m : ℤ) (f : Fleet) (rs : List ℤ) where
       all-fine t u v after p d =
           let is : eqb (passRefusal s m f rs) 0 ≡ true =
           ap (λ (n : ℕ). eqb n 0)
-          (none-fails (lengthsIn f (length rs)) (settingsIn s && measureIn m && allOf (length rs) (unitInAt f)) (requestsIn f rs) (sym (ap not el) ∙ t) (sym (ap not ef) ∙ u) (sym (ap not er) ∙ v)) in
+          (none-fails (lengthsIn f (length rs)) (settingsIn s && measureIn m && allOf (length rs) (memberAt f)) (requestsIn f rs) (sym (ap not el) ∙ t) (sym (ap not ef) ∙ u) (sym (ap not er) ∙ v)) in
           let report : p ≡ reportOf s m f rs = λ i. record { need = d .need i; changed = (d .changed ∙ ap (changedOf rs) (d .requests)) i } in (
             ap PassDone report ∙ sym (ap (λ (b : Bool). cond b (PassDone (reportOf s m f rs)) (PassRefused (passRefusal s m f rs))) is),
             d .requests ∙ sym (ap (λ (b : Bool). cond b (passOf s m f rs) rs) is),
           )
-
--- ---- a study
-module _ (s : Settings) (load : ℤ) (budget : ℕ) (f : Fleet) (rs : List ℤ) where
-  study-refused : (k : ℕ) → studyRefusal s load budget f (length rs) ≡ suc k → (StudyRefused (suc k) ≡ studyAnswer s load budget f rs) × (rs ≡ studyLeaves s load budget f rs)
-  unfolding studyAnswer studyLeaves
-  study-refused k e =
-      let no : eqb (studyRefusal s load budget f (length rs)) 0 ≡ false = ap (λ (n : ℕ). eqb n 0) e ∙ eqb·suc-zero k in (
-        sym (ap (λ (b : Bool). cond b (StudyDone (foundBy s load f budget (length rs))) (StudyRefused (studyRefusal s load budget f (length rs)))) no ∙ ap StudyRefused e),
-        sym (ap (λ (b : Bool). cond b (studyOf s load f budget (length rs) .requests) rs) no),
-      )
-
-  -- the values of a study
-  abbrev pub studyValues : Bool
-  studyValues = settingsIn s && (leZ (pos 0) load && leZ load (pos 100000000)) && between 1 10000 budget && allOf (length rs) (unitInAt f)
-
-  module _ (lengths fine : Bool) (el : lengths ≡ lengthsIn f (length rs)) (ef : fine ≡ studyValues) where
-    pub study-lengths : not lengths ≡ true → (StudyRefused 10 ≡ studyAnswer s load budget f rs) × (rs ≡ studyLeaves s load budget f rs)
-    unfolding studyRefusal
-    study-lengths t = study-refused 9 (first-fails (lengthsIn f (length rs)) studyValues true (sym (ap not el) ∙ t))
-
-    pub study-values : not lengths ≡ false → not fine ≡ true → (StudyRefused 5 ≡ studyAnswer s load budget f rs) × (rs ≡ studyLeaves s load budget f rs)
-    unfolding studyRefusal
-    study-values t u = study-refused 4 (second-fails (lengthsIn f (length rs)) studyValues true (sym (ap not el) ∙ t) (sym (ap not ef) ∙ u))
-
-    pub study-fine : not lengths ≡ false → not fine ≡ false → (after : List ℤ) (r : Studied) → DoneStudy s load f budget (length rs) after r
-        → (StudyDone r ≡ studyAnswer s load budget f rs) × (after ≡ studyLeaves s load budget f rs)
-    unfolding studyAnswer studyLeaves studyRefusal foundBy
-    study-fine t u after r d =
-        let is : eqb (studyRefusal s load budget f (length rs)) 0 ≡ true = ap (λ (n : ℕ). eqb n 0) (none-fails (lengthsIn f (length rs)) studyValues true (sym (ap not el) ∙ t) (sym (ap not ef) ∙ u) refl) in
-        let report : r ≡ foundBy s load f budget (length rs) = λ i. record { settled = d .settled i; passes = d .passes i } in (
-          ap StudyDone report ∙ sym (ap (λ (b : Bool). cond b (StudyDone (foundBy s load f budget (length rs))) (StudyRefused (studyRefusal s load budget f (length rs)))) is),
-          d .requests ∙ sym (ap (λ (b : Bool). cond b (studyOf s load f budget (length rs) .requests) rs) is),
-        )

@@ -1,4 +1,4 @@
--- Requests that differ: the machine's test of bits is the definition's test of numbers, and requests none of which differ are the same. Assumes nothing.
+-- Requests that differ: the code's test of bits is the definition's test of numbers, and requests none of which differ are the same. Assumes nothing.
 use mathlib.Core.Path.{_≡_, refl, sym, ap, _∙_}
 use mathlib.Core.Bool.{Bool, true, false, not, _&&_}
 use mathlib.Core.List.{List}

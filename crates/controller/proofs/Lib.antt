@@ -1,17 +1,11 @@
--- Laws about the controller's definitions, for this crate's proofs and for those above it; and the settling law.
-pub mod RequestLaws
+-- Laws about the controller's definitions, for this crate's proofs and for those above it.
 pub mod RuleLaws
+pub mod RequestLaws
 pub mod DifferLaws
 pub mod PlaceLaws
+pub mod ColumnLaws
 pub mod PassLaws
 pub mod SoundLaws
 pub mod AnswerLaws
 pub mod OneSign
-pub mod SumLaws
-pub mod DifferenceLaws
-pub mod SettlingSteps
-pub mod SettlingStill
-pub mod SettlingPass
-pub mod SettlingProved
-pub mod StudyProved
-pub mod StudyLaws
+pub mod StandsLaws

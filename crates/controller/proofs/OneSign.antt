@@ -1,6 +1,6 @@
 -- "Requests of both signs never arise": a pass on requests that are not of both signs gives requests that are not either. A pass that leaves them
 -- keeps their signs, one that clears them leaves 0, and rule 6 lets nothing against the mode through. Assumes nothing.
-use mathlib.Core.Path.{_≡_, refl, sym, ap, _∙_, subst}
+use mathlib.Core.Path.{_≡_, refl, ap, _∙_, subst}
 use mathlib.Core.Bool.{Bool, true, false, cond, _&&_}
 use mathlib.Core.List.{List}
 use Prim.Native.Nat.{ℕ, _<_}
@@ -12,7 +12,7 @@ use Rattle.whole.proofs.Choice.{by-test}
 use Rattle.whole.proofs.OverLaws.{none-of, each-length, each-at}
 use Rattle.controller.specs.declared.Settings.{Settings}
 use Rattle.controller.specs.Ranges.{Fleet, someAbove, someBelow}
-use Rattle.controller.specs.Pass.{total, charges, needOf, rests, spent, inBand, shareOf, limited, withMode, requestAfter, passOf}
+use Rattle.controller.specs.Pass.{total, charges, needOf, rests, spent, allInBand, shareOf, limited, withMode, requestAfter, passOf}
 
 -- not requests of both signs
 abbrev pub OneSign : List ℤ → Type 0
@@ -71,10 +71,10 @@ shared s n f need rs false e =
 pub one-sign : (s : Settings) (m : ℤ) (f : Fleet) (rs : List ℤ) → OneSign rs → OneSign (passOf s m f rs)
 unfolding passOf
 one-sign s m f rs h =
-    by-test OneSign (rests (charges (s .mode)) (needOf s m rs) rs) rs
-    (cond (spent (charges (s .mode)) (length rs) f) (each (λ (i : ℕ) (r : ℤ). pos 0) rs) (cond (inBand (s .band) (needOf s m rs)) rs (each (requestAfter s (length rs) f (needOf s m rs)) rs)))
+    by-test OneSign (rests s (needOf s m rs) rs) rs
+    (cond (spent (charges (s .mode)) (length rs) f) (each (λ (i : ℕ) (r : ℤ). pos 0) rs) (cond (allInBand s (length rs) (needOf s m rs)) rs (each (requestAfter s (length rs) f (needOf s m rs)) rs)))
     (λ t. h)
     (λ t.
-    by-test OneSign (spent (charges (s .mode)) (length rs) f) (each (λ (i : ℕ) (r : ℤ). pos 0) rs) (cond (inBand (s .band) (needOf s m rs)) rs (each (requestAfter s (length rs) f (needOf s m rs)) rs))
+    by-test OneSign (spent (charges (s .mode)) (length rs) f) (each (λ (i : ℕ) (r : ℤ). pos 0) rs) (cond (allInBand s (length rs) (needOf s m rs)) rs (each (requestAfter s (length rs) f (needOf s m rs)) rs))
     (λ u. none-above (λ (i : ℕ) (r : ℤ). pos 0) rs (λ i r. refl))
-    (λ u. by-test OneSign (inBand (s .band) (needOf s m rs)) rs (each (requestAfter s (length rs) f (needOf s m rs)) rs) (λ v. h) (λ v. shared s (length rs) f (needOf s m rs) rs (charges (s .mode)) refl)))
+    (λ u. by-test OneSign (allInBand s (length rs) (needOf s m rs)) rs (each (requestAfter s (length rs) f (needOf s m rs)) rs) (λ v. h) (λ v. shared s (length rs) f (needOf s m rs) rs (charges (s .mode)) refl)))

@@ -1,6 +1,6 @@
 -- Requests in code: what is read back, added and compared. Assumes nothing.
-use mathlib.Core.Path.{_≡_, refl, sym, ap, ap₂, _∙_, subst}
-use mathlib.Core.Bool.{Bool, true, false, _||_}
+use mathlib.Core.Path.{_≡_, refl, sym, ap, ap₂, _∙_}
+use mathlib.Core.Bool.{Bool, false, _||_}
 use mathlib.Core.List.{List}
 use Prim.Native.Nat.{ℕ, _+_, _*_, _^_, _≤_, _<_}
 use native.Mathlib.Nat.{lt-of-le-of-lt, le-trans, add-le-add}
@@ -10,7 +10,7 @@ use lib.IntN.{ℤ, pos, natAbs, _+ℤ_}
 use lib.ListN.{length, getD}
 use lib.Signed.{mag, ltZ}
 use mir.Syntax.{w32, w64}
-use mir.Val.{SFits, toZ, ofZ}
+use mir.Val.{SFits}
 use Rattle.whole.specs.Over.{sumOfℤ, someOf}
 use Rattle.whole.proofs.OverLaws.{sumℤ-next, some-next}
 use Rattle.whole.proofs.SignLaws.{read, size-sum, size-fits, wide-is, wide-size, made-fits, made-is}
@@ -18,12 +18,7 @@ use Rattle.controller.specs.declared.Asked.{Asked}
 use Rattle.controller.specs.Ranges.{someAbove, someBelow}
 use Rattle.controller.specs.Pass.{sumOfAll}
 use Rattle.controller.specs.Posts.{WithRequest, AskedOf}
-
-abbrev back32 : ℤ → ℤ
-back32 z = toZ w32 (ofZ w32 z)
-
-abbrev back64 : ℤ → ℤ
-back64 z = toZ w64 (ofZ w64 z)
+use Rattle.controller.proofs.RuleLaws.{back32, back64}
 
 -- a sum so far, and a request
 module _ (x r : ℤ) (hx : natAbs x ≤ 1000000000000) (hr : mag r < 2 ^ 31) where

@@ -1,26 +1,27 @@
 -- The rules of a pass as the code works them out: what each operation fits and gives. Assumes nothing.
 use mathlib.Core.Path.{_≡_, refl, sym, ap, ap₂, _∙_, subst, subst⁻¹}
-use mathlib.Core.Bool.{Bool, true, false, not, cond, Bool·beq}
-use Prim.Native.Nat.{ℕ, zero, suc, _+_, _*_, _^_, _≤_, _<_, min, zero-le}
+use mathlib.Core.Bool.{Bool, true, false, not, cond, _&&_, Bool·beq}
+use Prim.Native.Nat.{ℕ, zero, suc, _+_, _*_, _^_, _≤_, _<_, min}
 use native.Mathlib.Nat.{lt-of-le-of-lt, le-trans, add-le-add, mul-le-mul, min-eq-left, min-eq-right, le-of-lt, le-of-eq}
 use native.Mathlib.Omega.{arith}
-use lib.Dec.{T, leb, ltb, eqb, lit<, lit≤, leb·suc-zero}
+use lib.Dec.{leb, eqb, lit<, lit≤, leb·suc-zero}
 use lib.IntN.{ℤ, pos, negsuc, negℤ, natAbs, _+ℤ_, _-ℤ_, _*ℤ_}
 use lib.ListN.{length}
 use lib.Signed.{mag, ltZ, leZ}
 use mathlib.Core.List.{List}
-use borrow.Author.Tests.{eq-eqb, ne-eqb, lt-ltb, le-ltb}
+use borrow.Author.Tests.{eq-eqb, ne-eqb, lt-ltb}
 use mir.Syntax.{w32, w64}
 use mir.Val.{SFits, toZ, ofZ}
 use mir.ValLaws.{toZ-pos}
 use Rattle.whole.proofs.Choice.{passed-failed}
+use Rattle.whole.specs.Over.{allOf}
 use Rattle.whole.specs.Signed.{negative, signed}
 use Rattle.whole.specs.Quotient.{cut}
 use Rattle.whole.proofs.QuotientLaws.{cut-size}
 use Rattle.whole.proofs.SignLaws.{read, size-sum, size-product, size-fits, signed-fits, wide-is, wide-size, plus-fits, plus-is, minus-fits, minus-is, times-fits, times-is}
 use Rattle.controller.specs.declared.Settings.{Settings}
 use Rattle.controller.specs.declared.Asked.{Asked}
-use Rattle.controller.specs.Pass.{total, charges, plainNeed, shareOf, limited, withMode, unitAfter}
+use Rattle.controller.specs.Pass.{total, charges, ownState, plainNeed, noCall, rests, inBand, allInBand, shareOf, limited, withMode, unitAfter}
 use Rattle.controller.specs.Posts.{needFrom, spentBy}
 
 abbrev pub back32 : ℤ → ℤ
@@ -297,18 +298,39 @@ module _ (charging : Bool) (R : ℕ) (request share : ℤ) (hR : R ≤ 100000000
         ∙ sym (kept t ∙ limited-large R (request +ℤ share) (subst (λ (n : ℕ). R < n) size-is l))
 
 -- ---- rule 4
-module _ (charging : Bool) (rated reserve stored : List ℕ) (held : ℕ) (eh : held ≡ total (length stored) stored) where
-  pub full-is : charging ≡ true → (r : ℕ) → r ≡ total (length rated) rated → eqb held r ≡ spentBy charging rated reserve stored
+module _ (charging : Bool) (rated reserve : ℕ) (stored : List ℕ) (held : ℕ) (eh : held ≡ total (length stored) stored) where
+  pub full-is : charging ≡ true → eqb held rated ≡ spentBy charging rated reserve stored
   unfolding spentBy
-  full-is e r er =
-      ap₂ eqb eh er
-      ∙ sym (ap (λ (t : Bool). cond t (eqb (total (length stored) stored) (total (length rated) rated)) (leb (total (length stored) stored) (total (length reserve) reserve))) e)
+  full-is e =
+      ap (λ (h : ℕ). eqb h rated) eh
+      ∙ sym (ap (λ (t : Bool). cond t (eqb (total (length stored) stored) rated) (leb (total (length stored) stored) reserve)) e)
 
-  pub empty-is : charging ≡ false → (r : ℕ) → r ≡ total (length reserve) reserve → leb held r ≡ spentBy charging rated reserve stored
+  pub empty-is : charging ≡ false → leb held reserve ≡ spentBy charging rated reserve stored
   unfolding spentBy
-  empty-is e r er =
-      ap₂ leb eh er
-      ∙ sym (ap (λ (t : Bool). cond t (eqb (total (length stored) stored) (total (length rated) rated)) (leb (total (length stored) stored) (total (length reserve) reserve))) e)
+  empty-is e =
+      ap (λ (h : ℕ). leb h reserve) eh
+      ∙ sym (ap (λ (t : Bool). cond t (eqb (total (length stored) stored) rated) (leb (total (length stored) stored) reserve)) e)
+
+-- ---- rules 3 and 5: all units share one need, so one test stands for all
+and-self : (b : Bool) → (b && b) ≡ b
+and-self true = refl
+and-self false = refl
+
+pub all-alike : (n : ℕ) (b : Bool) → 1 ≤ n → allOf n (λ (i : ℕ). b) ≡ b
+unfolding allOf
+all-alike zero b h = absurd (omega arith)
+all-alike (suc zero) b h = refl
+all-alike (suc (suc n)) b h = ap (λ (x : Bool). x && b) (all-alike (suc n) b (omega arith)) ∙ and-self b
+
+pub rests-is : (s : Settings) (need : ℤ) (rs : List ℤ) → 1 ≤ length rs
+    → rests s need rs ≡ (not (ownState (charges (s .mode)) rs) && noCall (charges (s .mode)) need)
+unfolding rests
+rests-is s need rs h =
+    ap (λ (b : Bool). not (ownState (charges (s .mode)) rs) && b) (all-alike (length rs) (noCall (charges (s .mode)) need) h)
+
+pub band-is : (s : Settings) (n : ℕ) (need : ℤ) → 1 ≤ n → allInBand s n need ≡ inBand (s .band) need
+unfolding allInBand
+band-is s n need h = all-alike n (inBand (s .band) need) h
 
 -- ---- rule 6 at one unit, from what the code's parts gave
 pub unit-is : (charging : Bool) (factor : ℕ) (need : ℤ) (all R weight : ℕ) (old part r : ℤ) → mag old < 2 ^ 31 → mag part < 2 ^ 63 → mag r < 2 ^ 31

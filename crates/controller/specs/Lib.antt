@@ -1,7 +1,5 @@
--- The controller: settings and ranges, one pass, and the settling study.
+-- The controller: settings and ranges, and one pass.
 pub mod Ranges
 pub mod Pass
-pub mod Study
 pub mod Posts
 pub mod Answers
-pub mod Settling

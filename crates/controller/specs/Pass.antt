@@ -1,5 +1,5 @@
--- One controller pass: document 01's rules 1 to 6, in its order. F is the sum of all requests. The fleet is discharging if some request is
--- above 0, charging if some is below 0, else idle. Modes 1 and 2 discharge, 3 charges.
+-- One controller pass, rules P1 to P6 in their order. F is the sum of all requests. The fleet is discharging if some request is above 0, charging if
+-- some is below 0, else idle. Modes 1 and 2 discharge, 3 charges.
 use Prim.Native.Nat.{ℕ, _+_, _*_, min}
 use mathlib.Core.Bool.{Bool, not, cond, _&&_}
 use mathlib.Core.List.{List}
@@ -7,7 +7,7 @@ use lib.Dec.{leb, eqb}
 use lib.IntN.{ℤ, pos, natAbs, _+ℤ_, _-ℤ_, _*ℤ_}
 use lib.ListN.{length, getD}
 use lib.Signed.{ltZ, leZ}
-use Rattle.whole.specs.Over.{sumOf, sumOfℤ, someOf, each}
+use Rattle.whole.specs.Over.{sumOf, sumOfℤ, allOf, someOf, each}
 use Rattle.whole.specs.Quotient.{cut}
 use Rattle.whole.specs.Signed.{negative, signed}
 use Rattle.controller.specs.declared.Settings.{Settings}
@@ -33,42 +33,54 @@ ownState charging rs = cond charging (someBelow rs) (someAbove rs)
 abbrev pub otherState : Bool → List ℤ → Bool
 otherState charging rs = cond charging (someAbove rs) (someBelow rs)
 
--- 1. "Need is M - target in modes 1 and 3, M + target in mode 2."
+-- P1: need is the measure less the target in modes 1 and 3, and both together in mode 2
 unfoldable pub plainNeed : Settings → ℤ → ℤ
 plainNeed s m = cond (eqb (s .mode) 2) (m +ℤ s .target) (m -ℤ s .target)
 
--- 2. "In a discharging mode with a charging fleet, or the reverse, F is added to need. This updated need is used from here on."
+-- P2: where the fleet is in the state that is not the mode's own, F is added; from here on this is the need
 unfoldable pub needOf : Settings → ℤ → List ℤ → ℤ
 unfolding plainNeed sumOfAll someAbove someBelow
 needOf s m rs = cond (otherState (charges (s .mode)) rs) (plainNeed s m +ℤ sumOfAll rs) (plainNeed s m)
 
--- 3. "Unless the fleet is already in the mode's own state, a discharging mode does nothing at need <= 0, the charging mode at need >= 0."
-unfoldable pub rests : Bool → ℤ → List ℤ → Bool
-unfolding someAbove someBelow
-rests charging need rs = not (ownState charging rs) && cond charging (leZ (pos 0) need) (leZ need (pos 0))
+-- unit i's own need: in modes 1 to 3 the fleet's
+abbrev pub ownNeed : Settings → ℤ → ℕ → ℤ
+ownNeed s need i = need
 
--- 4. "If total stored <= total reserve (charging: total stored = total rated), all requests become 0."
+-- P3: a fleet that is not in the mode's own state does nothing where no unit's own need calls: none is above 0 discharging, none below 0 charging
+abbrev pub noCall : Bool → ℤ → Bool
+noCall charging need = cond charging (leZ (pos 0) need) (leZ need (pos 0))
+
+unfoldable pub rests : Settings → ℤ → List ℤ → Bool
+unfolding someAbove someBelow allOf
+rests s need rs =
+    not (ownState (charges (s .mode)) rs) && allOf (length rs) (λ (i : ℕ). noCall (charges (s .mode)) (ownNeed s need i))
+
+-- P4: where the total store is at most the total reserve (charging: is the total rated energy), all requests become 0
 unfoldable pub spent : Bool → ℕ → Fleet → Bool
 unfolding sumOf
 spent charging n f = cond charging (eqb (total n (f .stored)) (total n (f .rated))) (leb (total n (f .stored)) (total n (f .reserve)))
 
--- 5. "Otherwise, if 2 x |need| <= band, nothing changes."
+-- P5: otherwise nothing changes where every unit is within the band: twice the size of its own need is at most the band
 unfoldable pub inBand : ℕ → ℤ → Bool
 inBand band need = leb (2 * natAbs need) band
 
--- 6. "Otherwise unit i's share is need x weight x factor / (sum of all weights x 1,000), cut toward zero."
+unfoldable pub allInBand : Settings → ℕ → ℤ → Bool
+unfolding inBand allOf
+allInBand s n need = allOf n (λ (i : ℕ). inBand (s .band) (ownNeed s need i))
+
+-- P6: otherwise a unit's share of its own need is by its weight and the factor, cut toward zero
 unfoldable pub shareOf : ℕ → ℤ → ℕ → ℕ → ℤ
 unfolding cut
 shareOf factor need weight weights = cut (need *ℤ pos weight *ℤ pos factor) (weights * 1000)
 
--- "Request + share is limited to R in size. A result against the mode (below 0 discharging, above 0 charging) becomes 0."
+-- request and share are limited to R in size; what is then against the mode, below 0 discharging or above 0 charging, becomes 0
 unfoldable pub limited : ℕ → ℤ → ℤ
 limited R z = signed (negative z) (min (natAbs z) R)
 
 unfoldable pub withMode : Bool → ℤ → ℤ
 withMode charging z = cond (cond charging (ltZ (pos 0) z) (ltZ z (pos 0))) (pos 0) z
 
--- what a unit's request becomes under rule 6, with its rating, its weight and the sum of all weights
+-- what a unit's request becomes, with its own need, its rating, its weight and the sum of all weights
 unfoldable pub unitAfter : Bool → ℕ → ℤ → ℕ → ℕ → ℕ → ℤ → ℤ
 unfolding shareOf limited withMode
 unitAfter charging factor need weights rating weight request = withMode charging (limited rating (request +ℤ shareOf factor need weight weights))
@@ -76,17 +88,16 @@ unitAfter charging factor need weights rating weight request = withMode charging
 unfoldable pub requestAfter : Settings → ℕ → Fleet → ℤ → ℕ → ℤ → ℤ
 unfolding unitAfter sumOf
 requestAfter s n f need i request =
-    unitAfter (charges (s .mode)) (s .factor) need (total n (f .weight)) (getD (f .rating) i 0) (getD (f .weight) i 0) request
+    unitAfter (charges (s .mode)) (s .factor) (ownNeed s need i) (total n (f .weight)) (getD (f .rating) i 0) (getD (f .weight) i 0) request
 
 -- the requests after a pass
 unfoldable pub passOf : Settings → ℤ → Fleet → List ℤ → List ℤ
-unfolding needOf rests spent inBand requestAfter each
+unfolding needOf rests spent allInBand requestAfter each
 passOf s m f rs =
     let need = needOf s m rs in
-    let charging = charges (s .mode) in
-    cond (rests charging need rs) rs
-    (cond (spent charging (length rs) f) (each (λ (i : ℕ) (r : ℤ). pos 0) rs)
-    (cond (inBand (s .band) need) rs (each (requestAfter s (length rs) f need) rs)))
+    cond (rests s need rs) rs
+    (cond (spent (charges (s .mode)) (length rs) f) (each (λ (i : ℕ) (r : ℤ). pos 0) rs)
+    (cond (allInBand s (length rs) need) rs (each (requestAfter s (length rs) f need) rs)))
 
 -- two signed numbers differ
 abbrev pub differ : ℤ → ℤ → Bool

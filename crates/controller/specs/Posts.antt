@@ -1,20 +1,37 @@
--- The parts of contracts by name: what a fleet's requests say, and what a pass may count on.
-use Prim.Native.Nat.{ℕ, _≤_, _<_}
+-- Nobody has to believe this file: the parts of contracts by name, what a fleet's requests say, and what a pass may count on.
+use Prim.Native.Nat.{ℕ, _≤_}
 use mathlib.Core.Bool.{Bool, not, cond, _&&_, _||_}
-use mathlib.Core.List.{List}
+use mathlib.Core.List.{List, map}
 use mathlib.Core.Path.{_≡_}
-use lib.IntN.{ℤ, pos, natAbs, _+ℤ_, _-ℤ_}
+use lib.IntN.{ℤ, pos, natAbs, _+ℤ_}
 use lib.ListN.{length, getD}
-use lib.Signed.{ltZ, leZ}
+use lib.Signed.{ltZ}
 use lib.Dec.{leb, eqb}
 use Rattle.whole.specs.Over.{sumOf}
+use Rattle.unit.specs.declared.Unit.{Unit}
+use Rattle.unit.specs.Rows.{unitBy, unitsBy}
 use Rattle.controller.specs.declared.Asked.{Asked}
 use Rattle.controller.specs.declared.Passed.{Passed}
-use Rattle.controller.specs.declared.Studied.{Studied}
+use Rattle.controller.specs.declared.Totals.{Totals}
 use Rattle.controller.specs.declared.Settings.{Settings}
-use Rattle.controller.specs.Ranges.{Fleet, someAbove, someBelow}
-use Rattle.controller.specs.Study.{studyOf}
-use Rattle.controller.specs.Pass.{total, charges, plainNeed, sumOfAll, needOf, unitAfter, passOf, changedOf}
+use Rattle.controller.specs.Ranges.{Fleet, fleetFor, someAbove, someBelow}
+use Rattle.controller.specs.Pass.{total, charges, plainNeed, sumOfAll, needOf, noCall, unitAfter, passOf, changedOf}
+
+-- ---- the fleet as the code has it: rows of units, and what each holds now
+abbrev pub fleetBy : List (List ℕ) → List ℕ → Fleet
+fleetBy rows stored = fleetFor (unitsBy rows) stored
+
+-- one value of each row's unit
+abbrev pub columnBy : (Unit → ℕ) → List (List ℕ) → List ℕ
+columnBy value rows = map value (unitsBy rows)
+
+-- the sums over the fleet that no step changes
+pub record TotalsOf (rows : List (List ℕ)) (t : Totals) : Type 0 where
+  pub rated : t .rated ≡ total (length rows) (columnBy (λ (u : Unit). u .rated) rows)
+  pub reserve : t .reserve ≡ total (length rows) (columnBy (λ (u : Unit). u .reserve) rows)
+  pub weight : t .weight ≡ total (length rows) (columnBy (λ (u : Unit). u .weight) rows)
+
+-- ---- what the requests ask
 
 -- b is what is asked by a and one request more
 pub record WithRequest (a : Asked) (r : ℤ) (b : Asked) : Type 0 where
@@ -38,22 +55,29 @@ pub record SameLengths (f : Fleet) (n : ℕ) : Type 0 where
   pub rating : length (f .rating) ≡ n
   pub weight : length (f .weight) ≡ n
 
--- ---- the rules over what the requests ask, as the code has it
+-- a row whose unit has these values of a fleet's member
+pub record MemberRow (rated reserve rating weight : ℕ) (row : List ℕ) : Type 0 where
+  pub rated-is : unitBy row .rated ≡ rated
+  pub reserve-is : unitBy row .reserve ≡ reserve
+  pub rating-is : unitBy row .rating ≡ rating
+  pub weight-is : unitBy row .weight ≡ weight
 
--- rules 1 and 2
+-- ---- the rules over what the requests ask and over the sums, as the code has it
+
+-- P1 and P2
 unfoldable pub needFrom : Settings → ℤ → Asked → ℤ
 unfolding plainNeed
 needFrom s m a = cond (cond (charges (s .mode)) (a .above) (a .below)) (plainNeed s m +ℤ a .sum) (plainNeed s m)
 
--- rule 3
+-- P3, of a need that all units share
 unfoldable pub restsBy : Bool → ℤ → Asked → Bool
-restsBy charging need a = not (cond charging (a .below) (a .above)) && cond charging (leZ (pos 0) need) (leZ need (pos 0))
+restsBy charging need a = not (cond charging (a .below) (a .above)) && noCall charging need
 
--- rule 4
-unfoldable pub spentBy : Bool → List ℕ → List ℕ → List ℕ → Bool
+-- P4
+unfoldable pub spentBy : Bool → ℕ → ℕ → List ℕ → Bool
 unfolding sumOf
 spentBy charging rated reserve stored =
-    cond charging (eqb (total (length stored) stored) (total (length rated) rated)) (leb (total (length stored) stored) (total (length reserve) reserve))
+    cond charging (eqb (total (length stored) stored) rated) (leb (total (length stored) stored) reserve)
 
 -- energies that can be added up: at most 64, each at most 10^13 J
 pub record Addable (xs : List ℕ) : Type 0 where
@@ -65,25 +89,31 @@ pub record Energies (a b c : List ℕ) : Type 0 where
   pub reserve : Addable b
   pub stored : Addable c
 
--- rule 6 at unit i, over the lists of ratings and weights
-abbrev pub unitsAfter : Bool → ℕ → ℤ → List ℕ → List ℕ → ℕ → ℤ → ℤ
-unitsAfter charging factor need rating weight i r =
-    unitAfter charging factor need (total (length weight) weight) (getD rating i 0) (getD weight i 0) r
+-- P6 at unit i, over the lists of ratings and weights and the sum of all weights
+abbrev pub unitsAfter : Bool → ℕ → ℤ → ℕ → List ℕ → List ℕ → ℕ → ℤ → ℤ
+unitsAfter charging factor need weights rating weight i r = unitAfter charging factor need weights (getD rating i 0) (getD weight i 0) r
 
--- what rule 6 may count on: a need, a factor, ratings and weights in bounds, and lists of one length, at most 64
-pub record Sharing (factor : ℕ) (need : ℤ) (rating weight : List ℕ) (n : ℕ) : Type 0 where
+-- the same over rows
+abbrev pub sharedBy : Bool → ℕ → ℤ → ℕ → List (List ℕ) → ℕ → ℤ → ℤ
+sharedBy charging factor need weights rows =
+    unitsAfter charging factor need weights (columnBy (λ (u : Unit). u .rating) rows) (columnBy (λ (u : Unit). u .weight) rows)
+
+-- what P6 may count on: a need, a factor, a sum of weights, ratings and weights in bounds, and lists of one length, at most 64
+pub record Sharing (factor : ℕ) (need : ℤ) (weights : ℕ) (rating weight : List ℕ) (n : ℕ) : Type 0 where
   pub need-small : natAbs need ≤ 400000000000
   pub factor-small : factor ≤ 1000
+  pub weights-small : weights ≤ 640000
   pub ratings : length rating ≡ n
-  pub weights : length weight ≡ n
+  pub weighings : length weight ≡ n
   pub few : n ≤ 64
   pub rating-small : (i : ℕ) → getD rating i 0 ≤ 100000000
   pub weight-small : (i : ℕ) → getD weight i 0 ≤ 10000
 
--- what a pass may count on: lists of one length, at most 64, and values whose sums and products stay well within 64 bits. Document 01's ranges
--- give it, and the measure of a study too
+-- what a pass may count on: lists of one length, 1 to 64, and values whose sums and products stay well within 64 bits. The ranges give it, and the
+-- measure of a study too
 pub record Sound (s : Settings) (measure : ℤ) (f : Fleet) (n : ℕ) : Type 0 where
   pub lengths : SameLengths f n
+  pub some : 1 ≤ n
   pub few : n ≤ 64
   pub measure-small : natAbs measure ≤ 200000000000
   pub target-small : natAbs (s .target) ≤ 100000000
@@ -97,14 +127,3 @@ pub record DonePass (s : Settings) (m : ℤ) (f : Fleet) (before after : List �
   pub requests : after ≡ passOf s m f before
   pub need : p .need ≡ needOf s m before
   pub changed : p .changed ≡ changedOf before after
-
--- what a study leaves: the definition's requests, whether it settled and the changing passes
-pub record DoneStudy (s : Settings) (load : ℤ) (f : Fleet) (budget n : ℕ) (after : List ℤ) (r : Studied) : Type 0 where
-  pub requests : after ≡ studyOf s load f budget n .requests
-  pub settled : r .settled ≡ studyOf s load f budget n .settled
-  pub passes : r .passes ≡ studyOf s load f budget n .changing
-
--- the measure of a study, with its bound
-pub record Reading (load : ℤ) (rs : List ℤ) (m : ℤ) : Type 0 where
-  pub is : m ≡ load -ℤ sumOfAll rs
-  pub small : natAbs m ≤ 200000000000

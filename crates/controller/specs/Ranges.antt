@@ -1,14 +1,16 @@
--- A fleet as the controller sees it, the ranges of "Units and ranges", and what a call without a file refuses, in the document's order:
--- lengths (10), values (5), then requests (10).
-use Prim.Native.Nat.{ℕ, _*_, _^_}
+-- A fleet as the controller sees it, the ranges of its settings and measure (rules Q17 to Q20 and Q23), and what a pass without a file refuses, in the
+-- order of rule N15: lengths (10), values (5), then requests (10).
+use Prim.Native.Nat.{ℕ}
 use mathlib.Core.Bool.{Bool, not, cond, _&&_}
-use mathlib.Core.List.{List}
+use mathlib.Core.List.{List, map}
 use lib.Dec.{leb, eqb}
 use lib.IntN.{ℤ, pos, natAbs}
 use lib.ListN.{length, getD}
-use lib.Signed.{ltZ, leZ}
+use lib.Signed.{ltZ}
 use Rattle.whole.specs.Interval.{between}
 use Rattle.whole.specs.Over.{allOf, someOf}
+use Rattle.unit.specs.declared.Unit.{Unit}
+use Rattle.unit.specs.Ranges.{memberIn}
 use Rattle.controller.specs.declared.Settings.{Settings}
 
 -- the lists that are lent for a fleet, an element for each unit
@@ -22,6 +24,12 @@ pub record Fleet : Type 0 where
 abbrev pub fleetOf : List ℕ → List ℕ → List ℕ → List ℕ → List ℕ → Fleet
 fleetOf a b c d e = record { rated = a; reserve = b; stored = c; rating = d; weight = e }
 
+-- the fleet of these units, with so much stored in each
+abbrev pub fleetFor : List Unit → List ℕ → Fleet
+fleetFor units stored =
+    fleetOf (map (λ (u : Unit). u .rated) units) (map (λ (u : Unit). u .reserve) units) stored (map (λ (u : Unit). u .rating) units)
+    (map (λ (u : Unit). u .weight) units)
+
 -- the settings of a pass: mode 1 to 3, target -10^8 to 10^8 W, band 0 to 2 × 10^8 W, factor 1 to 1,000 thousandths
 unfoldable pub settingsIn : Settings → Bool
 settingsIn s =
@@ -31,15 +39,10 @@ settingsIn s =
 unfoldable pub measureIn : ℤ → Bool
 measureIn m = leb (natAbs m) 300000000
 
--- one unit's values: rated energy 1 to 10^13 J, reserve and stored 0 to rated, power rating 1 to 10^8 W, weight 1 to 10,000
-unfoldable pub unitIn : ℕ → ℕ → ℕ → ℕ → ℕ → Bool
-unitIn rated reserve stored rating weight =
-    between 1 10000000000000 rated && leb reserve rated && leb stored rated && between 1 100000000 rating && between 1 10000 weight
-
 -- unit i's values
-unfoldable pub unitInAt : Fleet → ℕ → Bool
-unfolding unitIn
-unitInAt f i = unitIn (getD (f .rated) i 0) (getD (f .reserve) i 0) (getD (f .stored) i 0) (getD (f .rating) i 0) (getD (f .weight) i 0)
+unfoldable pub memberAt : Fleet → ℕ → Bool
+unfolding memberIn
+memberAt f i = memberIn (getD (f .rated) i 0) (getD (f .reserve) i 0) (getD (f .stored) i 0) (getD (f .rating) i 0) (getD (f .weight) i 0)
 
 -- lent lists of equal length, 1 to 64
 unfoldable pub lengthsOk : ℕ → ℕ → ℕ → ℕ → ℕ → ℕ → Bool
@@ -72,8 +75,8 @@ requestsIn f rs = requestsOk (f .rating) rs
 
 -- what a pass refuses: 0 for nothing
 unfoldable pub passRefusal : Settings → ℤ → Fleet → List ℤ → ℕ
-unfolding settingsIn measureIn unitInAt lengthsOk requestsOk allOf
+unfolding settingsIn measureIn memberAt lengthsOk requestsOk allOf
 passRefusal s m f rs =
     cond (not (lengthsIn f (length rs))) 10
-    (cond (not (settingsIn s && measureIn m && allOf (length rs) (unitInAt f))) 5
+    (cond (not (settingsIn s && measureIn m && allOf (length rs) (memberAt f))) 5
     (cond (not (requestsIn f rs)) 10 0))

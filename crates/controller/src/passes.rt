@@ -1,18 +1,77 @@
 ghost use mathlib.Core.Path.{_≡_};
 ghost use lib.ListN.{length};
 ghost use Rattle.controller.specs.Ranges.{fleetOf};
-ghost use Rattle.controller.specs.Posts.{Sound, DonePass};
+ghost use Rattle.controller.specs.Posts.{Sound, DonePass, TotalsOf, fleetBy};
 ghost use Rattle.controller.specs.Answers.{passAnswer, passLeaves};
 use super::PassAnswer;
 use super::Passed;
 use super::Settings;
+use super::Totals;
 use super::ranges;
+use super::rows;
 use super::rules;
 use super::shares;
 use super::sums;
 
-// One pass over a fleet in its ranges: rules 1 to 6.
+// One pass over a fleet in its ranges, P1 to P6: its units as rows, their sums, and what each holds.
 pub fn pass_within(
+    s: Settings,
+    measure: i64,
+    t: Totals,
+    units: &[[u64; 14]],
+    stored: &[u64],
+    requests: &mut [i32],
+) -> Passed
+    requires { ⌜ Sound s measure (fleetBy (now units) (now stored)) (length (now requests)) ⌝ }
+    requires { ⌜ TotalsOf (now units) t ⌝ }
+    ensures { λ r. ⌜ DonePass s measure (fleetBy (now (units .entry)) (now (stored .entry))) (now (requests .entry)) (now (requests .exit)) r ⌝ }
+{
+    let a = sums::asked(requests);
+    let need = rules::need(s, measure, a);
+    let charging = s.mode == 3;
+    if rules::rests(charging, need, a) {
+        return Passed {
+            need,
+            changed: false,
+        };
+    }
+    if rules::is_spent(charging, t.rated, t.reserve, stored) {
+        let changed = shares::clear(requests);
+        return Passed { need, changed };
+    }
+    if rules::in_band(s.band, need) {
+        return Passed {
+            need,
+            changed: false,
+        };
+    }
+    let changed = shares::share_all(charging, s.factor, need, t.weight, units, requests);
+    Passed { need, changed }
+}
+
+// The same over lists, with rows to fill.
+fn pass_with(
+    s: Settings,
+    measure: i64,
+    rated: &[u64],
+    reserve: &[u64],
+    stored: &[u64],
+    rating: &[u32],
+    weight: &[u16],
+    units: &mut [[u64; 14]],
+    requests: &mut [i32],
+) -> Passed
+    requires { ⌜ Sound s measure (fleetOf (now rated) (now reserve) (now stored) (now rating) (now weight)) (length (now requests)) ⌝ }
+    requires { ⌜ length (now units) ≡ length (now requests) ⌝ }
+    ensures { λ r. ⌜ DonePass s measure (fleetOf (now (rated .entry)) (now (reserve .entry)) (now (stored .entry)) (now (rating .entry)) (now (weight .entry))) (now (requests .entry)) (now (requests .exit)) r ⌝ }
+{
+    rows::fill(rated, reserve, stored, rating, weight, units);
+    let t = sums::summed(units);
+    pass_within(s, measure, t, units, stored, requests)
+}
+
+// The same, over lists.
+fn pass_over(
     s: Settings,
     measure: i64,
     rated: &[u64],
@@ -25,27 +84,19 @@ pub fn pass_within(
     requires { ⌜ Sound s measure (fleetOf (now rated) (now reserve) (now stored) (now rating) (now weight)) (length (now requests)) ⌝ }
     ensures { λ r. ⌜ DonePass s measure (fleetOf (now (rated .entry)) (now (reserve .entry)) (now (stored .entry)) (now (rating .entry)) (now (weight .entry))) (now (requests .entry)) (now (requests .exit)) r ⌝ }
 {
-    let a = sums::asked(requests);
-    let need = rules::need(s, measure, a);
-    let charging = s.mode == 3;
-    if rules::rests(charging, need, a) {
-        return Passed {
-            need,
-            changed: false,
-        };
-    }
-    if rules::is_spent(charging, rated, reserve, stored) {
-        let changed = shares::clear(requests);
-        return Passed { need, changed };
-    }
-    if rules::in_band(s.band, need) {
-        return Passed {
-            need,
-            changed: false,
-        };
-    }
-    let changed = shares::share_all(charging, s.factor, need, rating, weight, requests);
-    Passed { need, changed }
+    let n = requests.len();
+    let mut units = [[0u64; 14]; 64];
+    pass_with(
+        s,
+        measure,
+        rated,
+        reserve,
+        stored,
+        rating,
+        weight,
+        &mut units[0..n],
+        requests,
+    )
 }
 
 // One pass of any numbers. Refused are lists of unequal length, none or above 64 (10), values out
@@ -82,5 +133,5 @@ pub fn pass(
     if !ranges::requests_in(rating, requests) {
         return PassAnswer::PassRefused(10);
     }
-    PassAnswer::PassDone(pass_within(s, measure, rated, reserve, stored, rating, weight, requests))
+    PassAnswer::PassDone(pass_over(s, measure, rated, reserve, stored, rating, weight, requests))
 }

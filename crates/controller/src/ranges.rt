@@ -2,7 +2,7 @@ ghost use mathlib.Core.Path.{_≡_};
 ghost use Prim.Native.Nat.{_≤_};
 ghost use lib.ListN.{length};
 ghost use Rattle.whole.specs.Over.{allOf};
-ghost use Rattle.controller.specs.Ranges.{settingsIn, measureIn, unitIn, unitInAt, lengthsOk, withinRatings, requestsOk, fleetOf};
+ghost use Rattle.controller.specs.Ranges.{settingsIn, measureIn, memberAt, lengthsOk, withinRatings, requestsOk, fleetOf};
 ghost use Rattle.controller.specs.Posts.{SameLengths};
 use super::Settings;
 use super::sums;
@@ -25,17 +25,6 @@ pub fn measure_in(measure: i64) -> bool
     whole::size64(measure) <= 300000000
 }
 
-// One unit's values are in their ranges.
-pub fn unit_in(rated: u64, reserve: u64, stored: u64, rating: u32, weight: u16) -> bool
-    ensures { λ r. ⌜ r ≡ unitIn rated reserve stored rating weight ⌝ }
-{
-    ((1 <= rated) & (rated <= 10000000000000))
-        & (reserve <= rated)
-        & (stored <= rated)
-        & ((1 <= rating) & (rating <= 100000000))
-        & ((1 <= weight) & (weight <= 10000))
-}
-
 // Every unit's values are in their ranges; the lists have one length.
 pub fn units_in(
     rated: &[u64],
@@ -45,12 +34,12 @@ pub fn units_in(
     weight: &[u16],
 ) -> bool
     requires { ⌜ SameLengths (fleetOf (now rated) (now reserve) (now stored) (now rating) (now weight)) (length (now rated)) ⌝ }
-    ensures { λ r. ⌜ r ≡ allOf (length (now (rated .entry))) (unitInAt (fleetOf (now (rated .entry)) (now (reserve .entry)) (now (stored .entry)) (now (rating .entry)) (now (weight .entry)))) ⌝ }
+    ensures { λ r. ⌜ r ≡ allOf (length (now (rated .entry))) (memberAt (fleetOf (now (rated .entry)) (now (reserve .entry)) (now (stored .entry)) (now (rating .entry)) (now (weight .entry)))) ⌝ }
 {
     let mut ok = true;
     let mut i = 0;
     while i < rated.len() {
-        ok = ok & unit_in(rated[i], reserve[i], stored[i], rating[i], weight[i]);
+        ok = ok & unit::member_in(rated[i], reserve[i], stored[i], rating[i], weight[i]);
         i += 1;
     }
     ok

@@ -1,15 +1,14 @@
 ghost use mathlib.Core.Path.{_≡_};
 ghost use Prim.Native.Nat.{_≤_};
 ghost use mathlib.Core.Bool.{cond};
-ghost use lib.IntN.{pos, natAbs, _+ℤ_};
-ghost use lib.Signed.{leZ};
-ghost use Rattle.controller.specs.Pass.{plainNeed, inBand, shareOf, limited, withMode};
-ghost use Rattle.controller.specs.Posts.{needFrom, restsBy, spentBy, Energies};
+ghost use lib.IntN.{natAbs, _+ℤ_};
+ghost use Rattle.controller.specs.Pass.{plainNeed, noCall, inBand, shareOf, limited, withMode};
+ghost use Rattle.controller.specs.Posts.{needFrom, restsBy, spentBy, Addable};
 use super::Asked;
 use super::Settings;
 use super::sums;
 
-// Rule 1: measure less target, or in mode 2 measure and target.
+// P1: measure less target, or in mode 2 measure and target.
 fn plain_need(s: Settings, measure: i64) -> i64
     requires { ⌜ natAbs measure ≤ 200000000000 ⌝ }
     ensures { λ r. ⌜ r ≡ plainNeed s measure ⌝ }
@@ -36,7 +35,7 @@ fn in_own_state(charging: bool, a: Asked) -> bool
     if charging { a.below } else { a.above }
 }
 
-// Rule 2: F is added where the fleet is in the other state.
+// P2: F is added where the fleet is in the other state.
 fn with_sum(other: bool, plain: i64, sum: i64) -> i64
     requires { ⌜ natAbs plain ≤ 300000000000 ⌝ }
     requires { ⌜ natAbs sum ≤ 1000000000000 ⌝ }
@@ -45,7 +44,7 @@ fn with_sum(other: bool, plain: i64, sum: i64) -> i64
     if other { plain + sum } else { plain }
 }
 
-// Rules 1 and 2.
+// P1 and P2.
 pub fn need(s: Settings, measure: i64, a: Asked) -> i64
     requires { ⌜ natAbs measure ≤ 200000000000 ⌝ }
     requires { ⌜ natAbs (a .sum) ≤ 1000000000000 ⌝ }
@@ -56,33 +55,33 @@ pub fn need(s: Settings, measure: i64, a: Asked) -> i64
     with_sum(in_other_state(s.mode == 3, a), plain, a.sum)
 }
 
-// A need that a fleet at rest does not answer: at or below 0 discharging, at or above 0 charging.
-fn is_idle_need(charging: bool, need: i64) -> bool
-    ensures { λ r. ⌜ r ≡ cond charging (leZ (pos 0) need) (leZ need (pos 0)) ⌝ }
+// P3: a need that does not call: at or below 0 discharging, at or above 0 charging.
+fn no_call(charging: bool, need: i64) -> bool
+    ensures { λ r. ⌜ r ≡ noCall charging need ⌝ }
 {
     if charging { 0 <= need } else { need <= 0 }
 }
 
-// Rule 3: a fleet that is not in the mode's own state rests at such a need.
+// P3: a fleet that is not in the mode's own state rests at such a need.
 pub fn rests(charging: bool, need: i64, a: Asked) -> bool
     ensures { λ r. ⌜ r ≡ restsBy charging need a ⌝ }
 {
-    !in_own_state(charging, a) & is_idle_need(charging, need)
+    !in_own_state(charging, a) & no_call(charging, need)
 }
 
-// Rule 4: nothing left above the reserves, or, charging, no room.
-pub fn is_spent(charging: bool, rated: &[u64], reserve: &[u64], stored: &[u64]) -> bool
-    requires { ⌜ Energies (now rated) (now reserve) (now stored) ⌝ }
-    ensures { λ r. ⌜ r ≡ spentBy charging (now (rated .entry)) (now (reserve .entry)) (now (stored .entry)) ⌝ }
+// P4: nothing left above the reserves, or, charging, no room.
+pub fn is_spent(charging: bool, rated: u64, reserve: u64, stored: &[u64]) -> bool
+    requires { ⌜ Addable (now stored) ⌝ }
+    ensures { λ r. ⌜ r ≡ spentBy charging rated reserve (now (stored .entry)) ⌝ }
 {
     let held = sums::energy(stored);
     if charging {
-        return held == sums::energy(rated);
+        return held == rated;
     }
-    held <= sums::energy(reserve)
+    held <= reserve
 }
 
-// Rule 5: twice the need's size is within the band.
+// P5: twice the need's size is within the band.
 pub fn in_band(band: u32, need: i64) -> bool
     requires { ⌜ natAbs need ≤ 10000000000000 ⌝ }
     ensures { λ r. ⌜ r ≡ inBand band need ⌝ }
@@ -90,7 +89,7 @@ pub fn in_band(band: u32, need: i64) -> bool
     2 * whole::size64(need) <= band as u64
 }
 
-// Rule 6: a unit's share of the need.
+// P6: a unit's share of the need.
 pub fn share(factor: u16, need: i64, weight: u16, weights: u64) -> i64
     requires { ⌜ natAbs need ≤ 400000000000 ⌝ }
     requires { ⌜ factor ≤ 1000 ⌝ }
@@ -102,7 +101,7 @@ pub fn share(factor: u16, need: i64, weight: u16, weights: u64) -> i64
     whole::cut(part, weights * 1000)
 }
 
-// Rule 6: a request and its share, limited to the rating in size, and 0 where that is against the
+// P6: a request and its share, limited to the rating in size, and 0 where that is against the
 // mode.
 pub fn request_after(charging: bool, rating: u32, request: i32, share: i64) -> i32
     requires { ⌜ rating ≤ 100000000 ⌝ }

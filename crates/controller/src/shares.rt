@@ -4,11 +4,11 @@ ghost use lib.IntN.{ℤ, pos};
 ghost use lib.ListN.{length};
 ghost use Rattle.whole.specs.Over.{each};
 ghost use Rattle.controller.specs.Pass.{changedOf};
-ghost use Rattle.controller.specs.Posts.{Sharing, unitsAfter};
+ghost use Rattle.unit.specs.declared.Unit.{Unit};
+ghost use Rattle.controller.specs.Posts.{Sharing, columnBy, sharedBy};
 use super::rules;
-use super::sums;
 
-// Rule 4: every request becomes 0. Whether one changed.
+// P4: every request becomes 0. Whether one changed.
 pub fn clear(requests: &mut [i32]) -> bool
     ensures { λ _. ⌜ now (requests .exit) ≡ each (λ (i : ℕ) (r : ℤ). pos 0) (now (requests .entry)) ⌝ }
     ensures { λ r. ⌜ r ≡ changedOf (now (requests .entry)) (now (requests .exit)) ⌝ }
@@ -23,26 +23,25 @@ pub fn clear(requests: &mut [i32]) -> bool
     changed
 }
 
-// Rule 6: each unit's request and share. Whether a request changed.
+// P6: each unit's request and share. Whether a request changed.
 pub fn share_all(
     charging: bool,
     factor: u16,
     need: i64,
-    rating: &[u32],
-    weight: &[u16],
+    weights: u64,
+    units: &[[u64; 14]],
     requests: &mut [i32],
 ) -> bool
-    requires { ⌜ Sharing factor need (now rating) (now weight) (length (now requests)) ⌝ }
-    ensures { λ _. ⌜ now (requests .exit) ≡ each (unitsAfter charging factor need (now (rating .entry)) (now (weight .entry))) (now (requests .entry)) ⌝ }
+    requires { ⌜ Sharing factor need weights (columnBy (λ (u : Unit). u .rating) (now units)) (columnBy (λ (u : Unit). u .weight) (now units)) (length (now requests)) ⌝ }
+    ensures { λ _. ⌜ now (requests .exit) ≡ each (sharedBy charging factor need weights (now (units .entry))) (now (requests .entry)) ⌝ }
     ensures { λ r. ⌜ r ≡ changedOf (now (requests .entry)) (now (requests .exit)) ⌝ }
 {
-    let all = sums::weights(weight);
     let mut changed = false;
     let mut i = 0;
     while i < requests.len() {
         let old = requests[i];
-        let part = rules::share(factor, need, weight[i], all);
-        let next = rules::request_after(charging, rating[i], old, part);
+        let part = rules::share(factor, need, unit::weight_of(units, i), weights);
+        let next = rules::request_after(charging, unit::rating_of(units, i), old, part);
         changed = changed | (old != next);
         requests[i] = next;
         i += 1;

@@ -3,8 +3,10 @@ ghost use Prim.Native.Nat.{_≤_};
 ghost use lib.ListN.{length};
 ghost use lib.IntN.{natAbs};
 ghost use Rattle.controller.specs.Pass.{total};
-ghost use Rattle.controller.specs.Posts.{WithRequest, AskedOf, Addable};
+ghost use Rattle.unit.specs.declared.Unit.{Unit};
+ghost use Rattle.controller.specs.Posts.{WithRequest, AskedOf, Addable, TotalsOf, columnBy};
 use super::Asked;
+use super::Totals;
 
 // The sum of a fleet's energies.
 pub fn energy(xs: &[u64]) -> u64
@@ -20,18 +22,27 @@ pub fn energy(xs: &[u64]) -> u64
     sum
 }
 
-// The sum of all weights.
-pub fn weights(xs: &[u16]) -> u64
-    requires { ⌜ length (now xs) ≤ 64 ⌝ }
-    ensures { λ r. ⌜ r ≡ total (length (now (xs .entry))) (now (xs .entry)) ⌝ }
+// The sums over a fleet that no step changes.
+pub fn summed(units: &[[u64; 14]]) -> Totals
+    requires { ⌜ Addable (columnBy (λ (u : Unit). u .rated) (now units)) ⌝ }
+    requires { ⌜ Addable (columnBy (λ (u : Unit). u .reserve) (now units)) ⌝ }
+    ensures { λ r. ⌜ TotalsOf (now (units .entry)) r ⌝ }
 {
-    let mut sum: u64 = 0;
+    let mut rated: u64 = 0;
+    let mut reserve: u64 = 0;
+    let mut weight: u64 = 0;
     let mut i = 0;
-    while i < xs.len() {
-        sum += xs[i] as u64;
+    while i < units.len() {
+        rated += unit::rated_of(units, i);
+        reserve += unit::reserve_of(units, i);
+        weight += unit::weight_of(units, i) as u64;
         i += 1;
     }
-    sum
+    Totals {
+        rated,
+        reserve,
+        weight,
+    }
 }
 
 // What is asked with one request more.

@@ -1,7 +1,6 @@
--- Every figure of the table is as document 01 states it: the definitions compute it. Assumes nothing.
-use mathlib.Core.List.{List, map}
+-- Every figure of the table is as it is stated: the definitions compute it. Assumes nothing.
+use mathlib.Core.List.{map}
 use mathlib.Core.Path.{_≡_, refl}
-use lib.IntN.{ℤ}
 use lib.Ieee.{toBits, div, ofInt}
 use Rattle.figures.specs.Table.{Figure, table}
 

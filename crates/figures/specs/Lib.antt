@@ -1,2 +1,2 @@
--- The bench figures of document 01.
+-- The figures A1 to E1 of docs/RULES.md.
 pub mod Table

@@ -1,4 +1,5 @@
--- The bench figures of document 01, its whole case and its result of no steps as one table: for each the answer that the definitions of the crates below give, and the one that the document states.
+-- The figures A1 to E1, the whole case and the result of no steps (rules M, P, S, U and O) as one table: for each the answer that the definitions of the
+-- crates below give, and the one that is stated.
 -- An answer is the refusal's number, 0 where there is none, and then its values. A kW figure stands by its bit pattern.
 use mathlib.Core.List.{List, [], _∷_, map}
 use Prim.Native.Nat.{ℕ}
@@ -9,15 +10,14 @@ use lib.ListN.{length, replicate}
 use Rattle.whole.specs.Largest.{legOf}
 use Rattle.octets.specs.BigEndian.{bytesOf}
 use Rattle.season.specs.Answers.{runAnswer, runLeaves}
-use Rattle.storage.specs.declared.Unit.{Unit}
+use Rattle.whole.specs.Call.{Call, Gave, Refused}
+use Rattle.unit.specs.declared.Unit.{Unit}
 use Rattle.storage.specs.Step.{stepOf}
 use Rattle.controller.specs.declared.Settings.{Settings}
 use Rattle.controller.specs.Ranges.{Fleet, fleetOf}
 use Rattle.controller.specs.Pass.{needOf, passOf, changedOf}
-use Rattle.controller.specs.Study.{passes, studyOf}
-use Rattle.reading.specs.declared.Watts.{Watts}
-use Rattle.reading.specs.declared.Watts.the-variants.{Whole, Refused}
-use Rattle.reading.specs.Conversion.{wattsOf, numberOf}
+use Rattle.settling.specs.Study.{passes, studyOf}
+use Rattle.reading.specs.Conversion.{wattsOf, wattsCall}
 
 pub data Name : Type 0 where
   A1 A2 A3 A4 B1 B2 B3 B4 B5 C1 D1 D2 D3 E1 WholeCase ZeroSteps : Name
@@ -38,13 +38,13 @@ abbrev pub refused : ℕ → List ℤ
 refused n = pos n ∷ []
 
 -- the answer that the conversion gives a kW double
-abbrev pub answerOf : Watts → List ℤ
-answerOf (Whole w) = value w
-answerOf Refused = refused (numberOf Refused)
+abbrev pub answerOf : Call ℤ → List ℤ
+answerOf (Gave w) = value w
+answerOf (Refused n) = refused n
 
 unfoldable pub kilowatts : ℕ → List ℤ
 unfolding wattsOf ofBits
-kilowatts bits = answerOf (wattsOf (ofBits binary64 bits))
+kilowatts bits = answerOf (wattsCall (wattsOf (ofBits binary64 bits)))
 
 -- the answer that the kVA circle gives: S, then the other leg
 unfoldable pub leg : ℕ → ℕ → List ℤ

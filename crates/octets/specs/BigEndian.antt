@@ -1,4 +1,4 @@
--- "All file numbers are big-endian, signed ones two's complement": the number that stands in n bytes at a place, and the n bytes of a number.
+-- Numbers high byte first (rule F2): the number that stands in n bytes at a place, and the n bytes of a number.
 -- A signed number of four bytes is `toZ w32` of the bits, the library's two's complement; a double is `ofBits binary64`, every NaN pattern being the one `nan`.
 use Prim.Native.Nat.{ℕ, zero, suc, _+_, _*_, _/_, _%_}
 use mathlib.Core.List.{List, [], _∷_, _++_}

@@ -1,10 +1,13 @@
 // Big-endian numbers and doubles at a place of lent bytes, read and written. Each read states its
 // value as one definition over the width, and each write the whole slice at exit.
+mod complement;
 mod doubles;
 mod lows;
 mod reads;
 mod writes;
 
+pub use complement::pattern_of;
+pub use complement::signed_of;
 pub use doubles::bits_of;
 pub use doubles::double_of;
 pub use doubles::f64_at;

@@ -4,6 +4,7 @@ ghost use lib.ListN.{length};
 ghost use mir.Syntax.{w32, w64};
 ghost use mir.Val.{toZ};
 ghost use Rattle.octets.specs.BigEndian.{be};
+use super::complement;
 
 // The byte at a place.
 pub fn u8_at(s: &[u8], at: usize) -> u8
@@ -42,12 +43,7 @@ pub fn i32_at(s: &[u8], at: usize) -> i32
     requires { ⌜ at + 4 ≤ length (now s) ⌝ }
     ensures { λ r. ⌜ r ≡ toZ w32 (be 4 (now (s .entry)) at) ⌝ }
 {
-    let v = u32_at(s, at);
-    if v < 2147483648 {
-        v as i32
-    } else {
-        -1 - ((4294967295 - v) as i32)
-    }
+    complement::signed_of(u32_at(s, at))
 }
 
 // The signed number, two's complement, in eight bytes at a place.

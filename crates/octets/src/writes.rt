@@ -4,6 +4,7 @@ ghost use lib.ListN.{length};
 ghost use mir.Syntax.{w32};
 ghost use mir.Val.{ofZ};
 ghost use Rattle.octets.specs.BigEndian.{bytesOf, laid};
+use super::complement;
 use super::lows;
 
 // Lays a byte at a place.
@@ -43,10 +44,5 @@ pub fn put_i32(s: &mut [u8], at: usize, v: i32)
     requires { ⌜ at + 4 ≤ length (now s) ⌝ }
     ensures { λ _. ⌜ now (s .exit) ≡ laid (now (s .entry)) at (bytesOf 4 (ofZ w32 v)) ⌝ }
 {
-    let bits = if v < 0 {
-        4294967295 - ((-1 - v) as u32)
-    } else {
-        v as u32
-    };
-    put_u32(s, at, bits);
+    put_u32(s, at, complement::pattern_of(v));
 }

@@ -8,17 +8,16 @@ use lib.IntN.{ℤ, _+ℤ_, natAbs}
 use lib.Signed.{leZ, mag}
 use borrow.Author.Tests.{ne-eqb, le-leb, lt-leb}
 use mir.Syntax.{Width, w32, w64}
-use mir.Val.{SFits, hbits, toZ, ofZ}
+use mir.Val.{SFits, toZ, ofZ}
 use Rattle.whole.proofs.SignLaws.{read, size-sum, size-fits, wide-is, wide-size}
 use Rattle.reading.specs.declared.Phases.{Phases}
 use Rattle.reading.specs.declared.Watts.{Watts}
 use Rattle.reading.specs.declared.Watts.the-variants.{Whole, Refused}
-use Rattle.reading.specs.declared.Measure.{Measure}
 use Rattle.reading.specs.declared.Measure.the-variants.{Chosen, RefusedBy}
 use Rattle.reading.specs.declared.Reading.{Reading}
 use Rattle.reading.specs.declared.Reading.the-variants.{Missing, Power}
 use Rattle.reading.specs.Conversion.{wattsOf}
-use Rattle.reading.specs.Choice.{largerOf, smallerOf, choiceOf, chosenOf, measureOf, measureNumber, usableOf, refusalOf}
+use Rattle.reading.specs.Choice.{largerOf, smallerOf, choiceOf, chosenOf, measureOf, usableOf, refusalOf}
 
 -- ---- the larger and the smaller, by the machine's test on what is read back
 module _ (w : Width) (a b : ℤ) (f : SFits w a) (g : SFits w b) where

@@ -13,7 +13,6 @@ use lib.Ieee.Exact.{HasValue, odd-sign}
 use lib.Pow.{pow-pos, field}
 use Rattle.whole.specs.Signed.{signed}
 use Rattle.whole.proofs.Choice.{by-test}
-use Rattle.reading.specs.declared.Watts.{Watts}
 use Rattle.reading.specs.declared.Watts.the-variants.{Whole, Refused}
 use Rattle.reading.specs.Conversion.{nearest, within, wattsOf, mostWatts}
 use Rattle.reading.proofs.NearestLaws.{nearest-same, nearest-high, nearest-middle, nearest-low}

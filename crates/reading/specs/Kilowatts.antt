@@ -1,4 +1,4 @@
--- "The kW is the watt count as a double divided by one thousand, rounded once."
+-- A watt count in kW (rule O4): as a double, divided by one thousand, rounded once.
 use lib.IntN.{ℤ, pos}
 use mathlib.Core.Bool.{false}
 use lib.Ieee.{Float, fin, binary64, div, ofInt}

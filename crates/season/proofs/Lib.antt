@@ -1,9 +1,5 @@
--- Laws about the definitions of `specs/`, for this crate's proofs and for those above it.
-pub mod LayLaws
-pub mod FleetLaws
-pub mod HeadLaws
-pub mod StepLaws
-pub mod LoadLaws
+-- Laws about the run and its answers.
 pub mod RunLaws
 pub mod AnswerLaws
+pub mod LoadLaws
 pub mod UsedLaws

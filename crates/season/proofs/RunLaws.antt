@@ -2,22 +2,23 @@
 -- Assumes nothing.
 use mathlib.Core.Path.{_≡_, refl, sym, ap, ap₂, _∙_, subst}
 use mathlib.Core.List.{List, [], _∷_, _++_, append-assoc}
-use Prim.Native.Nat.{ℕ, zero, suc, _+_, _-_, _*_, _≤_, _<_}
-use native.Mathlib.Nat.{zero-add, sub-zero, mul-suc, mul-le-mul-left}
+use Prim.Native.Nat.{ℕ, suc, _+_, _*_, _≤_, _<_}
+use native.Mathlib.Nat.{zero-add, mul-suc, mul-le-mul-left}
 use native.Mathlib.Numerals.{add-one}
 use native.Mathlib.Omega.{arith}
 use lib.IntN.{ℤ}
 use lib.ListN.{length}
 use Rattle.octets.specs.BigEndian.{laid}
 use Rattle.octets.proofs.LaidLaws.{laid-length}
-use Rattle.reading.specs.declared.Reading.{Reading}
-use Rattle.stick.specs.Check.{past}
-use Rattle.stick.specs.Said.{unitsOf, readingsPlace, readingAt, readingsFrom, further, ReadingThere}
-use Rattle.season.specs.Records.{endOf}
-use Rattle.season.specs.Run.{Standing, standing, askedBy, after, recordsBy, resultFrom}
-use Rattle.season.specs.Posts.{Held, Readable}
-use Rattle.season.proofs.LayLaws.{behind, both, nothing, end-length}
-use Rattle.season.proofs.StepLaws.{records-length}
+use Rattle.site.specs.declared.Step.{Step}
+use Rattle.site.specs.Site.{Site, count}
+use Rattle.stick.specs.Posts.{StepThere, stepAt, stepPast, StepsAt}
+use Rattle.records.specs.Records.{endOf}
+use Rattle.records.proofs.LayLaws.{behind, both, nothing, end-length}
+use Rattle.fleet.specs.Step.{Standing, standing, askedBy, after, recordsBy, stepBytes}
+use Rattle.fleet.specs.Posts.{Held}
+use Rattle.fleet.proofs.StepLaws.{records-length}
+use Rattle.season.specs.Run.{resultFrom, neededBy}
 
 -- a step's records fit where those of all steps do
 fits-one : (p k c n : ℕ) → k < c → p * c + 7 ≤ n → p * k + p ≤ n
@@ -26,64 +27,60 @@ fits-one p k c n h f =
     let l : p * suc k ≤ p * c = mul-le-mul-left p h in
     omega arith
 
-pub by-length : (file : List ℕ) (step : ℕ) (st : Standing) (r : Reading) → length (recordsBy file step st r) ≡ 40 * unitsOf file
+pub by-length : (site : Site) (k : ℕ) (st : Standing) (s : Step) → length (recordsBy site k st s) ≡ stepBytes site
 unfolding recordsBy
-by-length file step st r = records-length (unitsOf file) file step (st .stored) (askedBy file (st .stored) (st .requests) r)
+by-length site k st s = records-length (count site) site k (st .stored) (askedBy site (st .stored) (st .requests) (s .reading))
 
--- ---- where the run stands between two steps: its reading's place, and what each unit holds and is asked
-module _ (file : List ℕ) (count : ℕ) where
-  pub record Walking (stored : List ℕ) (rs : List ℤ) (place k : ℕ) : Type 0 where
-    pub upto : k ≤ count
-    pub place-is : place ≡ further k file (readingsPlace file)
-    pub held : Held file stored rs
+-- the result from a step on is as long as what is needed
+pub from-length : (site : Site) (k : ℕ) (st : Standing) (ss : List Step) → length (resultFrom site k st ss) ≡ neededBy site (length ss)
+unfolding resultFrom
+from-length site k st [] = let e = end-length k in omega arith
+from-length site k st (s ∷ ss) =
+    let p = stepBytes site in
+    let rest = p * length ss + 7 in
+    let e : p * suc (length ss) ≡ p * length ss + p = mul-suc p (length ss) in
+    both (recordsBy site k st s) (resultFrom site (suc k) (after site st s) ss) p rest (by-length site k st s) (from-length site (suc k) (after site st s) ss)
+    ∙ omega arith
 
-  pub walk-none : (stored : List ℕ) (rs : List ℤ) → Held file stored rs → Walking stored rs (readingsPlace file) 0
-  unfolding further
-  walk-none stored rs st = record { upto = omega arith; place-is = refl; held = st }
-
-  module _ (stored : List ℕ) (rs : List ℤ) (place k : ℕ) (w : Walking stored rs place k) (h : k < count) where
-    -- the next reading is there
-    pub walk-there : Readable file count → ReadingThere file place
-    walk-there rd = subst (ReadingThere file) (sym (w .place-is)) (rd .each k h)
-
-    pub walk-next : (then-stored : List ℕ) (then-rs : List ℤ) (then-place : ℕ) → Held file then-stored then-rs → then-place ≡ past file place
-        → Walking then-stored then-rs then-place (k + 1)
-    unfolding further
-    walk-next then-stored then-rs then-place st ep = record {
-      upto = omega arith;
-      place-is = ep ∙ ap (past file) (w .place-is) ∙ ap (λ (n : ℕ). further n file (readingsPlace file)) (sym (add-one k));
-      held = st;
-    }
-
--- ---- what the loop has laid
-module _ (file : List ℕ) (count : ℕ) (first : Standing) (room : List ℕ) where
+-- ---- what the loop has laid, and what is still to come
+module _ (site : Site) (file : List ℕ) (steps : ℕ) (first : Standing) (all : List Step) (room : List ℕ) where
   -- what all steps write
   abbrev pub written : List ℕ
-  written = resultFrom file 0 first (readingsFrom count file (readingsPlace file))
+  written = resultFrom site 0 first all
 
   pub record Running (stored : List ℕ) (rs : List ℤ) (now-room : List ℕ) (place at k : ℕ) : Type 0 where
-    pub walking : Walking file count stored rs place k
-    pub at-is : at ≡ 40 * unitsOf file * k
+    pub left : List Step
+    pub there : StepsAt file place left
+    pub counted : k + length left ≡ steps
+    pub held : Held site stored rs
+    pub at-is : at ≡ stepBytes site * k
     pub done : List ℕ
     pub length-is : length done ≡ at
     pub room-is : now-room ≡ laid room 0 done
-    pub rest : done ++ resultFrom file k (standing stored rs) (readingsFrom (count - k) file place) ≡ written
+    pub rest : done ++ resultFrom site k (standing stored rs) left ≡ written
 
   -- before the first step
-  pub none-run : (stored : List ℕ) (rs : List ℤ) → standing stored rs ≡ first → Held file stored rs → Running stored rs room (readingsPlace file) 0 0
-  none-run stored rs e st = record {
-    walking = walk-none file count stored rs st;
+  pub none-run : (stored : List ℕ) (rs : List ℤ) (place : ℕ) → standing stored rs ≡ first → Held site stored rs → StepsAt file place all → length all ≡ steps
+      → Running stored rs room place 0 0
+  none-run stored rs place e st sa n = record {
+    left = all;
+    there = sa;
+    counted = zero-add (length all) ∙ n;
+    held = st;
     at-is = omega arith;
     done = [];
     length-is = refl;
     room-is = nothing room 0;
-    rest = ap₂ (λ (s : Standing) (n : ℕ). resultFrom file 0 s (readingsFrom n file (readingsPlace file))) e (sub-zero count);
+    rest = ap (λ (s : Standing). resultFrom site 0 s all) e;
   }
 
-  module _ (fits : 40 * unitsOf file * count + 7 ≤ length room) (stored : List ℕ) (rs : List ℤ) (now-room : List ℕ) (place at k : ℕ) (w : Running stored rs now-room place at k) where
+  module _ (fits : neededBy site steps ≤ length room) (stored : List ℕ) (rs : List ℤ) (now-room : List ℕ) (place at k : ℕ) (w : Running stored rs now-room place at k) where
+    pub upto : k ≤ steps
+    upto = let e = w .counted in omega arith
+
     most : at + 7 ≤ length room
     most =
-        let l : 40 * unitsOf file * k ≤ 40 * unitsOf file * count = mul-le-mul-left (40 * unitsOf file) (w .walking .upto) in
+        let l : stepBytes site * k ≤ stepBytes site * steps = mul-le-mul-left (stepBytes site) upto in
         let e = w .at-is in
         omega arith
 
@@ -94,9 +91,9 @@ module _ (file : List ℕ) (count : ℕ) (first : Standing) (room : List ℕ) wh
     pub end-fits : at + 7 ≤ length now-room
     end-fits = subst (λ (n : ℕ). at + 7 ≤ n) (sym run-length) most
 
-    pub step-fits : k < count → at + 40 * unitsOf file ≤ length now-room
+    pub step-fits : k < steps → at + stepBytes site ≤ length now-room
     step-fits h =
-        let l : 40 * unitsOf file * k + 40 * unitsOf file ≤ length room = fits-one (40 * unitsOf file) k count (length room) h fits in
+        let l : stepBytes site * k + stepBytes site ≤ length room = fits-one (stepBytes site) k steps (length room) h fits in
         let e = w .at-is in
         let m = run-length in
         omega arith
@@ -106,43 +103,56 @@ module _ (file : List ℕ) (count : ℕ) (first : Standing) (room : List ℕ) wh
     more b then-room e =
         behind room 0 (omega arith) (w .done) b at (w .length-is) now-room then-room (w .room-is) (e ∙ ap (λ (n : ℕ). laid now-room n b) (sym (zero-add at)))
 
+    -- the next step is there
+    pub step-there : k < steps → StepThere file place
+    unfolding StepsAt
+    step-there h = go (w .left) (w .there) (w .counted)
+      where
+        go : (l : List Step) → StepsAt file place l → k + length l ≡ steps → StepThere file place
+        go [] sa n = absurd (omega (arith, h, n))
+        go (s ∷ ss) sa n = sa .0
+
     -- one step more
-    pub next-run : (r : Reading) (then-stored : List ℕ) (then-rs : List ℤ) (then-room : List ℕ) (size then-place : ℕ) → k < count → r ≡ readingAt file place
-        → standing then-stored then-rs ≡ after file (standing stored rs) r → then-room ≡ laid now-room at (recordsBy file k (standing stored rs) r) → Held file then-stored then-rs
-        → size ≡ 40 * unitsOf file → then-place ≡ past file place → Running then-stored then-rs then-room then-place (at + size) (k + 1)
-    unfolding resultFrom readingsFrom
-    next-run r then-stored then-rs then-room size then-place h er es em st ez ep =
-        let b = recordsBy file k (standing stored rs) r in
-        let l : length b ≡ 40 * unitsOf file = by-length file k (standing stored rs) r in
-        let left = count - (k + 1) in
-        let ek : count - k ≡ suc left = omega arith in
-        let es′ : after file (standing stored rs) (readingAt file place) ≡ standing then-stored then-rs = ap (after file (standing stored rs)) (sym er) ∙ sym es in
-        let tail = resultFrom file (k + 1) (standing then-stored then-rs) (readingsFrom left file then-place) in
-        let now : resultFrom file k (standing stored rs) (readingsFrom (count - k) file place) ≡ b ++ tail =
-        ap (λ (n : ℕ). resultFrom file k (standing stored rs) (readingsFrom n file place)) ek
-        ∙ ap₂ _++_ (ap (recordsBy file k (standing stored rs)) (sym er))
-        (ap (λ (s : Standing). resultFrom file (suc k) s (readingsFrom left file (past file place))) es′
-        ∙ ap₂ (λ (n p : ℕ). resultFrom file n (standing then-stored then-rs) (readingsFrom left file p)) (sym (add-one k)) (sym ep)) in
-        record {
-          walking = walk-next file count stored rs place k (w .walking) h then-stored then-rs then-place st ep;
-          at-is =
-              let a = w .at-is in
-              let e : 40 * unitsOf file * suc k ≡ 40 * unitsOf file * k + 40 * unitsOf file = mul-suc (40 * unitsOf file) k in
-              let f : 40 * unitsOf file * (k + 1) ≡ 40 * unitsOf file * suc k = ap (λ (n : ℕ). 40 * unitsOf file * n) (add-one k) in
-              omega arith;
-          done = w .done ++ b;
-          length-is = both (w .done) b at size (w .length-is) (l ∙ sym ez);
-          room-is = more b then-room em;
-          rest = append-assoc (w .done) b tail ∙ ap (λ (t : List ℕ). w .done ++ t) (sym now) ∙ w .rest;
-        }
+    pub next-run : (s : Step) (then-stored : List ℕ) (then-rs : List ℤ) (then-room : List ℕ) (size then-place : ℕ) → k < steps → s ≡ stepAt file place
+        → standing then-stored then-rs ≡ after site (standing stored rs) s → then-room ≡ laid now-room at (recordsBy site k (standing stored rs) s) → Held site then-stored then-rs
+        → size ≡ stepBytes site → then-place ≡ stepPast file place → Running then-stored then-rs then-room then-place (at + size) (k + 1)
+    unfolding StepsAt resultFrom
+    next-run s then-stored then-rs then-room size then-place h es en em st ez ep = go (w .left) (w .there) (w .counted) (w .rest)
+      where
+        b : List ℕ
+        b = recordsBy site k (standing stored rs) s
+
+        go : (l : List Step) → StepsAt file place l → k + length l ≡ steps → w .done ++ resultFrom site k (standing stored rs) l ≡ written
+            → Running then-stored then-rs then-room then-place (at + size) (k + 1)
+        go [] sa n r = absurd (omega (arith, h, n))
+        go (x ∷ xs) sa n r =
+            let same : s ≡ x = es ∙ sa .1 .0 in
+            let l : length b ≡ stepBytes site = by-length site k (standing stored rs) s in
+            let tail = resultFrom site (k + 1) (standing then-stored then-rs) xs in
+            let now : resultFrom site k (standing stored rs) (x ∷ xs) ≡ b ++ tail =
+            ap (λ (y : Step). resultFrom site k (standing stored rs) (y ∷ xs)) (sym same)
+            ∙ ap (λ (t : List ℕ). b ++ t) (ap₂ (λ (m : ℕ) (y : Standing). resultFrom site m y xs) (sym (add-one k)) (sym en)) in
+            record {
+              left = xs;
+              there = subst (λ (p : ℕ). StepsAt file p xs) (sym ep) (sa .1 .1);
+              counted = let c : k + suc (length xs) ≡ steps = n in omega (arith, c);
+              held = st;
+              at-is =
+                  let a = w .at-is in
+                  let e : stepBytes site * suc k ≡ stepBytes site * k + stepBytes site = mul-suc (stepBytes site) k in
+                  let f : stepBytes site * (k + 1) ≡ stepBytes site * suc k = ap (λ (m : ℕ). stepBytes site * m) (add-one k) in
+                  omega (arith, a, e, f, ez);
+              done = w .done ++ b;
+              length-is = both (w .done) b at size (w .length-is) (l ∙ sym ez);
+              room-is = more b then-room em;
+              rest = append-assoc (w .done) b tail ∙ ap (λ (t : List ℕ). w .done ++ t) (sym now) ∙ r;
+            }
 
     -- the end record behind the last step's
-    pub all-run : (then-room : List ℕ) → k ≡ count → then-room ≡ laid now-room at (endOf count) → then-room ≡ laid room 0 written
-    unfolding resultFrom readingsFrom
-    all-run then-room e em =
-        let ek : count - k ≡ 0 = omega arith in
-        more (endOf count) then-room em
-        ∙ ap (laid room 0)
-        (ap (λ (n : ℕ). w .done ++ endOf n) (sym e)
-        ∙ sym (ap (λ (n : ℕ). w .done ++ resultFrom file k (standing stored rs) (readingsFrom n file place)) ek)
-        ∙ w .rest)
+    pub all-run : (then-room : List ℕ) → k ≡ steps → then-room ≡ laid now-room at (endOf steps) → then-room ≡ laid room 0 written
+    unfolding resultFrom
+    all-run then-room e em = go (w .left) (w .counted) (w .rest)
+      where
+        go : (l : List Step) → k + length l ≡ steps → w .done ++ resultFrom site k (standing stored rs) l ≡ written → then-room ≡ laid room 0 written
+        go [] n r = more (endOf steps) then-room em ∙ ap (laid room 0) (ap (λ (m : ℕ). w .done ++ endOf m) (sym e) ∙ r)
+        go (x ∷ xs) n r = absurd (let c : k + suc (length xs) ≡ steps = n in omega (arith, c, e))

@@ -1,26 +1,26 @@
--- What a run answers for any bytes and any room, and what the room holds afterwards: the check's refusal, or 11 where the room is shorter than the
--- result, and then the room as it was; or the result, followed by what the room held past it.
-use Prim.Native.Nat.{ℕ, _+_, _*_}
-use mathlib.Core.Bool.{Bool, cond}
+-- What a run answers for any bytes and any room, and what the room holds afterwards (rules N14, N16, N17 and O6): the check's refusal, or 11 where the
+-- room is shorter than the result, and then the room as it was; or the result, followed by what the room held past it.
+use Prim.Native.Nat.{ℕ}
+use mathlib.Core.Bool.{cond}
 use mathlib.Core.List.{List, _++_}
 use lib.Dec.{ltb, eqb}
 use lib.ListN.{length, drop}
 use Rattle.stick.specs.declared.Answer.{Answer}
 use Rattle.stick.specs.Check.{answer, checkOf}
-use Rattle.stick.specs.Said.{unitsOf}
-use Rattle.season.specs.Run.{resultOf}
+use Rattle.stick.specs.Site.{siteOf, stepsOf}
+use Rattle.season.specs.Run.{resultOf, neededBy}
 
--- "Room needed is 40 x units x steps + 7"
+-- the bytes of a file's result
 unfoldable pub needed : List ℕ → ℕ
-unfolding checkOf unitsOf
-needed file = 40 * unitsOf file * checkOf file .steps + 7
+unfolding siteOf stepsOf
+needed file = neededBy (siteOf file) (length (stepsOf file))
 
 -- what the room is asked: nothing for a file that the check refuses
 unfoldable pub roomOf : List ℕ → ℕ
 unfolding checkOf needed
 roomOf file = cond (eqb (checkOf file .number) 0) (needed file) 0
 
--- "Number 11 comes after the whole file is accepted." "For 11 the place is the file's length and all steps count."
+-- 11 comes after the whole file is accepted; its place is the file's length, and all steps count
 unfoldable pub runAnswer : List ℕ → ℕ → Answer
 unfolding checkOf needed
 runAnswer file room =

@@ -1,5 +1,4 @@
--- The season: the run over an accepted file, step by step, and the result's bytes.
-pub mod Records
+-- The run of a file, and what it answers for any bytes and any room.
 pub mod Run
 pub mod Answers
 pub mod Posts

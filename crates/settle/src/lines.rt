@@ -1,9 +1,10 @@
 ghost use Prim.Native.Nat.{_≤_};
 ghost use lib.ListN.{length};
+ghost use Rattle.stick.specs.Posts.{Accepted};
 use super::sums;
-use controller::Studied;
 use libc::STDERR_FILENO;
 use libc::STDOUT_FILENO;
+use settling::Studied;
 
 // A text on standard output.
 fn text(s: &[u8]) {
@@ -49,12 +50,15 @@ fn unit(i: usize, request: i32, rating: u32) {
     text(b"\n");
 }
 
-// A line for each unit.
-pub fn units(requests: &[i32], rating: &[u32]) {
+// A line for each unit of an accepted file.
+pub fn units(file: &[u8], requests: &[i32])
+    requires { ⌜ Accepted (now file) ⌝ }
+{
     text(b"unit\trequest W\trating W\n");
+    let n = stick::units(file);
     let mut i = 0;
-    while i < requests.len() && i < rating.len() {
-        unit(i, requests[i], rating[i]);
+    while i < requests.len() && i < n {
+        unit(i, requests[i], stick::unit(file, i).rating);
         i += 1;
     }
 }
@@ -63,7 +67,7 @@ pub fn units(requests: &[i32], rating: &[u32]) {
 pub fn left(load: u32, target: i32, band: u32, requests: &[i32])
     requires { ⌜ length (now requests) ≤ 64 ⌝ }
 {
-    let sum = sums::asked(requests);
+    let sum = controller::asked_of(requests).sum;
     let left = sums::minus(load as i64, sum);
     let off = whole::size64(sums::minus(left, target as i64));
     text(b"sum of requests ");

@@ -1,6 +1,5 @@
--- The run file: its fields, what each says, and the check of any bytes.
+-- The run file: its fields, the check of any bytes, and what an accepted file says: a site and its steps.
 pub mod Fields
 pub mod Check
+pub mod Site
 pub mod Posts
-pub mod Parts
-pub mod Said

@@ -16,14 +16,10 @@ use Rattle.whole.proofs.LargestLaws.{largest-le, largest-tops, largest-passes, 
 use Rattle.whole.proofs.SignLaws.{read}
 use Rattle.whole.specs.Largest.{legOf}
 use Rattle.whole.specs.Signed.{negative, signed}
-use Rattle.storage.proofs.RangeLaws.{Bounds}
+use Rattle.unit.proofs.RangeLaws.{Bounds}
 use Rattle.storage.proofs.EnergyLaws.{removed-test, added-test, added-none, drawn-none, drawable-most}
-use Rattle.storage.specs.declared.Unit.{Unit}
+use Rattle.unit.specs.declared.Unit.{Unit}
 use Rattle.storage.specs.Step.{heldSize, varsOf, removedBy, addedBy, deliverable, takeable}
-
--- ---- the size of a number that was read back from its bits
-pub sized : (z : ℤ) (n : ℕ) → mag z < 2 ^ 31 → n ≡ natAbs (toZ w32 (ofZ w32 z)) → n ≡ natAbs z
-sized z n h e = e ∙ ap natAbs (read w32 z h)
 
 -- ---- the held request
 module _ (u : Unit) (request : ℤ) where

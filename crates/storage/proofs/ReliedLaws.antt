@@ -11,14 +11,14 @@ use Rattle.whole.proofs.LargestLaws.{square-le, leg-in}
 use Rattle.whole.proofs.SignLaws.{size-signed, size-neg}
 use Rattle.whole.specs.Largest.{legOf}
 use Rattle.whole.specs.Signed.{negative}
-use Rattle.storage.proofs.RangeLaws.{Bounds}
+use Rattle.unit.proofs.RangeLaws.{Bounds}
 use Rattle.storage.proofs.StepLaws.{Able, removal-covers, addition-covered}
-use Rattle.storage.specs.declared.Unit.{Unit}
+use Rattle.unit.specs.declared.Unit.{Unit}
 use Rattle.storage.specs.declared.Flow.{Flow}
 use Rattle.storage.specs.declared.Flow.the-variants.{Out, In, Idle}
-use Rattle.storage.specs.Ranges.{idleDraw}
+use Rattle.unit.specs.Ranges.{idleDraw}
 use Rattle.storage.specs.Relied.{Conserved}
-use Rattle.storage.specs.Step.{removedBy, addedBy, wattsOf, storedOf, lossOf, varsOf, outcomeOf}
+use Rattle.storage.specs.Step.{removedBy, addedBy, gridWatts, storedOf, lossOf, varsOf, outcomeOf}
 
 -- ---- the vars leave the watts in the circle
 pub vars-in-circle : (u : Unit) (watts : ℤ) → natAbs watts ≤ u .kva
@@ -62,8 +62,8 @@ module _ (u : Unit) (seconds p : ℕ) where
     never-above (In x) a = omega arith
     never-above Idle a = omega arith
 
-    pub watts-le : p ≤ u .kva → (f : Flow) → Able u seconds p f → natAbs (wattsOf u f) ≤ u .kva
-    unfolding wattsOf
+    pub watts-le : p ≤ u .kva → (f : Flow) → Able u seconds p f → natAbs (gridWatts u f) ≤ u .kva
+    unfolding gridWatts
     watts-le h (Out x) a = le-trans (a .0) h
     watts-le h (In x) a = draw-size x (u .kva) (le-trans (a .0) h)
     watts-le h Idle a = draw-size (idleDraw u) (u .kva) (b .draw-most)
@@ -73,11 +73,11 @@ module _ (u : Unit) (seconds p : ℕ) where
     conserves (Out x) a = let l : x * seconds ≤ removedBy u seconds x = removal-covers u seconds x b in omega arith
     conserves (In x) a =
         let l : addedBy u seconds x ≤ x * seconds = addition-covered u seconds x b in
-        drawn seconds (u .stored) x (varsOf u (wattsOf u (In x))) (storedOf u seconds (In x)) (lossOf u seconds (In x)) (omega arith)
-    conserves Idle a = drawn seconds (u .stored) (idleDraw u) (varsOf u (wattsOf u Idle)) (u .stored) (lossOf u seconds Idle) refl
+        drawn seconds (u .stored) x (varsOf u (gridWatts u (In x))) (storedOf u seconds (In x)) (lossOf u seconds (In x)) (omega arith)
+    conserves Idle a = drawn seconds (u .stored) (idleDraw u) (varsOf u (gridWatts u Idle)) (u .stored) (lossOf u seconds Idle) refl
 
-  pub no-more : (n : ℕ) → p ≤ n → (f : Flow) → Able u seconds p f → wattsOf u f ≤ℤ pos n
-  unfolding wattsOf
+  pub no-more : (n : ℕ) → p ≤ n → (f : Flow) → Able u seconds p f → gridWatts u f ≤ℤ pos n
+  unfolding gridWatts
   no-more n h (Out x) a = record { le = le→leb x n (le-trans (a .0) h) }
   no-more n h (In x) a = draw-below x n
   no-more n h Idle a = draw-below (idleDraw u) n

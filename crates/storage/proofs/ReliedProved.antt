@@ -5,14 +5,14 @@ use mathlib.Core.Bool.{true}
 use Prim.Native.Nat.{ℕ}
 use native.Mathlib.Nat.{le-trans, le-of-eq}
 use lib.IntN.{ℤ, natAbs}
-use Rattle.storage.proofs.RangeLaws.{bounds}
+use Rattle.unit.proofs.RangeLaws.{bounds}
 use Rattle.storage.proofs.LimitLaws.{held-most}
 use Rattle.storage.proofs.StepLaws.{flow-able}
 use Rattle.storage.proofs.ReliedLaws.{vars-in-circle, no-more, watts-le, stays, never-above, conserves}
-use Rattle.storage.specs.declared.Unit.{Unit}
-use Rattle.storage.specs.Ranges.{unitIn, secondsIn}
+use Rattle.unit.specs.declared.Unit.{Unit}
+use Rattle.unit.specs.Ranges.{unitIn, secondsIn}
 use Rattle.storage.specs.Relied.{Relied}
-use Rattle.storage.specs.Step.{heldSize, flowOf, wattsOf, stepOf}
+use Rattle.storage.specs.Step.{heldSize, flowOf, gridWatts, stepOf}
 
 pub relied : (u : Unit) (seconds : ℕ) (request : ℤ) → unitIn u ≡ true → secondsIn seconds ≡ true → Relied u seconds request
 unfolding stepOf
@@ -25,7 +25,7 @@ relied u seconds request e t =
     record {
       staysWithin = λ r. (stays u seconds p b r f a, never-above u seconds p b f a);
       neverAboveRated = never-above u seconds p b f a;
-      inCircle = vars-in-circle u (wattsOf u f) (watts-le u seconds p b rated f a);
+      inCircle = vars-in-circle u (gridWatts u f) (watts-le u seconds p b rated f a);
       conserved = conserves u seconds p b f a;
       noMoreThanAsked = λ x q. no-more u seconds p x (le-trans asked (le-of-eq (ap natAbs q))) f a;
     }

@@ -15,18 +15,19 @@ use Rattle.whole.proofs.OverLaws.{and-parts}
 use Rattle.whole.proofs.SignLaws.{read}
 use Rattle.whole.specs.Largest.{largest}
 use Rattle.whole.specs.Signed.{negative}
-use Rattle.storage.proofs.RangeLaws.{Bounds, bounds}
+use Rattle.unit.proofs.RangeLaws.{Bounds, bounds}
 use Rattle.storage.proofs.EnergyLaws.{energy-fits, removed-covers, added-covered}
 use Rattle.storage.proofs.LimitLaws.{held-read, held-most, deliverable-most, deliverable-within, takeable-most, takeable-within}
-use Rattle.storage.specs.declared.Unit.{Unit}
+use Rattle.unit.specs.declared.Unit.{Unit}
 use Rattle.storage.specs.declared.Flow.{Flow}
 use Rattle.storage.specs.declared.Flow.the-variants.{Out, In, Idle}
 use Rattle.storage.specs.declared.Move.{Move}
 use Rattle.storage.specs.declared.Outcome.{Outcome}
 use Rattle.storage.specs.declared.Stepped.the-variants.{Done, RefusedBy}
-use Rattle.storage.specs.Ranges.{idleDraw, unitIn, secondsIn, stepRefusal}
-use Rattle.storage.specs.Posts.{Ranged, Carried, Moving, movedBy, moveBy, idleVars, restOf}
-use Rattle.storage.specs.Step.{removedBy, addedBy, deliverable, takeable, heldSize, outFlow, discharged, charged, flowOf, wattsOf, varsOf, storedOf, lossOf, outcomeOf, stepOf, steppedOf}
+use Rattle.unit.specs.Ranges.{idleDraw, unitIn, secondsIn, Ranged}
+use Rattle.storage.specs.Ranges.{stepRefusal}
+use Rattle.storage.specs.Posts.{Carried, Moving, movedBy, moveBy, idleVars, restOf}
+use Rattle.storage.specs.Step.{removedBy, addedBy, deliverable, takeable, heldSize, outFlow, discharged, charged, flowOf, gridWatts, varsOf, storedOf, lossOf, outcomeOf, stepOf, steppedOf}
 
 -- ---- what flows, case by case
 module _ (u : Unit) (s p : ℕ) where
@@ -173,7 +174,7 @@ module _ (u : Unit) (s : ℕ) (request : ℤ) (h : mag request < 2 ^ 31) (m : Mo
 
   -- a step is the outcome of its flow, each number as the code has it
   pub outcome-is : (watts vars : ℤ) → mag watts < 2 ^ 31 → mag vars < 2 ^ 31 → (stored loss : ℕ)
-      → watts ≡ wattsOf u (m .flow) → vars ≡ varsOf u (toZ w32 (ofZ w32 watts)) → stored ≡ storedOf u s (m .flow) → loss ≡ lossOf u s (m .flow)
+      → watts ≡ gridWatts u (m .flow) → vars ≡ varsOf u (toZ w32 (ofZ w32 watts)) → stored ≡ storedOf u s (m .flow) → loss ≡ lossOf u s (m .flow)
       → _≡_ {A = Outcome} (record { watts = toZ w32 (ofZ w32 watts); vars = toZ w32 (ofZ w32 vars); stored = stored; loss = loss }) (stepOf u s request)
   unfolding stepOf outcomeOf
   outcome-is watts vars hw hv stored loss ew ev es el =
@@ -207,9 +208,9 @@ module _ {u : Unit} {s : ℕ} {flow : Flow} {moved : ℕ} (m : Moving u s flow m
     pub out-fits : x * s < 2 ^ 64
     out-fits = energy-fits x s out-small (bounds (m .ranged) .seconds-most)
 
-    pub out-watts : pos x ≡ wattsOf u flow
-    unfolding wattsOf
-    out-watts = sym (ap (wattsOf u) e)
+    pub out-watts : pos x ≡ gridWatts u flow
+    unfolding gridWatts
+    out-watts = sym (ap (gridWatts u) e)
 
     pub out-stored : u .stored - moved ≡ storedOf u s flow
     unfolding storedOf
@@ -242,9 +243,9 @@ module _ {u : Unit} {s : ℕ} {flow : Flow} {moved : ℕ} (m : Moving u s flow m
     pub in-fits : x * s < 2 ^ 64
     in-fits = energy-fits x s in-small (bounds (m .ranged) .seconds-most)
 
-    pub in-watts : negℤ (pos x) ≡ wattsOf u flow
-    unfolding wattsOf
-    in-watts = sym (ap (wattsOf u) e)
+    pub in-watts : negℤ (pos x) ≡ gridWatts u flow
+    unfolding gridWatts
+    in-watts = sym (ap (gridWatts u) e)
 
     pub in-stored : u .stored + moved ≡ storedOf u s flow
     unfolding storedOf
@@ -267,9 +268,9 @@ module _ {u : Unit} {s : ℕ} {flow : Flow} {moved : ℕ} (m : Moving u s flow m
     pub idle-fits : moved * s < 2 ^ 64
     idle-fits = energy-fits moved s idle-small (bounds (m .ranged) .seconds-most)
 
-    pub idle-watts : negℤ (pos moved) ≡ wattsOf u flow
-    unfolding wattsOf
-    idle-watts = ap (λ (n : ℕ). negℤ (pos n)) idle-moved ∙ sym (ap (wattsOf u) e)
+    pub idle-watts : negℤ (pos moved) ≡ gridWatts u flow
+    unfolding gridWatts
+    idle-watts = ap (λ (n : ℕ). negℤ (pos n)) idle-moved ∙ sym (ap (gridWatts u) e)
 
     pub idle-stored : u .stored ≡ storedOf u s flow
     unfolding storedOf
@@ -288,7 +289,7 @@ module _ (u : Unit) (s : ℕ) where
       sym (discharged-nothing u s (heldSize u (pos 0)) (omega arith) ∙ flow-out u s (pos 0) refl)
 
   idle-outcome : outcomeOf u s Idle ≡ restOf (idleDraw u) (idleVars u) (u .stored) s
-  unfolding outcomeOf wattsOf storedOf lossOf
+  unfolding outcomeOf gridWatts storedOf lossOf
   idle-outcome = refl
 
   pub idle-step : stepOf u s (pos 0) ≡ restOf (idleDraw u) (idleVars u) (u .stored) s
@@ -306,7 +307,7 @@ idle-vars-most u h = let b : Bounds u 1 = bounds (record { unit = h; seconds-in 
 
 pub idle-vars-are : (u : Unit) (n : ℕ) → n ≡ idleDraw u → (watts vars : ℤ) → mag watts < 2 ^ 31 → mag vars < 2 ^ 31 → watts ≡ negℤ (pos n)
     → vars ≡ varsOf u (toZ w32 (ofZ w32 watts)) → toZ w32 (ofZ w32 vars) ≡ idleVars u
-unfolding wattsOf
+unfolding gridWatts
 idle-vars-are u n e watts vars hw hv ew ev =
     read w32 vars hv ∙ ev ∙ ap (varsOf u) (read w32 watts hw ∙ ew ∙ ap (λ (k : ℕ). negℤ (pos k)) e)
 

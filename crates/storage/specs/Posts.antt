@@ -1,20 +1,17 @@
--- The parts of contracts by name: what the code of a step may count on.
-use Prim.Native.Nat.{ℕ, _-_, _*_, _≤_}
+-- Nobody has to believe this file: the parts of contracts by name, and what the code of a step may count on.
+use Prim.Native.Nat.{ℕ, _-_, _*_, _≤_, _<_}
+use mathlib.Core.List.{List, []}
+use lib.ListN.{length, getD}
 use lib.IntN.{ℤ, pos, negℤ}
-use mathlib.Core.Bool.{true}
 use mathlib.Core.Path.{_≡_}
-use Rattle.storage.specs.declared.Unit.{Unit}
+use Rattle.unit.specs.declared.Unit.{Unit}
 use Rattle.storage.specs.declared.Flow.{Flow}
 use Rattle.storage.specs.declared.Flow.the-variants.{Out, In, Idle}
 use Rattle.storage.specs.declared.Move.{Move}
 use Rattle.storage.specs.declared.Outcome.{Outcome}
-use Rattle.storage.specs.Ranges.{idleDraw, unitIn, secondsIn}
-use Rattle.storage.specs.Step.{removedBy, addedBy, wattsOf, varsOf}
-
--- a unit and a step length in their ranges
-pub record Ranged (u : Unit) (seconds : ℕ) : Type 0 where
-  pub unit : unitIn u ≡ true
-  pub seconds-in : secondsIn seconds ≡ true
+use Rattle.unit.specs.Ranges.{idleDraw, Ranged}
+use Rattle.unit.specs.Rows.{unitBy, drawBy, varsBy}
+use Rattle.storage.specs.Step.{removedBy, addedBy, gridWatts, varsOf}
 
 -- a flow that the unit can carry: at most S, and no more than the store holds above 0 or has room for
 abbrev pub Carried : Unit → ℕ → Flow → Type 0
@@ -40,8 +37,18 @@ pub record Moving (u : Unit) (seconds : ℕ) (flow : Flow) (moved : ℕ) : Type 
 
 -- the vars of a unit that idles
 abbrev pub idleVars : Unit → ℤ
-idleVars u = varsOf u (wattsOf u Idle)
+idleVars u = varsOf u (gridWatts u Idle)
 
 -- what a step gives where the unit idles, by what it draws and its vars then
 abbrev pub restOf : ℕ → ℤ → ℕ → ℕ → Outcome
 restOf draw vars held seconds = record { watts = negℤ (pos draw); vars = vars; stored = held; loss = draw * seconds }
+
+-- ---- rows of units, with what each draws while it idles and its vars then
+pub record RowOf (u : Unit) (row : List ℕ) : Type 0 where
+  pub unit-is : unitBy row ≡ u
+  pub draw-is : drawBy row ≡ idleDraw u
+  pub vars-is : varsBy row ≡ idleVars u
+
+pub record Rested (rows : List (List ℕ)) : Type 0 where
+  pub draws : (i : ℕ) → i < length rows → drawBy (getD rows i []) ≡ idleDraw (unitBy (getD rows i []))
+  pub still : (i : ℕ) → i < length rows → varsBy (getD rows i []) ≡ idleVars (unitBy (getD rows i []))

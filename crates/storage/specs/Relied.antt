@@ -1,12 +1,10 @@
--- What a planner relies on, of the definition of a step: for a unit in its ranges, a step length in its range and any request.
+-- What a planner relies on (rules U13 to U16), of the definition of a step: for a unit in its ranges, a step length in its range and any request.
 use Prim.Native.Nat.{ℕ, _+_, _*_, _≤_}
-use mathlib.Core.Bool.{true}
 use mathlib.Core.Path.{_≡_}
-use lib.IntN.{ℤ, pos, negsuc, negℤ, natAbs}
+use lib.IntN.{ℤ, pos, negsuc, natAbs}
 use lib.Signed.{_≤ℤ_}
-use Rattle.storage.specs.declared.Unit.{Unit}
+use Rattle.unit.specs.declared.Unit.{Unit}
 use Rattle.storage.specs.declared.Outcome.{Outcome}
-use Rattle.storage.specs.Ranges.{unitIn, secondsIn}
 use Rattle.storage.specs.Step.{stepOf}
 
 -- energy is conserved to the joule: what leaves the store is what is delivered and the loss; what is drawn is what is stored and the loss

@@ -1,9 +1,8 @@
 ghost use mathlib.Core.Path.{_≡_};
 ghost use Prim.Native.Nat.{_≤_};
 ghost use Rattle.storage.specs.Step.{removedBy, addedBy, deliverable, takeable};
-ghost use Rattle.storage.specs.Posts.{Ranged};
-use super::Unit;
-use super::limits;
+ghost use Rattle.unit.specs.Ranges.{Ranged};
+use unit::Unit;
 
 // The joules that delivering p watts removes from the store.
 pub fn removed(u: Unit, seconds: u32, p: u64) -> u64
@@ -11,8 +10,8 @@ pub fn removed(u: Unit, seconds: u32, p: u64) -> u64
     requires { ⌜ p ≤ 100000000 ⌝ }
     ensures { λ r. ⌜ r ≡ removedBy u seconds p ⌝ }
 {
-    let d = whole::up(p * 10000, u.inverter as u64);
-    whole::up(
+    let d = whole::ceil(p * 10000, u.inverter as u64);
+    whole::ceil(
         (d + (u.idle_loss as u64)) * (seconds as u64) * 10000,
         u.discharge as u64,
     )
@@ -48,7 +47,7 @@ pub fn deliver(u: Unit, seconds: u32, p: u64) -> u64
     if drawn < idle {
         return 0;
     }
-    limits::least64(p, (drawn - idle) * (u.inverter as u64) / 10000)
+    whole::least64(p, (drawn - idle) * (u.inverter as u64) / 10000)
 }
 
 // The largest watt count up to p whose addition the room below the rated energy allows; by
@@ -60,5 +59,5 @@ pub fn take_in(u: Unit, seconds: u32, p: u64) -> u64
     let room = u.rated - u.stored;
     let kept = ((room + 1) * 10000 - 1) / ((seconds as u64) * (u.charge as u64));
     let d = kept + (u.idle_loss as u64);
-    limits::least64(p, ((d + 1) * 10000 - 1) / (u.inverter as u64))
+    whole::least64(p, ((d + 1) * 10000 - 1) / (u.inverter as u64))
 }

@@ -1,14 +1,14 @@
 ghost use mathlib.Core.Path.{_≡_};
 ghost use Prim.Native.Nat.{_≤_};
 ghost use Rattle.storage.specs.declared.Flow.the-variants.{Idle};
-ghost use Rattle.storage.specs.Step.{discharged, charged, flowOf, wattsOf, storedOf, lossOf};
-ghost use Rattle.storage.specs.Posts.{Ranged, Moving, moveBy};
+ghost use Rattle.storage.specs.Step.{discharged, charged, flowOf, gridWatts, storedOf, lossOf};
+ghost use Rattle.unit.specs.Ranges.{Ranged};
+ghost use Rattle.storage.specs.Posts.{Moving, moveBy};
 use super::Flow;
 use super::Move;
-use super::Unit;
 use super::energy;
 use super::limits;
-use super::ranges;
+use unit::Unit;
 
 // What moves where the unit idles.
 fn idle(u: Unit, seconds: u32) -> Move
@@ -16,7 +16,7 @@ fn idle(u: Unit, seconds: u32) -> Move
 {
     Move {
         flow: Flow::Idle,
-        moved: ranges::idle_draw(u),
+        moved: unit::idle_draw(u),
     }
 }
 
@@ -112,7 +112,7 @@ pub fn flow(u: Unit, seconds: u32, request: i32) -> Move
 // The watts at the grid.
 pub fn watts(u: Unit, seconds: u32, flow: Flow, moved: u64) -> i32
     requires { ⌜ Moving u seconds flow moved ⌝ }
-    ensures { λ r. ⌜ r ≡ wattsOf u flow ⌝ }
+    ensures { λ r. ⌜ r ≡ gridWatts u flow ⌝ }
 {
     match flow {
         Flow::Out(x) => whole::signed32(false, x as u32),

@@ -1,34 +1,18 @@
-// A storage unit: its values and their ranges, and one step of it. Power is whole watts, positive
-// for discharge; energy is whole joules; efficiencies are parts in 10,000.
-
+// One step of a storage unit. Power is whole watts, positive for discharge; energy is whole joules;
+// efficiencies are parts in 10,000.
 mod energy;
 mod flows;
 mod limits;
-mod ranges;
+mod rows;
 mod steps;
 
-pub use ranges::idle_draw;
-pub use ranges::unit_in;
+pub use rows::row_of;
 pub use steps::idle_vars;
 pub use steps::rest;
 pub use steps::step;
 pub use steps::step_within;
-
-// A unit's values, in the order of the file. Priority 0 is watts, 1 vars.
-pub struct Unit {
-    pub rated: u64,
-    pub reserve: u64,
-    pub stored: u64,
-    pub rating: u32,
-    pub kva: u32,
-    pub idle_loss: u32,
-    pub var_request: i32,
-    pub weight: u16,
-    pub inverter: u16,
-    pub charge: u16,
-    pub discharge: u16,
-    pub priority: u8,
-}
+pub use unit::idle_draw;
+pub use unit::unit_in;
 
 // What flows in a step: watts out of the unit, watts into it, or only the idle draw.
 pub enum Flow {

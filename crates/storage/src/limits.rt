@@ -1,22 +1,8 @@
 ghost use mathlib.Core.Path.{_≡_};
-ghost use Prim.Native.Nat.{min, _≤_};
+ghost use Prim.Native.Nat.{_≤_};
 ghost use lib.IntN.{natAbs};
 ghost use Rattle.storage.specs.Step.{heldSize, varsOf};
-use super::Unit;
-
-// The smaller of two numbers.
-pub fn least(a: u32, b: u32) -> u32
-    ensures { λ r. ⌜ r ≡ min a b ⌝ }
-{
-    if a <= b { a } else { b }
-}
-
-// The smaller of two numbers.
-pub fn least64(a: u64, b: u64) -> u64
-    ensures { λ r. ⌜ r ≡ min a b ⌝ }
-{
-    if a <= b { a } else { b }
-}
+use unit::Unit;
 
 // The size of a request as the unit holds it: limited to S and, under var priority, to what the
 // vars leave of the circle.
@@ -24,10 +10,10 @@ pub fn held(u: Unit, request: i32) -> u32
     ensures { λ r. ⌜ r ≡ heldSize u request ⌝ }
 {
     let size = whole::size32(request);
-    let p = least(size, u.kva);
+    let p = whole::least32(size, u.kva);
     if u.priority == 1 {
         let vars = whole::size32(u.var_request);
-        let v = least(vars, u.kva);
+        let v = whole::least32(vars, u.kva);
         return whole::beside(u.kva, v, p);
     }
     p

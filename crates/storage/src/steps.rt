@@ -2,14 +2,13 @@ ghost use mathlib.Core.Path.{_≡_};
 ghost use Rattle.storage.specs.Step.{stepOf, steppedOf};
 ghost use mathlib.Core.Bool.{true};
 ghost use Prim.Native.Nat.{_≤_};
-ghost use Rattle.storage.specs.Ranges.{unitIn};
-ghost use Rattle.storage.specs.Posts.{Ranged, idleVars, restOf};
+ghost use Rattle.unit.specs.Ranges.{unitIn, Ranged};
+ghost use Rattle.storage.specs.Posts.{idleVars, restOf};
 use super::Outcome;
 use super::Stepped;
-use super::Unit;
 use super::flows;
 use super::limits;
-use super::ranges;
+use unit::Unit;
 
 // One step of a unit that is in its ranges.
 pub fn step_within(u: Unit, seconds: u32, request: i32) -> Outcome
@@ -33,7 +32,7 @@ pub fn idle_vars(u: Unit) -> i32
     requires { ⌜ unitIn u ≡ true ⌝ }
     ensures { λ r. ⌜ r ≡ idleVars u ⌝ }
 {
-    limits::vars(u, whole::signed32(true, ranges::idle_draw(u) as u32))
+    limits::vars(u, whole::signed32(true, unit::idle_draw(u) as u32))
 }
 
 // One step of a unit that is asked nothing, by what it draws while it idles, its vars then, and what
@@ -54,7 +53,7 @@ pub fn rest(draw: u32, vars: i32, held: u64, seconds: u32) -> Outcome
 pub fn step(u: Unit, seconds: u32, request: i32) -> Stepped
     ensures { λ r. ⌜ r ≡ steppedOf u seconds request ⌝ }
 {
-    if !(ranges::seconds_in(seconds) & ranges::unit_in(u)) {
+    if !(unit::seconds_in(seconds) & unit::unit_in(u)) {
         return Stepped::RefusedBy(5);
     }
     if u.rating < whole::size32(request) {

@@ -1,12 +1,12 @@
 -- What "the largest" means, and that a leg is known by where its square lies. Assumes nothing.
-use mathlib.Core.Path.{_≡_, refl, sym, ap, _∙_, subst}
-use mathlib.Core.Bool.{Bool, true, false, cond}
-use mathlib.Core.Logic.{_⊎_, inl, inr, ⊎-elim}
+use mathlib.Core.Path.{_≡_, refl, sym, ap, _∙_}
+use mathlib.Core.Bool.{Bool, true, false}
+use mathlib.Core.Logic.{_⊎_, inl, inr}
 use Prim.Native.Nat.{ℕ, zero, suc, _+_, _-_, _*_, _^_, _≤_, _<_, zero-le, min}
 use native.Mathlib.Nat.{le-refl, le-step, not-suc-le-zero, le-antisymm, mul-le-mul, mul-suc, suc-mul, le-suc-iff, eq-zero-or-pos, lt-of-le-of-lt}
 use native.Mathlib.Omega.{arith}
 use lib.Dec.{leb, lit<}
-use borrow.Author.Tests.{le-leb, lt-leb, leb-true, leb-false}
+use borrow.Author.Tests.{le-leb, lt-leb, leb-true}
 use Rattle.whole.proofs.Choice.{by-test, passed-failed}
 use Rattle.whole.specs.Largest.{largest, inCircle, legOf}
 

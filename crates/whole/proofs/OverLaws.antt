@@ -1,15 +1,15 @@
 -- Laws of sums, tests and replaced lists over the first n numbers: how each grows by one, what bounds it, and what it says at an index. Assumes nothing.
-use mathlib.Core.Path.{_≡_, refl, sym, ap, ap₂, _∙_, subst}
+use mathlib.Core.Path.{_≡_, refl, sym, ap, ap₂, _∙_}
 use mathlib.Core.Bool.{Bool, true, false, _&&_, _||_}
 use mathlib.Core.List.{List, [], _∷_, _++_, append-assoc}
 use mathlib.Core.Logic.{_⊎_, inl, inr}
 use Prim.Native.Nat.{ℕ, zero, suc, _+_, _-_, _*_, _≤_, _<_, zero-le}
-use native.Mathlib.Nat.{le-refl, le-trans, add-le-add, suc-mul, zero-mul, zero-add, add-zero, add-suc, suc-add, not-suc-le-zero, le-of-suc-le-suc, eq-or-lt-of-le, lt-suc-self, lt-trans, le-step}
+use native.Mathlib.Nat.{le-refl, le-trans, suc-mul, zero-add, add-zero, add-suc, suc-add, not-suc-le-zero, le-of-suc-le-suc, eq-or-lt-of-le, le-step}
 use native.Mathlib.Numerals.{add-one}
 use native.Mathlib.Omega.{arith}
-use lib.IntN.{ℤ, pos, natAbs, _+ℤ_}
+use lib.IntN.{ℤ, natAbs, _+ℤ_}
 use lib.ListN.{length, getD, take, drop, set, length-append, length-drop}
-use lib.Seq.{take-suc, drop-cons, length-take-le, getD-at, set-at, take-all, drop-length, take-length}
+use lib.Seq.{take-suc, drop-cons, length-take-le, getD-at, set-at, drop-length, take-length}
 use Rattle.whole.proofs.Choice.{passed-failed}
 use Rattle.whole.proofs.SignLaws.{size-sum}
 use Rattle.whole.specs.Over.{sumOf, sumOfℤ, allOf, someOf, eachFrom, each}

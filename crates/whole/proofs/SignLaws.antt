@@ -147,6 +147,10 @@ signed-fits w true (suc n) h = record { sfits = lt-trans (lt-suc-self n) h }
 pub read : (w : Width) (z : ℤ) → mag z < 2 ^ hbits w → toZ w (ofZ w z) ≡ z
 read w z h = toZ-ofZ w z (record { sfits = h })
 
+-- and so is its size
+pub sized : (z : ℤ) (n : ℕ) → mag z < 2 ^ 31 → n ≡ natAbs (toZ w32 (ofZ w32 z)) → n ≡ natAbs z
+sized z n h e = e ∙ ap natAbs (read w32 z h)
+
 -- a number whose size is below the half fits
 pub size-fits : (w : Width) (z : ℤ) → natAbs z < 2 ^ hbits w → SFits w z
 size-fits w (pos n) h = record { sfits = h }

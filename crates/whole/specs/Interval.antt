@@ -1,4 +1,4 @@
--- A range as document 01 gives it: from low to high, both ends within it.
+-- A range (rules Q): from low to high, both ends within it.
 use Prim.Native.Nat.{ℕ}
 use mathlib.Core.Bool.{Bool, _&&_}
 use lib.Dec.{leb}

@@ -1,4 +1,4 @@
--- "The largest whole number that ..", and the kVA circle's leg, which is one.
+-- The largest whole number that passes a test (rules U5 and U7), and the kVA circle's leg, which is one (rule U1).
 use Prim.Native.Nat.{ℕ, zero, suc, _+_, _*_}
 use mathlib.Core.Bool.{Bool, cond}
 use lib.Dec.{leb}

@@ -1,5 +1,5 @@
--- Sums and tests over the first n numbers, and a list with each element replaced by a function of its place and itself: how document 01's
--- "sum of all", "some" and "each unit" are said here. A unit's value in a list is `getD list i 0`.
+-- Sums and tests over the first n numbers, and a list with each element replaced by a function of its place and itself: what a rule says
+-- of all units together, of some unit, or of each. A unit's value in a list is `getD list i 0`.
 use Prim.Native.Nat.{ℕ, zero, suc, _+_}
 use mathlib.Core.Bool.{Bool, true, false, _&&_, _||_}
 use mathlib.Core.List.{List, [], _∷_}

@@ -1,4 +1,4 @@
--- Quotients of whole numbers. Rounded down is the library's `_/_`; document 01 also rounds up, and cuts signed quotients toward zero.
+-- Quotients of whole numbers. Rounded down is the library's `_/_`; rules Q28 and U4 also round up, and rule P6 cuts a signed quotient toward zero.
 -- A divisor of 0 gives 0, as `_/_` has it, so that each is defined everywhere.
 use Prim.Native.Nat.{ℕ, suc, _+_, _-_, _/_}
 use lib.IntN.{ℤ, pos, negsuc, negℤ}

@@ -1,13 +1,16 @@
-// Whole numbers: quotients rounded up and cut toward zero, sign and size of a signed number, and
-// the largest leg in the kVA circle. Nothing here knows of batteries.
+// Whole numbers: the smaller of two, quotients rounded up and cut toward zero, sign and size of a
+// signed number, and the largest leg in the kVA circle. Nothing here knows of batteries.
 mod circle;
+mod order;
 mod quotients;
 mod sign;
 
 pub use circle::beside;
 pub use circle::leg;
+pub use order::least32;
+pub use order::least64;
+pub use quotients::ceil;
 pub use quotients::cut;
-pub use quotients::up;
 pub use sign::below_zero32;
 pub use sign::below_zero64;
 pub use sign::signed32;

@@ -2,7 +2,7 @@ ghost use mathlib.Core.Path.{_≡_};
 ghost use Rattle.whole.specs.Quotient.{ceil, cut};
 
 // a / b rounded up; 0 where b is 0.
-pub fn up(a: u64, b: u64) -> u64
+pub fn ceil(a: u64, b: u64) -> u64
     ensures { λ r. ⌜ r ≡ ceil a b ⌝ }
 {
     if b == 0 {

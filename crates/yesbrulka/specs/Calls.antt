@@ -1,39 +1,50 @@
--- The calls without a file, from the numbers and lists that a C caller lends: the answer, and what the lent requests hold afterwards.
+-- What a C caller sees of a call (rules C1 to C16): the number that is returned, and each lent number afterwards, which is what the call gives or, on a
+-- refusal, what it held.
 use Prim.Native.Nat.{ℕ}
+use mathlib.Core.Bool.{Bool, cond}
 use mathlib.Core.List.{List}
+use mathlib.Core.Path.{_≡_}
 use lib.IntN.{ℤ}
+use Rattle.whole.specs.Call.{Call, numberOf, heldAfter}
+use Rattle.unit.specs.declared.Unit.{Unit}
 use Rattle.controller.specs.declared.Settings.{Settings}
+use Rattle.controller.specs.declared.Passed.{Passed}
 use Rattle.controller.specs.declared.PassAnswer.{PassAnswer}
-use Rattle.controller.specs.declared.StudyAnswer.{StudyAnswer}
-use Rattle.controller.specs.Ranges.{fleetOf}
-use Rattle.controller.specs.Study.{studySettings}
-use Rattle.controller.specs.Answers.{passAnswer, passLeaves, studyAnswer, studyLeaves}
-use Rattle.storage.specs.declared.Unit.{Unit}
+use Rattle.controller.specs.Answers.{passCall}
+use Rattle.settling.specs.declared.Trial.{Trial}
+use Rattle.settling.specs.declared.Studied.{Studied}
+use Rattle.settling.specs.declared.StudyAnswer.{StudyAnswer}
+use Rattle.settling.specs.Answers.{studyCall}
+use Rattle.storage.specs.declared.Outcome.{Outcome}
 use Rattle.storage.specs.declared.Stepped.{Stepped}
-use Rattle.storage.specs.Step.{steppedOf}
+use Rattle.storage.specs.Answers.{stepCall}
+use Rattle.site.specs.declared.Head.{Head}
+use Rattle.ask.specs.Says.{headAnswer, headCall, unitAnswer, unitCall}
+
+-- a flag as a lent byte
+abbrev pub flag : Bool → ℕ
+flag b = cond b 1 0
 
 abbrev pub settingsOf : ℕ → ℤ → ℕ → ℕ → Settings
 settingsOf mode target band factor = record { mode = mode; target = target; band = band; factor = factor }
 
--- yb_pass
-abbrev pub passCall : ℕ → ℤ → ℕ → ℕ → ℤ → List ℕ → List ℕ → List ℕ → List ℕ → List ℕ → List ℤ → PassAnswer
-passCall mode target band factor measure rated reserve stored rating weight requests =
-    passAnswer (settingsOf mode target band factor) measure (fleetOf rated reserve stored rating weight) requests
+-- yb_pass: the number, need and changed
+pub record PassSeen (a : PassAnswer) (number : ℕ) (need need′ : ℤ) (changed changed′ : ℕ) : Type 0 where
+  pub number-is : number ≡ numberOf (passCall a)
+  pub need-is : need′ ≡ heldAfter (passCall a) (λ (p : Passed). p .need) need
+  pub changed-is : changed′ ≡ heldAfter (passCall a) (λ (p : Passed). flag (p .changed)) changed
 
-abbrev pub passLeft : ℕ → ℤ → ℕ → ℕ → ℤ → List ℕ → List ℕ → List ℕ → List ℕ → List ℕ → List ℤ → List ℤ
-passLeft mode target band factor measure rated reserve stored rating weight requests =
-    passLeaves (settingsOf mode target band factor) measure (fleetOf rated reserve stored rating weight) requests
+-- yb_settle and yb_study: the number, settled and passes
+pub record StudySeen (a : StudyAnswer) (number settled settled′ passes passes′ : ℕ) : Type 0 where
+  pub number-is : number ≡ numberOf (studyCall a)
+  pub settled-is : settled′ ≡ heldAfter (studyCall a) (λ (r : Studied). flag (r .settled)) settled
+  pub passes-is : passes′ ≡ heldAfter (studyCall a) (λ (r : Studied). r .passes) passes
 
--- yb_settle
-abbrev pub studyCall : ℤ → ℤ → ℕ → ℕ → ℕ → List ℕ → List ℕ → List ℕ → List ℕ → List ℕ → List ℤ → StudyAnswer
-studyCall load target band factor budget rated reserve stored rating weight requests =
-    studyAnswer (studySettings target band factor) load budget (fleetOf rated reserve stored rating weight) requests
+-- a study's settings in mode 1, its load and its budget
+abbrev pub trialOf : ℤ → ℤ → ℕ → ℕ → ℕ → Trial
+trialOf load target band factor budget = record { settings = settingsOf 1 target band factor; load = load; budget = budget }
 
-abbrev pub studyLeft : ℤ → ℤ → ℕ → ℕ → ℕ → List ℕ → List ℕ → List ℕ → List ℕ → List ℕ → List ℤ → List ℤ
-studyLeft load target band factor budget rated reserve stored rating weight requests =
-    studyLeaves (studySettings target band factor) load budget (fleetOf rated reserve stored rating weight) requests
-
--- yb_step: the unit's values in the call's order
+-- yb_step: the unit's values in the call's order; the number, and what the step gives
 abbrev pub unitOf : ℕ → ℕ → ℕ → ℕ → ℕ → ℕ → ℤ → ℕ → ℕ → ℕ → ℕ → ℕ → Unit
 unitOf rated reserve stored rating kva idle var weight inverter charge discharge priority = record {
   rated = rated;
@@ -50,5 +61,16 @@ unitOf rated reserve stored rating kva idle var weight inverter charge discharge
   priority = priority;
 }
 
-abbrev pub stepCall : ℕ → Unit → ℤ → Stepped
-stepCall seconds u request = steppedOf u seconds request
+pub record StepSeen (a : Stepped) (number : ℕ) (watts watts′ vars vars′ : ℤ) (stored stored′ loss loss′ : ℕ) : Type 0 where
+  pub number-is : number ≡ numberOf (stepCall a)
+  pub watts-is : watts′ ≡ heldAfter (stepCall a) (λ (o : Outcome). o .watts) watts
+  pub vars-is : vars′ ≡ heldAfter (stepCall a) (λ (o : Outcome). o .vars) vars
+  pub stored-is : stored′ ≡ heldAfter (stepCall a) (λ (o : Outcome). o .stored) stored
+  pub loss-is : loss′ ≡ heldAfter (stepCall a) (λ (o : Outcome). o .loss) loss
+
+-- yb_settings and yb_unit: what a file says, as a call's answer
+abbrev pub headSaid : List ℕ → Call Head
+headSaid file = headCall (headAnswer file)
+
+abbrev pub unitSaid : List ℕ → ℕ → Call Unit
+unitSaid file i = unitCall (unitAnswer file i)

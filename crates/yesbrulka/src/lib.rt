@@ -1,20 +1,30 @@
 // The C surface (c/yesbrulka.h): exported functions that answer for any numbers and any lent
 // memory, and return 0 or the number of the refusal. On a refusal nothing lent has changed.
 ghost use mathlib.Core.Path.{_≡_};
-ghost use Rattle.reading.specs.Conversion.{wattsOf, numberOf, heldAfter};
-ghost use Rattle.controller.specs.Answers.{passNumber, needHeld, changedHeld, studyNumber, settledHeld, passesHeld};
-ghost use Rattle.storage.specs.Answers.{stepNumber, wattsHeld, varsHeld, storedHeld, lossHeld};
-ghost use Rattle.stick.specs.Check.{checkOf};
-ghost use Rattle.stick.specs.Parts.{partStart, partSize};
+ghost use lib.IntN.{ℤ};
 ghost use lib.ListN.{length};
+ghost use Rattle.whole.specs.Call.{numberOf, heldAfter};
+ghost use Rattle.reading.specs.Conversion.{wattsOf, wattsCall};
+ghost use Rattle.unit.specs.declared.Unit.{Unit};
+ghost use Rattle.controller.specs.Ranges.{fleetOf};
+ghost use Rattle.controller.specs.Answers.{passAnswer, passLeaves};
+ghost use Rattle.settling.specs.Answers.{studyAnswer, studyLeaves};
+ghost use Rattle.storage.specs.Step.{steppedOf};
+ghost use Rattle.site.specs.declared.Head.{Head};
+ghost use Rattle.stick.specs.Check.{checkOf};
+ghost use Rattle.parts.specs.Parts.{partStart, partSize};
 ghost use Rattle.season.specs.Answers.{roomOf, runAnswer, runLeaves};
-ghost use Rattle.yesbrulka.specs.Calls.{passCall, passLeft, studyCall, studyLeft, unitOf, stepCall};
+ghost use Rattle.ask.specs.Says.{unitsSaid, secondsSaid, fileStudy, fileStudyLeaves};
+ghost use Rattle.yesbrulka.specs.Calls.{settingsOf, PassSeen, trialOf, StudySeen, unitOf, StepSeen, headSaid, unitSaid};
+use ask::HeadAnswer;
+use ask::UnitAnswer;
 use controller::PassAnswer;
 use controller::Settings;
-use controller::StudyAnswer;
 use reading::Watts;
+use settling::StudyAnswer;
+use settling::Trial;
 use storage::Stepped;
-use storage::Unit;
+use unit::Unit;
 
 // The check of a file's bytes: the number of its refusal, 0 for a complete file.
 #[no_mangle]
@@ -45,7 +55,7 @@ pub extern "C" fn yb_check_steps(file: &[u8]) -> u32
 pub extern "C" fn yb_value_start(file: &[u8], place: u64) -> u64
     ensures { λ r. ⌜ r ≡ partStart (now (file .entry)) place ⌝ }
 {
-    stick::part_start(file, place)
+    parts::part_start(file, place)
 }
 
 // The support screen: how many of them are there.
@@ -53,7 +63,7 @@ pub extern "C" fn yb_value_start(file: &[u8], place: u64) -> u64
 pub extern "C" fn yb_value_len(file: &[u8], place: u64) -> u64
     ensures { λ r. ⌜ r ≡ partSize (now (file .entry)) place ⌝ }
 {
-    stick::part_size(file, place)
+    parts::part_size(file, place)
 }
 
 // The run: the bytes that the result of a file needs, 0 for a file that the check refuses.
@@ -77,8 +87,8 @@ pub extern "C" fn yb_run(file: &[u8], room: &mut [u8]) -> u32
 // The whole watts of a kW double: 0 and the watts, or 6 for a reading that cannot be used.
 #[no_mangle]
 pub extern "C" fn yb_watts(kw: f64, watts: &mut i32) -> u32
-    ensures { λ r. ⌜ r ≡ numberOf (wattsOf kw) ⌝ }
-    ensures { λ r. ⌜ now (watts .exit) ≡ heldAfter (wattsOf kw) (now (watts .entry)) ⌝ }
+    ensures { λ r. ⌜ r ≡ numberOf (wattsCall (wattsOf kw)) ⌝ }
+    ensures { λ r. ⌜ now (watts .exit) ≡ heldAfter (wattsCall (wattsOf kw)) (λ (w : ℤ). w) (now (watts .entry)) ⌝ }
 {
     let Watts::Whole(w) = reading::converted(kw) else {
         return 6;
@@ -105,10 +115,8 @@ pub extern "C" fn yb_pass(
     need: &mut i64,
     changed: &mut u8,
 ) -> u32
-    ensures { λ r. ⌜ r ≡ passNumber (passCall mode target band factor measure (now (rated .entry)) (now (reserve .entry)) (now (stored .entry)) (now (rating .entry)) (now (weight .entry)) (now (requests .entry))) ⌝ }
-    ensures { λ _. ⌜ now (requests .exit) ≡ passLeft mode target band factor measure (now (rated .entry)) (now (reserve .entry)) (now (stored .entry)) (now (rating .entry)) (now (weight .entry)) (now (requests .entry)) ⌝ }
-    ensures { λ _. ⌜ now (need .exit) ≡ needHeld (passCall mode target band factor measure (now (rated .entry)) (now (reserve .entry)) (now (stored .entry)) (now (rating .entry)) (now (weight .entry)) (now (requests .entry))) (now (need .entry)) ⌝ }
-    ensures { λ _. ⌜ now (changed .exit) ≡ changedHeld (passCall mode target band factor measure (now (rated .entry)) (now (reserve .entry)) (now (stored .entry)) (now (rating .entry)) (now (weight .entry)) (now (requests .entry))) (now (changed .entry)) ⌝ }
+    ensures { λ r. ⌜ PassSeen (passAnswer (settingsOf mode target band factor) measure (fleetOf (now (rated .entry)) (now (reserve .entry)) (now (stored .entry)) (now (rating .entry)) (now (weight .entry))) (now (requests .entry))) r (now (need .entry)) (now (need .exit)) (now (changed .entry)) (now (changed .exit)) ⌝ }
+    ensures { λ _. ⌜ now (requests .exit) ≡ passLeaves (settingsOf mode target band factor) measure (fleetOf (now (rated .entry)) (now (reserve .entry)) (now (stored .entry)) (now (rating .entry)) (now (weight .entry))) (now (requests .entry)) ⌝ }
 {
     let s = Settings {
         mode,
@@ -145,24 +153,21 @@ pub extern "C" fn yb_settle(
     settled: &mut u8,
     passes: &mut u32,
 ) -> u32
-    ensures { λ r. ⌜ r ≡ studyNumber (studyCall load target band factor budget (now (rated .entry)) (now (reserve .entry)) (now (stored .entry)) (now (rating .entry)) (now (weight .entry)) (now (requests .entry))) ⌝ }
-    ensures { λ _. ⌜ now (requests .exit) ≡ studyLeft load target band factor budget (now (rated .entry)) (now (reserve .entry)) (now (stored .entry)) (now (rating .entry)) (now (weight .entry)) (now (requests .entry)) ⌝ }
-    ensures { λ _. ⌜ now (settled .exit) ≡ settledHeld (studyCall load target band factor budget (now (rated .entry)) (now (reserve .entry)) (now (stored .entry)) (now (rating .entry)) (now (weight .entry)) (now (requests .entry))) (now (settled .entry)) ⌝ }
-    ensures { λ _. ⌜ now (passes .exit) ≡ passesHeld (studyCall load target band factor budget (now (rated .entry)) (now (reserve .entry)) (now (stored .entry)) (now (rating .entry)) (now (weight .entry)) (now (requests .entry))) (now (passes .entry)) ⌝ }
+    ensures { λ r. ⌜ StudySeen (studyAnswer (trialOf load target band factor budget) (fleetOf (now (rated .entry)) (now (reserve .entry)) (now (stored .entry)) (now (rating .entry)) (now (weight .entry))) (now (requests .entry))) r (now (settled .entry)) (now (settled .exit)) (now (passes .entry)) (now (passes .exit)) ⌝ }
+    ensures { λ _. ⌜ now (requests .exit) ≡ studyLeaves (trialOf load target band factor budget) (fleetOf (now (rated .entry)) (now (reserve .entry)) (now (stored .entry)) (now (rating .entry)) (now (weight .entry))) (now (requests .entry)) ⌝ }
 {
-    match controller::settle(
-        load,
+    let settings = Settings {
+        mode: 1,
         target,
         band,
         factor,
+    };
+    let q = Trial {
+        settings,
+        load,
         budget,
-        rated,
-        reserve,
-        stored,
-        rating,
-        weight,
-        requests,
-    ) {
+    };
+    match settling::settle(q, rated, reserve, stored, rating, weight, requests) {
         StudyAnswer::StudyDone(r) => {
             *settled = r.settled as u8;
             *passes = r.passes;
@@ -195,11 +200,7 @@ pub extern "C" fn yb_step(
     stored_after: &mut u64,
     loss: &mut u64,
 ) -> u32
-    ensures { λ r. ⌜ r ≡ stepNumber (stepCall seconds (unitOf rated reserve stored rating kva «idle_loss» «var_request» weight inverter charge discharge priority) request) ⌝ }
-    ensures { λ _. ⌜ now (watts .exit) ≡ wattsHeld (stepCall seconds (unitOf rated reserve stored rating kva «idle_loss» «var_request» weight inverter charge discharge priority) request) (now (watts .entry)) ⌝ }
-    ensures { λ _. ⌜ now (vars .exit) ≡ varsHeld (stepCall seconds (unitOf rated reserve stored rating kva «idle_loss» «var_request» weight inverter charge discharge priority) request) (now (vars .entry)) ⌝ }
-    ensures { λ _. ⌜ now («stored_after» .exit) ≡ storedHeld (stepCall seconds (unitOf rated reserve stored rating kva «idle_loss» «var_request» weight inverter charge discharge priority) request) (now («stored_after» .entry)) ⌝ }
-    ensures { λ _. ⌜ now (loss .exit) ≡ lossHeld (stepCall seconds (unitOf rated reserve stored rating kva «idle_loss» «var_request» weight inverter charge discharge priority) request) (now (loss .entry)) ⌝ }
+    ensures { λ r. ⌜ StepSeen (steppedOf (unitOf rated reserve stored rating kva «idle_loss» «var_request» weight inverter charge discharge priority) seconds request) r (now (watts .entry)) (now (watts .exit)) (now (vars .entry)) (now (vars .exit)) (now («stored_after» .entry)) (now («stored_after» .exit)) (now (loss .entry)) (now (loss .exit)) ⌝ }
 {
     let u = Unit {
         rated,
@@ -226,5 +227,132 @@ pub extern "C" fn yb_step(
             0
         }
         Stepped::RefusedBy(n) => n as u32,
+    }
+}
+
+// What a file says: the number of its units, 0 for a file that the check refuses.
+#[no_mangle]
+pub extern "C" fn yb_units(file: &[u8]) -> u32
+    ensures { λ r. ⌜ r ≡ unitsSaid (now (file .entry)) ⌝ }
+{
+    ask::units(file)
+}
+
+// What a file says: the seconds of a step, 0 for a file that the check refuses.
+#[no_mangle]
+pub extern "C" fn yb_seconds(file: &[u8]) -> u32
+    ensures { λ r. ⌜ r ≡ secondsSaid (now (file .entry)) ⌝ }
+{
+    ask::seconds(file)
+}
+
+// What a file says: 0, the controller's settings and the phase choice; or the check's number.
+#[no_mangle]
+pub extern "C" fn yb_settings(
+    file: &[u8],
+    mode: &mut u8,
+    target: &mut i32,
+    band: &mut u32,
+    factor: &mut u16,
+    phase: &mut u8,
+) -> u32
+    ensures { λ r. ⌜ r ≡ numberOf (headSaid (now (file .entry))) ⌝ }
+    ensures { λ _. ⌜ now (mode .exit) ≡ heldAfter (headSaid (now (file .entry))) (λ (h : Head). h .settings .mode) (now (mode .entry)) ⌝ }
+    ensures { λ _. ⌜ now (target .exit) ≡ heldAfter (headSaid (now (file .entry))) (λ (h : Head). h .settings .target) (now (target .entry)) ⌝ }
+    ensures { λ _. ⌜ now (band .exit) ≡ heldAfter (headSaid (now (file .entry))) (λ (h : Head). h .settings .band) (now (band .entry)) ⌝ }
+    ensures { λ _. ⌜ now (factor .exit) ≡ heldAfter (headSaid (now (file .entry))) (λ (h : Head). h .settings .factor) (now (factor .entry)) ⌝ }
+    ensures { λ _. ⌜ now (phase .exit) ≡ heldAfter (headSaid (now (file .entry))) (λ (h : Head). h .phase) (now (phase .entry)) ⌝ }
+{
+    match ask::head(file) {
+        HeadAnswer::HeadSaid(h) => {
+            let s = h.settings;
+            let aim = s.target;
+            *mode = s.mode;
+            *target = aim;
+            *band = s.band;
+            *factor = s.factor;
+            *phase = h.phase;
+            0
+        }
+        HeadAnswer::HeadRefused(n) => n as u32,
+    }
+}
+
+// What a file says: 0 and the values of a unit; or the check's number, or 10 for a unit outside the
+// fleet.
+#[no_mangle]
+pub extern "C" fn yb_unit(
+    file: &[u8],
+    unit: u32,
+    rated: &mut u64,
+    reserve: &mut u64,
+    stored: &mut u64,
+    rating: &mut u32,
+    kva: &mut u32,
+    idle_loss: &mut u32,
+    var_request: &mut i32,
+    weight: &mut u16,
+    inverter: &mut u16,
+    charge: &mut u16,
+    discharge: &mut u16,
+    priority: &mut u8,
+) -> u32
+    ensures { λ r. ⌜ r ≡ numberOf (unitSaid (now (file .entry)) unit) ⌝ }
+    ensures { λ _. ⌜ now (rated .exit) ≡ heldAfter (unitSaid (now (file .entry)) unit) (λ (u : Unit). u .rated) (now (rated .entry)) ⌝ }
+    ensures { λ _. ⌜ now (reserve .exit) ≡ heldAfter (unitSaid (now (file .entry)) unit) (λ (u : Unit). u .reserve) (now (reserve .entry)) ⌝ }
+    ensures { λ _. ⌜ now (stored .exit) ≡ heldAfter (unitSaid (now (file .entry)) unit) (λ (u : Unit). u .stored) (now (stored .entry)) ⌝ }
+    ensures { λ _. ⌜ now (rating .exit) ≡ heldAfter (unitSaid (now (file .entry)) unit) (λ (u : Unit). u .rating) (now (rating .entry)) ⌝ }
+    ensures { λ _. ⌜ now (kva .exit) ≡ heldAfter (unitSaid (now (file .entry)) unit) (λ (u : Unit). u .kva) (now (kva .entry)) ⌝ }
+    ensures { λ _. ⌜ now («idle_loss» .exit) ≡ heldAfter (unitSaid (now (file .entry)) unit) (λ (u : Unit). u .«idle_loss») (now («idle_loss» .entry)) ⌝ }
+    ensures { λ _. ⌜ now («var_request» .exit) ≡ heldAfter (unitSaid (now (file .entry)) unit) (λ (u : Unit). u .«var_request») (now («var_request» .entry)) ⌝ }
+    ensures { λ _. ⌜ now (weight .exit) ≡ heldAfter (unitSaid (now (file .entry)) unit) (λ (u : Unit). u .weight) (now (weight .entry)) ⌝ }
+    ensures { λ _. ⌜ now (inverter .exit) ≡ heldAfter (unitSaid (now (file .entry)) unit) (λ (u : Unit). u .inverter) (now (inverter .entry)) ⌝ }
+    ensures { λ _. ⌜ now (charge .exit) ≡ heldAfter (unitSaid (now (file .entry)) unit) (λ (u : Unit). u .charge) (now (charge .entry)) ⌝ }
+    ensures { λ _. ⌜ now (discharge .exit) ≡ heldAfter (unitSaid (now (file .entry)) unit) (λ (u : Unit). u .discharge) (now (discharge .entry)) ⌝ }
+    ensures { λ _. ⌜ now (priority .exit) ≡ heldAfter (unitSaid (now (file .entry)) unit) (λ (u : Unit). u .priority) (now (priority .entry)) ⌝ }
+{
+    match ask::unit(file, unit) {
+        UnitAnswer::UnitSaid(u) => {
+            let vars = u.var_request;
+            *rated = u.rated;
+            *reserve = u.reserve;
+            *stored = u.stored;
+            *rating = u.rating;
+            *kva = u.kva;
+            *idle_loss = u.idle_loss;
+            *var_request = vars;
+            *weight = u.weight;
+            *inverter = u.inverter;
+            *charge = u.charge;
+            *discharge = u.discharge;
+            *priority = u.priority;
+            0
+        }
+        UnitAnswer::UnitRefused(n) => n as u32,
+    }
+}
+
+// The settling study over a file's fleet and settings, in mode 1 whatever the file's mode: 0, the
+// requests it ends on, whether it settled (1 or 0) and the passes that changed a request; or the
+// check's number, 10 or 5.
+#[no_mangle]
+pub extern "C" fn yb_study(
+    file: &[u8],
+    load: i64,
+    budget: u32,
+    requests: &mut [i32],
+    settled: &mut u8,
+    passes: &mut u32,
+) -> u32
+    ensures { λ r. ⌜ StudySeen (fileStudy (now (file .entry)) load budget (now (requests .entry))) r (now (settled .entry)) (now (settled .exit)) (now (passes .entry)) (now (passes .exit)) ⌝ }
+    ensures { λ _. ⌜ now (requests .exit) ≡ fileStudyLeaves (now (file .entry)) load budget (now (requests .entry)) ⌝ }
+{
+    match ask::study(file, load, budget, requests) {
+        StudyAnswer::StudyDone(found) => {
+            *settled = found.settled as u8;
+            *passes = found.passes;
+            0
+        }
+        StudyAnswer::StudyRefused(n) => n as u32,
     }
 }

@@ -551,7 +551,7 @@ fn check_cases(cases: &mut Cases) {
     }
     // Counts that a fleet may have, but not this one.
     for count in [2, 3, 63, 64] {
-        cases.check(&instead(0, sticks::fleet_field(1, count, run.seconds)));
+        cases.check(&instead(0, sticks::fleet_field(1, count, run.site.seconds)));
     }
     for (i, bits) in sticks::bad_powers(&mut draw).into_iter().enumerate() {
         let bad = sticks::bad_reading(i % 3, bits, &mut draw);
@@ -623,7 +623,7 @@ fn run_cases(cases: &mut Cases) {
         for phase in 0..=5 {
             let run = loop {
                 let run = seasons::run(2, 5, &mut draw);
-                if (run.settings.mode, run.phase) == (mode, phase) {
+                if (run.site.settings.mode, run.site.phase) == (mode, phase) {
                     break run;
                 }
             };

@@ -11,6 +11,7 @@ use std::{env, fs};
 use yesbrulka_reference::controller::Settings;
 use yesbrulka_reference::reading::{Phases, Reading};
 use yesbrulka_reference::samples::sticks::{self, Field};
+use yesbrulka_reference::site::Site;
 use yesbrulka_reference::stick::{Run, MISSING};
 use yesbrulka_reference::storage::Unit;
 
@@ -65,10 +66,13 @@ fn season() -> Run {
         priority: 0,
     };
     Run {
-        seconds: 3_600,
-        units: vec![dairy, grain, pumps],
-        settings: Settings { mode: 1, target: 120_000, band: 6_000, factor: 1_000 },
-        phase: 0,
+        site: Site {
+            edition: 1,
+            seconds: 3_600,
+            units: vec![dairy, grain, pumps],
+            settings: Settings { mode: 1, target: 120_000, band: 6_000, factor: 1_000 },
+            phase: 0,
+        },
         readings: (0..STEPS).map(reading).collect(),
     }
 }
@@ -154,10 +158,13 @@ fn harvest() -> Run {
         priority: 0,
     };
     Run {
-        seconds: 3_600,
-        units: vec![dairy, dryer, workshop, pumps],
-        settings: Settings { mode: 1, target: 90_000, band: 4_000, factor: 600 },
-        phase: 0,
+        site: Site {
+            edition: 1,
+            seconds: 3_600,
+            units: vec![dairy, dryer, workshop, pumps],
+            settings: Settings { mode: 1, target: 90_000, band: 4_000, factor: 600 },
+            phase: 0,
+        },
         readings: (0..STEPS).map(harvest_reading).collect(),
     }
 }
@@ -215,7 +222,7 @@ fn examples() -> Vec<(&'static str, u32, Vec<u8>)> {
         (
             "refused-05-value-out-of-range.stick",
             5,
-            sticks::file(&sticks::with(&run, |run| run.units[1].stored = run.units[1].rated + 1)),
+            sticks::file(&sticks::with(&run, |run| run.site.units[1].stored = run.site.units[1].rated + 1)),
         ),
         // A meter sent what is no number.
         (
@@ -278,8 +285,9 @@ mod tests {
     fn the_season_has_readings_of_both_kinds_and_signs() {
         let run = stick::read(&sticks::file(&season())).unwrap();
         let missing = run.readings.iter().filter(|reading| matches!(reading, Reading::Missing)).count();
-        assert_eq!((run.units.len(), run.readings.len(), missing), (3, STEPS, 9));
-        let measures: Vec<i64> = run.readings.iter().filter_map(|r| r.measure(run.phase).unwrap()).collect();
+        assert_eq!((run.site.units.len(), run.readings.len(), missing), (3, STEPS, 9));
+        let measures: Vec<i64> =
+            run.readings.iter().filter_map(|r| r.measure(run.site.phase).unwrap()).collect();
         assert!(measures.iter().any(|&m| m > 120_000) && measures.iter().any(|&m| m < 0));
     }
 

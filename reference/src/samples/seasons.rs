@@ -5,6 +5,7 @@ use super::{sticks, Draw};
 use crate::controller::Settings;
 use crate::ranges::RATED;
 use crate::reading::{Phases, Reading};
+use crate::site::Site;
 use crate::stick::Run;
 use crate::storage::Unit;
 
@@ -19,7 +20,7 @@ pub fn run(units: usize, steps: usize, draw: &mut Draw) -> Run {
     let settings = settings(mode, power, draw);
     let phase = draw.below(6) as u8;
     let readings = readings(steps, &settings, phase, power as i64, draw);
-    Run { seconds, units, settings, phase, readings }
+    Run { site: Site { edition: 1, seconds, units, settings, phase }, readings }
 }
 
 fn efficiency(draw: &mut Draw) -> u16 {
@@ -170,7 +171,7 @@ mod tests {
         let mut draw = Draw::from_seed(92);
         for units in (1..=64).chain(1..=64) {
             let run = run(units, 3, &mut draw);
-            assert!(run.units.iter().all(Unit::in_range) && run.settings.in_range());
+            assert!(run.site.units.iter().all(Unit::in_range) && run.site.settings.in_range());
         }
     }
 }

@@ -1,10 +1,12 @@
 //! Run files: complete ones, and every kind of damage that can come over one.
 
+use super::fleets::{self, StudyCall};
 use super::units::{self, StepCall};
-use super::{fleets, Draw};
+use super::Draw;
 use crate::controller::Settings;
 use crate::octets::{put_f64, put_i32, put_u16, put_u32, put_u64, put_u8};
 use crate::reading::{self, Phases, Reading};
+use crate::site::Site;
 use crate::stick::{length_of, Run, END, FLEET, MISSING, POWER, SETTINGS, TAGS, UNIT};
 use crate::storage::Unit;
 
@@ -72,17 +74,18 @@ pub fn end_field(count: u32) -> Field {
 
 /// The fields that say a run.
 pub fn fields(run: &Run) -> Vec<Field> {
-    let mut fields = vec![fleet_field(1, run.units.len() as u8, run.seconds)];
-    for unit in &run.units {
+    let Site { edition, seconds, units, settings, phase } = &run.site;
+    let mut fields = vec![fleet_field(*edition, units.len() as u8, *seconds)];
+    for unit in units {
         let mut value = Vec::new();
         put_unit(&mut value, unit);
         fields.push(Field::new(UNIT, value));
     }
-    let mut value = vec![run.settings.mode];
-    put_i32(&mut value, run.settings.target);
-    put_u32(&mut value, run.settings.band);
-    put_u16(&mut value, run.settings.factor);
-    put_u8(&mut value, run.phase);
+    let mut value = vec![settings.mode];
+    put_i32(&mut value, settings.target);
+    put_u32(&mut value, settings.band);
+    put_u16(&mut value, settings.factor);
+    put_u8(&mut value, *phase);
     fields.push(Field::new(SETTINGS, value));
     fields.extend(run.readings.iter().map(reading_field));
     fields.push(end_field(run.readings.len() as u32));
@@ -117,10 +120,13 @@ pub fn whole_case() -> Run {
         priority: 0,
     };
     Run {
-        seconds: 60,
-        units: vec![unit],
-        settings: Settings { mode: 1, target: 0, band: 0, factor: 1_000 },
-        phase: 0,
+        site: Site {
+            edition: 1,
+            seconds: 60,
+            units: vec![unit],
+            settings: Settings { mode: 1, target: 0, band: 0, factor: 1_000 },
+            phase: 0,
+        },
         readings: vec![Reading::Missing],
     }
 }
@@ -157,10 +163,13 @@ pub fn run(units: usize, steps: usize, draw: &mut Draw) -> Run {
     let calls: Vec<StepCall> = (0..units).map(|_| units::step_call(draw)).collect();
     let missing = draw.one_of(&[1, 2, 2, 3, 100]);
     Run {
-        seconds: calls[0].seconds,
-        units: calls.iter().map(|call| call.unit).collect(),
-        settings: fleets::pass_call(1, draw).settings,
-        phase: draw.below(6) as u8,
+        site: Site {
+            edition: 1,
+            seconds: calls[0].seconds,
+            units: calls.iter().map(|call| call.unit).collect(),
+            settings: fleets::pass_call(1, draw).settings,
+            phase: draw.below(6) as u8,
+        },
         readings: (0..steps)
             .map(|_| if draw.below(missing) == 0 { Reading::Missing } else { power_reading(draw) })
             .collect(),
@@ -174,54 +183,69 @@ pub fn small_run(draw: &mut Draw) -> Run {
     run(units, steps, draw)
 }
 
+/// A run whose fleet, target, band and factor are a study's; the rest of it is any.
+pub fn study_run(call: &StudyCall, steps: usize, draw: &mut Draw) -> Run {
+    let StudyCall { target, band, factor, ref fleet, .. } = *call;
+    let mut run = run(fleet.rated.len(), steps, draw);
+    for (i, unit) in run.site.units.iter_mut().enumerate() {
+        unit.rated = fleet.rated[i];
+        unit.reserve = fleet.reserve[i];
+        unit.stored = fleet.stored[i];
+        unit.rating = fleet.rating[i];
+        unit.weight = fleet.weight[i];
+    }
+    run.site.settings = Settings { target, band, factor, ..run.site.settings };
+    run
+}
+
 /// Settings and phase at the ends of their ranges.
 pub const SETTINGS_ENDS: [fn(&mut Run); 15] = [
-    |run| run.settings.mode = 1,
-    |run| run.settings.mode = 2,
-    |run| run.settings.mode = 3,
-    |run| run.settings.target = -100_000_000,
-    |run| run.settings.target = 100_000_000,
-    |run| run.settings.band = 0,
-    |run| run.settings.band = 200_000_000,
-    |run| run.settings.factor = 1,
-    |run| run.settings.factor = 1_000,
-    |run| run.phase = 0,
-    |run| run.phase = 1,
-    |run| run.phase = 2,
-    |run| run.phase = 3,
-    |run| run.phase = 4,
-    |run| run.phase = 5,
+    |run| run.site.settings.mode = 1,
+    |run| run.site.settings.mode = 2,
+    |run| run.site.settings.mode = 3,
+    |run| run.site.settings.target = -100_000_000,
+    |run| run.site.settings.target = 100_000_000,
+    |run| run.site.settings.band = 0,
+    |run| run.site.settings.band = 200_000_000,
+    |run| run.site.settings.factor = 1,
+    |run| run.site.settings.factor = 1_000,
+    |run| run.site.phase = 0,
+    |run| run.site.phase = 1,
+    |run| run.site.phase = 2,
+    |run| run.site.phase = 3,
+    |run| run.site.phase = 4,
+    |run| run.site.phase = 5,
 ];
 
 /// Settings and phase one beyond the ends of their ranges, and as far as they go.
 pub const BAD_SETTINGS: [fn(&mut Run); 19] = [
-    |run| run.settings.mode = 0,
-    |run| run.settings.mode = 4,
-    |run| run.settings.mode = 128 + 1,
-    |run| run.settings.mode = u8::MAX,
-    |run| run.settings.target = -100_000_001,
-    |run| run.settings.target = 100_000_001,
-    |run| run.settings.target = i32::MIN,
-    |run| run.settings.target = i32::MAX,
-    |run| run.settings.band = 200_000_001,
-    |run| run.settings.band = 1 << 31,
-    |run| run.settings.band = u32::MAX,
-    |run| run.settings.factor = 0,
-    |run| run.settings.factor = 1_001,
-    |run| run.settings.factor = 1 << 15,
-    |run| run.settings.factor = u16::MAX,
-    |run| run.phase = 6,
-    |run| run.phase = 7,
-    |run| run.phase = 128,
-    |run| run.phase = u8::MAX,
+    |run| run.site.settings.mode = 0,
+    |run| run.site.settings.mode = 4,
+    |run| run.site.settings.mode = 128 + 1,
+    |run| run.site.settings.mode = u8::MAX,
+    |run| run.site.settings.target = -100_000_001,
+    |run| run.site.settings.target = 100_000_001,
+    |run| run.site.settings.target = i32::MIN,
+    |run| run.site.settings.target = i32::MAX,
+    |run| run.site.settings.band = 200_000_001,
+    |run| run.site.settings.band = 1 << 31,
+    |run| run.site.settings.band = u32::MAX,
+    |run| run.site.settings.factor = 0,
+    |run| run.site.settings.factor = 1_001,
+    |run| run.site.settings.factor = 1 << 15,
+    |run| run.site.settings.factor = u16::MAX,
+    |run| run.site.phase = 6,
+    |run| run.site.phase = 7,
+    |run| run.site.phase = 128,
+    |run| run.site.phase = u8::MAX,
 ];
 
 /// The run with a change to one of its units or to the length of its steps.
 pub fn with_unit(run: &Run, unit: usize, change: impl Fn(&mut StepCall)) -> Run {
-    let call = StepCall { seconds: run.seconds, unit: run.units[unit], request: 0 }.with(change);
+    let call = StepCall { seconds: run.site.seconds, unit: run.site.units[unit], request: 0 }.with(change);
     let mut run = run.clone();
-    run.seconds = call.seconds;
-    run.units[unit] = call.unit;
+    run.site.seconds = call.seconds;
+    run.site.units[unit] = call.unit;
     run
 }
 
@@ -234,11 +258,11 @@ pub fn with(run: &Run, change: impl Fn(&mut Run)) -> Run {
 
 /// Fleet fields that are to be refused: an edition, a unit count or seconds outside their ranges.
 pub fn bad_fleets(run: &Run) -> Vec<Field> {
-    let count = run.units.len() as u8;
+    let count = run.site.units.len() as u8;
     let mut found = Vec::new();
-    found.extend([0, 2, 3, 128, 129, 255].map(|edition| fleet_field(edition, count, run.seconds)));
+    found.extend([0, 2, 3, 128, 129, 255].map(|edition| fleet_field(edition, count, run.site.seconds)));
     found.extend(
-        [0, 65, 66, 128, count + 64, count + 128, 255].map(|count| fleet_field(1, count, run.seconds)),
+        [0, 65, 66, 128, count + 64, count + 128, 255].map(|count| fleet_field(1, count, run.site.seconds)),
     );
     let seconds = [0, 86_401, 1 << 17, 1 << 24, 1 << 31, u32::MAX];
     found.extend(seconds.map(|seconds| fleet_field(1, count, seconds)));
@@ -284,7 +308,7 @@ pub fn any_field(draw: &mut Draw) -> Field {
     let count = draw.below(4) as u32;
     let tag = draw.below(6) as usize;
     match tag {
-        0 => fleet_field(1, 1 + draw.below(3) as u8, run.seconds),
+        0 => fleet_field(1, 1 + draw.below(3) as u8, run.site.seconds),
         5 => end_field(count),
         4 => Field::new(MISSING, Vec::new()),
         3 => reading_field(&power_reading(draw)),

@@ -1,4 +1,4 @@
-//! The small C program that holds the proved archive, and the frames it is spoken to in (`c/host.c`).
+//! The small C program that holds the proved archive, and the frames it is spoken to in (`c/tests/host.c`).
 
 use std::env;
 use std::io::{Read, Write};
@@ -31,7 +31,7 @@ impl Host {
         let program = words.next().unwrap_or_else(|| {
             panic!(
                 "YB_HOST is not set: nothing was compared with the archive. `make test` sets it to the \
-                 command that runs the program built from c/host.c"
+                 command that runs the program built from c/tests/host.c"
             )
         });
         let mut child = Command::new(program)

@@ -1,5 +1,5 @@
 -- A turn leaves the room as long as it was, and the count falls.
-use mathlib.Core.Path.{_≡_, refl}
+use mathlib.Core.Path.{_≡_}
 use native.Mathlib.Omega.{arith}
 use lib.ListN.{length}
 use Rattle.cases.proofs.all_cases.Statement.{statement}

@@ -1,7 +1,6 @@
--- A file whose check answers 0 begins with a fleet, its units and its settings.
+-- A file whose check answers 0 is accepted, and a study is made of no other.
+use Rattle.ask.proofs.SaysLaws.{accepts}
 use borrow.Author.Needs.{needs}
-use Rattle.season.proofs.AnswerLaws.{complete}
-use Rattle.season.proofs.HeadLaws.{head}
 use Rattle.settle.proofs.studied.Statement.{statement}
 use Rattle.settle.proofs.studied.Tie as tie
 
@@ -23,8 +22,7 @@ returns c = search needs
 made-requires : tie.Need-made-requires
 made-requires c κs =
     let k = c .before in
-    let file = k .before .before .args .file .now in
-    head file (k .check .result .steps) (complete file (k .check .result) (k .check .ensures) (c .if1 .left))
+    accepts (k .before .before .args .file .now) (k .check .result) (k .check .ensures) (c .if1 .left)
 
 returns-2 : tie.Need-returns-2
 returns-2 c = search needs

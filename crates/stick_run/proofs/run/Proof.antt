@@ -1,6 +1,6 @@
 -- A file whose check answers 0 is one that the check accepts, with the steps that it answers.
 use borrow.Author.Needs.{needs}
-use Rattle.season.proofs.AnswerLaws.{complete}
+use Rattle.season.proofs.AnswerLaws.{counted}
 use Rattle.stick_run.proofs.run.Statement.{statement}
 use Rattle.stick_run.proofs.run.Tie as tie
 
@@ -16,7 +16,7 @@ returns c = search needs
 write-requires : tie.Need-write-requires
 write-requires c κs =
     let k = c .before .before in
-    complete (k .before .before .args .file .now) (k .check .result) (k .check .ensures) (c .if1 .left)
+    counted (k .before .before .args .file .now) (k .check .result) (k .check .ensures) (c .if1 .left)
 
 slice-aggregate-write-all : tie.Need-slice-aggregate-write-all
 slice-aggregate-write-all c = search needs

@@ -1,5 +1,6 @@
 -- The library's answer decides the number, and only what it reports is stored.
 use borrow.Author.Needs.{needs}
+use Rattle.controller.specs.Ranges.{fleetOf}
 use Rattle.yesbrulka.proofs.CallLaws.{pass-done, pass-refused}
 use Rattle.yesbrulka.proofs.yb_pass.Statement.{statement}
 use Rattle.yesbrulka.proofs.yb_pass.Tie as tie
@@ -29,7 +30,7 @@ returns c =
     let p = q .before .before .before in
     let s = p .before .before .before .before .before .before .before in
     let a = s .args in
-    pass-done (a .mode) (a .target) (a .band) (a .factor) (a .measure) (a .rated .now) (a .reserve .now) (a .stored .now) (a .rating .now) (a .weight .now) (a .requests .now) (s .fits .target .sfits) (s .fits .measure .sfits) (p .pass .result) (p .pass .last .1 .1 .1 .1 .1 .1 .1 .0) (p .pass .ensures .0) (p .pass .ensures .1) (a .need .now) (a .changed .now) (q .p .given .0 .0) (q .p .given .1) (t .struct-told .given .0 .1)
+    pass-done (a .mode) (a .target) (a .band) (a .factor) (a .measure) (fleetOf (a .rated .now) (a .reserve .now) (a .stored .now) (a .rating .now) (a .weight .now)) (a .requests .now) (s .fits .target .sfits) (s .fits .measure .sfits) (p .pass .result) (p .pass .last .1 .1 .1 .1 .1 .1 .1 .0) (p .pass .ensures .0) (p .pass .ensures .1) (a .need .now) (a .changed .now) (q .p .given .0 .0) (q .p .given .1) (t .struct-told .given .0 .1)
 
 same-length-2 : tie.Need-same-length-2
 same-length-2 c = search needs
@@ -40,7 +41,7 @@ returns-2 c =
     let p = q .before .before .before in
     let s = p .before .before .before .before .before .before .before in
     let a = s .args in
-    pass-refused (a .mode) (a .target) (a .band) (a .factor) (a .measure) (a .rated .now) (a .reserve .now) (a .stored .now) (a .rating .now) (a .weight .now) (a .requests .now) (s .fits .target .sfits) (s .fits .measure .sfits) (p .pass .result) (p .pass .last .1 .1 .1 .1 .1 .1 .1 .0) (p .pass .ensures .0) (p .pass .ensures .1) (a .need .now) (a .changed .now) (q .n .given .0 .0) (q .n .given .1)
+    pass-refused (a .mode) (a .target) (a .band) (a .factor) (a .measure) (fleetOf (a .rated .now) (a .reserve .now) (a .stored .now) (a .rating .now) (a .weight .now)) (a .requests .now) (s .fits .target .sfits) (s .fits .measure .sfits) (p .pass .result) (p .pass .last .1 .1 .1 .1 .1 .1 .1 .0) (p .pass .ensures .0) (p .pass .ensures .1) (a .need .now) (a .changed .now) (q .n .given .0 .0) (q .n .given .1)
 
 pub yb-pass-spec : {M : Type 1} → statement M
 yb-pass-spec =

@@ -1,5 +1,6 @@
 -- The library's answer decides the number, and only what it reports is stored.
 use borrow.Author.Needs.{needs}
+use Rattle.controller.specs.Ranges.{fleetOf}
 use Rattle.yesbrulka.proofs.CallLaws.{study-done, study-refused}
 use Rattle.yesbrulka.proofs.yb_settle.Statement.{statement}
 use Rattle.yesbrulka.proofs.yb_settle.Tie as tie
@@ -28,7 +29,7 @@ returns c =
     let p = q .before .before .before in
     let s = p .before .before .before .before .before .before .before in
     let a = s .args in
-    study-done (a .load) (a .target) (a .band) (a .factor) (a .budget) (a .rated .now) (a .reserve .now) (a .stored .now) (a .rating .now) (a .weight .now) (a .requests .now) (s .fits .load .sfits) (s .fits .target .sfits) (p .settle .result) (p .settle .last .1 .1 .1 .1 .1 .1 .1 .1 .1 .1 .0) (p .settle .ensures .0) (p .settle .ensures .1) (a .settled .now) (a .passes .now) (q .r .given .0 .0) (q .r .given .1)
+    study-done (a .load) (a .target) (a .band) (a .factor) (a .budget) (fleetOf (a .rated .now) (a .reserve .now) (a .stored .now) (a .rating .now) (a .weight .now)) (a .requests .now) (s .fits .load .sfits) (s .fits .target .sfits) (p .settle .result) (p .settle .last .1 .1 .1 .1 .1 .1 .0) (p .settle .ensures .0) (p .settle .ensures .1) (a .settled .now) (a .passes .now) (q .r .given .0 .0) (q .r .given .1)
 
 same-length-2 : tie.Need-same-length-2
 same-length-2 c = search needs
@@ -39,7 +40,7 @@ returns-2 c =
     let p = q .before .before .before in
     let s = p .before .before .before .before .before .before .before in
     let a = s .args in
-    study-refused (a .load) (a .target) (a .band) (a .factor) (a .budget) (a .rated .now) (a .reserve .now) (a .stored .now) (a .rating .now) (a .weight .now) (a .requests .now) (s .fits .load .sfits) (s .fits .target .sfits) (p .settle .result) (p .settle .last .1 .1 .1 .1 .1 .1 .1 .1 .1 .1 .0) (p .settle .ensures .0) (p .settle .ensures .1) (a .settled .now) (a .passes .now) (q .n .given .0 .0) (q .n .given .1)
+    study-refused (a .load) (a .target) (a .band) (a .factor) (a .budget) (fleetOf (a .rated .now) (a .reserve .now) (a .stored .now) (a .rating .now) (a .weight .now)) (a .requests .now) (s .fits .load .sfits) (s .fits .target .sfits) (p .settle .result) (p .settle .last .1 .1 .1 .1 .1 .1 .0) (p .settle .ensures .0) (p .settle .ensures .1) (a .settled .now) (a .passes .now) (q .n .given .0 .0) (q .n .given .1)
 
 pub yb-settle-spec : {M : Type 1} → statement M
 yb-settle-spec =

@@ -1,8 +1,7 @@
 -- The list keeps its length, and the two tests leave room for a whole unit in the case.
 use borrow.Author.Needs.{needs}
-use Prim.Native.Nat.{_-_, _≤_, _<_}
-use mathlib.Core.Path.{_≡_, sym}
-use native.Mathlib.Omega.{arith}
+use Prim.Native.Nat.{_-_}
+use mathlib.Core.Path.{_≡_}
 use lib.ListN.{length}
 use Rattle.cases.proofs.fleets.asked.Statement.{statement}
 use Rattle.cases.proofs.fleets.asked.Tie as tie

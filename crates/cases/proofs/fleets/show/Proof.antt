@@ -1,8 +1,6 @@
 -- The place stays below the list's end.
 use borrow.Author.Needs.{needs}
-use Prim.Native.Nat.{_-_, _≤_, _<_}
-use mathlib.Core.Path.{_≡_, sym}
-use native.Mathlib.Omega.{arith}
+use Prim.Native.Nat.{_-_, _≤_}
 use lib.IntN.{pos}
 use lib.ListN.{length, getD}
 use Rattle.whole.proofs.SignLaws.{wide-fits}

@@ -1,6 +1,6 @@
 -- The two tests are the definition's.
 use borrow.Author.Needs.{needs}
-use mathlib.Core.Path.{ap, ap₂, _∙_}
+use mathlib.Core.Path.{ap₂}
 use mathlib.Core.Bool.{Bool, not, _&&_}
 use Rattle.controller.specs.Ranges.{requestsOk}
 use Rattle.controller.proofs.ranges.requests_in.Statement.{statement}

@@ -1,6 +1,6 @@
 -- The code's tests are the definition's, one by one, at the target that is read back.
 use borrow.Author.Needs.{needs}
-use mathlib.Core.Path.{_≡_, ap, _∙_}
+use mathlib.Core.Path.{ap, _∙_}
 use mathlib.Core.Bool.{_&&_}
 use Prim.Native.Nat.{ℕ, _<_, _^_}
 use lib.Dec.{leb}

@@ -1,17 +1,17 @@
 -- So far ok says that the units passed are in their ranges.
-use Prim.Native.Nat.{ℕ, _-_, _≤_}
+use Prim.Native.Nat.{_-_, _≤_}
 use mathlib.Core.Path.{_≡_, refl, sym, ap, ap₂, _∙_}
 use mathlib.Core.Bool.{_&&_}
 use native.Mathlib.Omega.{arith}
 use lib.ListN.{length}
 use Rattle.whole.specs.Over.{allOf}
 use Rattle.whole.proofs.OverLaws.{all-next}
-use Rattle.controller.specs.Ranges.{fleetOf, unitInAt}
+use Rattle.controller.specs.Ranges.{fleetOf, memberAt}
 use Rattle.controller.proofs.ranges.units_in.Statement.{statement}
 use Rattle.controller.proofs.ranges.units_in.Tie as tie
 
 abbrev Inv-loop : tie.InvT-loop
-Inv-loop rated reserve stored rating weight ok₀ i₀ ok i = (i ≤ length rated) × (ok ≡ allOf i (unitInAt (fleetOf rated reserve stored rating weight)))
+Inv-loop rated reserve stored rating weight ok₀ i₀ ok i = (i ≤ length rated) × (ok ≡ allOf i (memberAt (fleetOf rated reserve stored rating weight)))
 
 abbrev μ-loop : tie.MeasureT-loop
 μ-loop rated reserve stored rating weight ok₀ i₀ ok i = length rated - i
@@ -20,38 +20,38 @@ loop-holds : tie.Need-loop-holds Inv-loop μ-loop
 unfolding allOf
 loop-holds c = (omega arith, refl)
 
-mul-unit-in : tie.Need-mul-unit-in Inv-loop μ-loop
-mul-unit-in c = omega arith
+mul-member-in : tie.Need-mul-member-in Inv-loop μ-loop
+mul-member-in c = omega arith
 
-shared-slice-read-unit-in : tie.Need-shared-slice-read-unit-in Inv-loop μ-loop
-shared-slice-read-unit-in c = omega arith
+shared-slice-read-member-in : tie.Need-shared-slice-read-member-in Inv-loop μ-loop
+shared-slice-read-member-in c = omega arith
 
-mul-unit-in-2 : tie.Need-mul-unit-in-2 Inv-loop μ-loop
-mul-unit-in-2 c = omega arith
+mul-member-in-2 : tie.Need-mul-member-in-2 Inv-loop μ-loop
+mul-member-in-2 c = omega arith
 
-shared-slice-read-unit-in-2 : tie.Need-shared-slice-read-unit-in-2 Inv-loop μ-loop
-shared-slice-read-unit-in-2 c = omega arith
+shared-slice-read-member-in-2 : tie.Need-shared-slice-read-member-in-2 Inv-loop μ-loop
+shared-slice-read-member-in-2 c = omega arith
 
-mul-unit-in-3 : tie.Need-mul-unit-in-3 Inv-loop μ-loop
-mul-unit-in-3 c = omega arith
+mul-member-in-3 : tie.Need-mul-member-in-3 Inv-loop μ-loop
+mul-member-in-3 c = omega arith
 
-shared-slice-read-unit-in-3 : tie.Need-shared-slice-read-unit-in-3 Inv-loop μ-loop
-shared-slice-read-unit-in-3 c = omega arith
+shared-slice-read-member-in-3 : tie.Need-shared-slice-read-member-in-3 Inv-loop μ-loop
+shared-slice-read-member-in-3 c = omega arith
 
-mul-unit-in-4 : tie.Need-mul-unit-in-4 Inv-loop μ-loop
-mul-unit-in-4 c = omega arith
+mul-member-in-4 : tie.Need-mul-member-in-4 Inv-loop μ-loop
+mul-member-in-4 c = omega arith
 
-shared-slice-read-unit-in-4 : tie.Need-shared-slice-read-unit-in-4 Inv-loop μ-loop
-shared-slice-read-unit-in-4 c = omega arith
+shared-slice-read-member-in-4 : tie.Need-shared-slice-read-member-in-4 Inv-loop μ-loop
+shared-slice-read-member-in-4 c = omega arith
 
-mul-unit-in-5 : tie.Need-mul-unit-in-5 Inv-loop μ-loop
-mul-unit-in-5 c = omega arith
+mul-member-in-5 : tie.Need-mul-member-in-5 Inv-loop μ-loop
+mul-member-in-5 c = omega arith
 
-shared-slice-read-unit-in-5 : tie.Need-shared-slice-read-unit-in-5 Inv-loop μ-loop
-shared-slice-read-unit-in-5 c = omega arith
+shared-slice-read-member-in-5 : tie.Need-shared-slice-read-member-in-5 Inv-loop μ-loop
+shared-slice-read-member-in-5 c = omega arith
 
-unit-in-requires : tie.Need-unit-in-requires Inv-loop μ-loop
-unit-in-requires c κs = tt
+member-in-requires : tie.Need-member-in-requires Inv-loop μ-loop
+member-in-requires c κs = tt
 
 add-i : tie.Need-add-i Inv-loop μ-loop
 add-i c = omega arith
@@ -60,13 +60,13 @@ loop-less : tie.Need-loop-less Inv-loop μ-loop
 loop-less c = omega arith
 
 loop-again : tie.Need-loop-again Inv-loop μ-loop
-unfolding unitInAt
+unfolding memberAt
 loop-again c =
     let l = c .before .before .before .before .before .before .before in
     let a = l .before .before .before .before .before .before .args in (
       omega arith,
-      ap₂ _&&_ (l .loop .inv .1) (c .unit-in .ensures)
-          ∙ sym (all-next (l .loop .i) (unitInAt (fleetOf (a .rated .now) (a .reserve .now) (a .stored .now) (a .rating .now) (a .weight .now)))),
+      ap₂ _&&_ (l .loop .inv .1) (c .member-in .ensures)
+          ∙ sym (all-next (l .loop .i) (memberAt (fleetOf (a .rated .now) (a .reserve .now) (a .stored .now) (a .rating .now) (a .weight .now)))),
     )
 
 returns : tie.Need-returns Inv-loop μ-loop
@@ -74,7 +74,7 @@ returns c =
     let l = c .before in
     let a = l .before .before .before .before .before .before .args in
     let e : l .loop .i ≡ length (a .rated .now) = omega arith in
-    l .loop .inv .1 ∙ ap (λ n. allOf n (unitInAt (fleetOf (a .rated .now) (a .reserve .now) (a .stored .now) (a .rating .now) (a .weight .now)))) e
+    l .loop .inv .1 ∙ ap (λ n. allOf n (memberAt (fleetOf (a .rated .now) (a .reserve .now) (a .stored .now) (a .rating .now) (a .weight .now)))) e
 
 pub units-in-spec : {M : Type 1} → statement M
 units-in-spec =
@@ -83,17 +83,17 @@ units-in-spec =
     Inv-loop
     μ-loop
     loop-holds
-    mul-unit-in
-    shared-slice-read-unit-in
-    mul-unit-in-2
-    shared-slice-read-unit-in-2
-    mul-unit-in-3
-    shared-slice-read-unit-in-3
-    mul-unit-in-4
-    shared-slice-read-unit-in-4
-    mul-unit-in-5
-    shared-slice-read-unit-in-5
-    unit-in-requires
+    mul-member-in
+    shared-slice-read-member-in
+    mul-member-in-2
+    shared-slice-read-member-in-2
+    mul-member-in-3
+    shared-slice-read-member-in-3
+    mul-member-in-4
+    shared-slice-read-member-in-4
+    mul-member-in-5
+    shared-slice-read-member-in-5
+    member-in-requires
     add-i
     loop-less
     loop-again

@@ -13,8 +13,8 @@ use Rattle.controller.proofs.rules.rests.Tie as tie
 in-own-state-requires : tie.Need-in-own-state-requires
 in-own-state-requires c κs = search needs
 
-is-idle-need-requires : tie.Need-is-idle-need-requires
-is-idle-need-requires c κs = search needs
+no-call-requires : tie.Need-no-call-requires
+no-call-requires c κs = search needs
 
 returns : tie.Need-returns
 unfolding restsBy
@@ -22,7 +22,7 @@ returns c =
     let s = c .before .before in
     let g = s .args .charging in
     ap₂ (λ (own idle : Bool). not own && idle) (c .before .in-own-state .ensures)
-    (c .is-idle-need .ensures ∙ ap (λ (z : ℤ). cond g (leZ (pos 0) z) (leZ z (pos 0))) (read w64 (s .args .need) (s .fits .need .sfits)))
+    (c .no-call .ensures ∙ ap (λ (z : ℤ). cond g (leZ (pos 0) z) (leZ z (pos 0))) (read w64 (s .args .need) (s .fits .need .sfits)))
 
 pub rests-spec : {M : Type 1} → statement M
-rests-spec = tie.close (tie.spec in-own-state-requires is-idle-need-requires returns)
+rests-spec = tie.close (tie.spec in-own-state-requires no-call-requires returns)

@@ -1,5 +1,5 @@
 -- The sum so far is that of the units passed; 64 energies of at most 10^13 J are far below the type's end.
-use Prim.Native.Nat.{_-_, _*_, _≤_}
+use Prim.Native.Nat.{_-_, _≤_}
 use mathlib.Core.Path.{_≡_, refl, sym, ap, _∙_}
 use native.Mathlib.Omega.{arith}
 use lib.ListN.{length, getD}

@@ -1,4 +1,4 @@
--- A sum of at most 10^12 and a number of 32 bits fit 64 bits together; the tests are the machine's on what it reads back.
+-- A sum of at most 10^12 and a number of 32 bits fit 64 bits together; the tests are the code's on what it reads back.
 use Rattle.controller.proofs.RequestLaws.{request-fits, with-is}
 use Rattle.whole.proofs.SignLaws.{wide-fits}
 use Rattle.controller.proofs.sums.with_request.Statement.{statement}

@@ -1,6 +1,6 @@
 -- Each arm is the definition's arm; the sum of three numbers that 32 bits hold fits 64.
 use borrow.Author.Needs.{needs}
-use mathlib.Core.Path.{sym, ap, _∙_}
+use mathlib.Core.Path.{sym, _∙_}
 use mir.Syntax.{w64}
 use Rattle.whole.proofs.SignLaws.{read}
 use Rattle.reading.specs.Choice.{largerOf, smallerOf}

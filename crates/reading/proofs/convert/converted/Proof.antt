@@ -1,9 +1,8 @@
 -- A double is what its bit pattern stands for, the NaN too.
 use borrow.Author.Needs.{needs}
-use mathlib.Core.Path.{sym, ap, _∙_}
-use lib.Ieee.{binary64, ofBits, fits}
+use mathlib.Core.Path.{ap, _∙_}
+use lib.Ieee.{binary64, ofBits}
 use lib.Ieee.Bits.{ofBits-toBits}
-use denote.Floats.{passes}
 use Rattle.reading.specs.Conversion.{wattsOf}
 use Rattle.reading.proofs.convert.converted.Statement.{statement}
 use Rattle.reading.proofs.convert.converted.Tie as tie

@@ -1,12 +1,10 @@
 -- The pattern's sign, field and digits are the double's sign, exponent and significand. By the field the size is beyond 10^8, below a half, or the
 -- significand times 1000 rounded by a shift of at most 63 places.
 use borrow.Author.Needs.{needs}
-use mathlib.Core.Path.{_≡_, ap, _∙_}
+use mathlib.Core.Path.{ap, _∙_}
 use native.Mathlib.Nat.{lt-of-le-of-lt}
 use lib.Dec.{lit<}
-use lib.IntN.{ℤ}
 use mir.Syntax.{w32}
-use mir.Val.{toZ, ofZ}
 use mir.ValLaws.{toZ-ofZ}
 use Rattle.whole.proofs.SignLaws.{signed-fits}
 use Rattle.reading.specs.declared.Watts.the-variants.{Whole}

@@ -6,8 +6,8 @@ use Prim.Native.Nat.{_≤_}
 use lib.IntN.{ℤ, natAbs}
 use mir.Syntax.{w32, w64}
 use mir.Val.{toZ, ofZ}
-use mir.ValLaws.{toZ-pos}
-use Rattle.whole.proofs.SignLaws.{read, wide-fits, wide-is, wide-size}
+use mir.ValLaws.{toZ-pos, toZ-ofZ}
+use Rattle.whole.proofs.SignLaws.{read, size-fits, wide-fits, wide-is, wide-size}
 use Rattle.settle.proofs.lines.left.Statement.{statement}
 use Rattle.settle.proofs.lines.left.Tie as tie
 
@@ -21,8 +21,10 @@ cast-minus c = search needs
 load-size : (c : tie.Start) → natAbs (toZ w64 (c .args .load)) ≤ 4294967296
 load-size c = let l = c .fits .load in subst⁻¹ (λ (z : ℤ). natAbs z ≤ 4294967296) (toZ-pos w64 (c .args .load) (omega arith)) (omega arith)
 
-sum-size : (c : tie.After-asked) → natAbs (toZ w64 (ofZ w64 (c .asked .result))) ≤ 137438953472
-sum-size c = subst⁻¹ (λ (z : ℤ). natAbs z ≤ 137438953472) (read w64 (c .asked .result) (c .asked .ok)) (c .asked .ensures)
+sum-size : (c : tie.After-asked) → natAbs (toZ w64 (ofZ w64 (c .asked .result .sum))) ≤ 137438953472
+sum-size c =
+    let small = c .asked .ensures .bounded in
+    subst⁻¹ (λ (z : ℤ). natAbs z ≤ 137438953472) (toZ-ofZ w64 (c .asked .result .sum) (size-fits w64 (c .asked .result .sum) (omega (arith, small)))) small
 
 target-size : (c : tie.Start) → natAbs (toZ w64 (ofZ w64 (toZ w32 (ofZ w32 (c .args .target))))) ≤ 2147483648
 target-size c = subst⁻¹ (λ (z : ℤ). natAbs z ≤ 2147483648) (wide-is (c .args .target) (c .fits .target .sfits)) (wide-size (c .args .target) (c .fits .target .sfits))
@@ -30,21 +32,21 @@ target-size c = subst⁻¹ (λ (z : ℤ). natAbs z ≤ 2147483648) (wide-is (c .
 left-size : (c : tie.After-minus) → natAbs (toZ w64 (ofZ w64 (c .minus .result))) ≤ 141733920768
 left-size c =
     subst⁻¹ (λ (z : ℤ). natAbs z ≤ 141733920768) (read w64 (c .minus .result) (c .minus .ok))
-    (omega (arith, c .minus .ensures, load-size (c .before .before), sum-size (c .before)))
+    (omega (arith, c .minus .ensures, load-size (c .before .before .before), sum-size (c .before .before)))
 
 off-size : (c : tie.After-minus2) → natAbs (toZ w64 (ofZ w64 (c .minus2 .result))) ≤ 143881404416
 off-size c =
     subst⁻¹ (λ (z : ℤ). natAbs z ≤ 143881404416) (read w64 (c .minus2 .result) (c .minus2 .ok))
-    (omega (arith, c .minus2 .ensures, left-size (c .before), target-size (c .before .before .before)))
+    (omega (arith, c .minus2 .ensures, left-size (c .before), target-size (c .before .before .before .before)))
 
 minus-requires : tie.Need-minus-requires
-minus-requires c κs = (omega (arith, load-size (c .before)), omega (arith, sum-size c))
+minus-requires c κs = (omega (arith, load-size (c .before .before)), omega (arith, sum-size (c .before)))
 
 cast-minus-2 : tie.Need-cast-minus-2
-cast-minus-2 c = let s = c .before .before in wide-fits (s .args .target) (s .fits .target .sfits)
+cast-minus-2 c = let s = c .before .before .before in wide-fits (s .args .target) (s .fits .target .sfits)
 
 minus-requires-2 : tie.Need-minus-requires-2
-minus-requires-2 c κs = (omega (arith, left-size c), omega (arith, target-size (c .before .before)))
+minus-requires-2 c κs = (omega (arith, left-size c), omega (arith, target-size (c .before .before .before)))
 
 size64-requires : tie.Need-size64-requires
 size64-requires c κs = search needs
@@ -100,7 +102,7 @@ text-requires-6 : tie.Need-text-requires-6
 text-requires-6 c κs = search needs
 
 cast-signed : tie.Need-cast-signed
-cast-signed c = let s = c .before .before .before .before .before .before .before .before .before .before .before .before .before .before .before .before .before .before in wide-fits (s .args .target) (s .fits .target .sfits)
+cast-signed c = let s = c .before .before .before .before .before .before .before .before .before .before .before .before .before .before .before .before .before .before .before in wide-fits (s .args .target) (s .fits .target .sfits)
 
 signed-requires-3 : tie.Need-signed-requires-3
 signed-requires-3 c κs = search needs

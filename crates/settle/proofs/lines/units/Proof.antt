@@ -1,21 +1,26 @@
--- The place stays below the end of both lists.
-use borrow.Author.Needs.{needs}
+-- The place stays below the end of the requests and, in a turn, below the number of units.
 use Prim.Native.Nat.{_-_, _≤_}
+use native.Mathlib.Omega.{arith}
 use lib.ListN.{length}
+use borrow.Author.Tests.{ltb-true}
+use borrow.Author.Needs.{needs}
 use Rattle.settle.proofs.lines.units.Statement.{statement}
 use Rattle.settle.proofs.lines.units.Tie as tie
 
 abbrev Inv-loop : tie.InvT-loop
-Inv-loop requests rating i₀ i = i ≤ length requests
+Inv-loop file requests n i₀ i = i ≤ length requests
 
 abbrev μ-loop : tie.MeasureT-loop
-μ-loop requests rating i₀ i = length requests - i
+μ-loop file requests n i₀ i = length requests - i
 
 slice-aggregate-text : tie.Need-slice-aggregate-text Inv-loop μ-loop
 slice-aggregate-text c = search needs
 
 text-requires : tie.Need-text-requires Inv-loop μ-loop
 text-requires c κs = search needs
+
+units-requires : tie.Need-units-requires Inv-loop μ-loop
+units-requires c κs = search needs
 
 loop-holds : tie.Need-loop-holds Inv-loop μ-loop
 loop-holds c = search needs
@@ -26,14 +31,13 @@ mul-unit c = search needs
 shared-slice-copy-out-unit : tie.Need-shared-slice-copy-out-unit Inv-loop μ-loop
 shared-slice-copy-out-unit c = search needs
 
-mul-unit-2 : tie.Need-mul-unit-2 Inv-loop μ-loop
-mul-unit-2 c = search needs
-
-shared-slice-read-unit : tie.Need-shared-slice-read-unit Inv-loop μ-loop
-shared-slice-read-unit c = search needs
-
 unit-requires : tie.Need-unit-requires Inv-loop μ-loop
-unit-requires c κs = search needs
+unit-requires c κs =
+    let u = c .before .before .before .before in
+    (u .before .before .before .before .pre, omega (arith, ltb-true, u .units .ensures))
+
+unit-requires-2 : tie.Need-unit-requires-2 Inv-loop μ-loop
+unit-requires-2 c κs = search needs
 
 add-i : tie.Need-add-i Inv-loop μ-loop
 add-i c = search needs
@@ -58,12 +62,12 @@ units-spec =
     μ-loop
     slice-aggregate-text
     text-requires
+    units-requires
     loop-holds
     mul-unit
     shared-slice-copy-out-unit
-    mul-unit-2
-    shared-slice-read-unit
     unit-requires
+    unit-requires-2
     add-i
     loop-less
     loop-again

@@ -1,113 +1,62 @@
 -- A fleet has at most 64 units, so that a part of each array holds a value for every unit, and one of the room the records of a step.
 use borrow.Author.Needs.{needs}
-use mathlib.Core.Path.{_≡_, sym, _∙_, ap}
-use mathlib.Core.List.{List}
-use Prim.Native.Nat.{ℕ, _*_, _≤_}
-use native.Mathlib.Nat.{le-refl, le-trans, le-of-eq}
+use Prim.Native.Nat.{_≤_}
+use native.Mathlib.Nat.{le-trans, le-of-eq}
 use native.Mathlib.Omega.{arith}
-use lib.IntN.{ℤ, pos}
-use lib.ListN.{length, take, replicate}
-use lib.Seq.{length-take-le}
-use Rattle.stick.specs.Said.{unitsOf}
-use Rattle.season.proofs.HeadLaws.{head}
+use Rattle.season.proofs.AnswerLaws.{few-units}
 use Rattle.stick_run.proofs.steps.write.Statement.{statement}
 use Rattle.stick_run.proofs.steps.write.Tie as tie
 
 units-requires : tie.Need-units-requires
-units-requires c κs =
-    let s = c .before in
-    omega (arith, head (s .args .file .now) (s .args .count) (s .pre) .there)
+units-requires c κs = search needs
 
--- no more units than an array has elements, and a part of it has one for each
+-- no more units than an array has elements
 few : (c : tie.After-units) → c .units .result ≤ 64
 few c =
     let s = c .before .before in
-    le-trans (le-of-eq (c .units .ensures)) (head (s .args .file .now) (s .args .count) (s .pre) .few)
+    le-trans (le-of-eq (c .units .ensures)) (few-units (s .args .file .now) (s .args .count) (s .pre))
 
-prefix : {A : Type 0} (xs : List A) (c : tie.After-units) → 64 ≤ length xs → c .units .result ≡ length (take (c .units .result) xs)
-prefix xs c h = sym (length-take-le (c .units .result) xs (le-trans (few c) h))
+sub-write-with : tie.Need-sub-write-with
+sub-write-with c = search needs
 
--- and the room has the bytes of a step
-abbrev bytes : List ℕ
-bytes = replicate 2560 0
+part-rows-start : tie.Need-part-rows-start
+part-rows-start c = search needs
 
-within : (c : tie.After-units) → 40 * c .units .result ≤ 2560
-within c = let l = few c in omega arith
+part-rows-end : tie.Need-part-rows-end
+part-rows-end c = few c
 
-records : (c : tie.After-units) → 40 * c .units .result ≡ length (take (40 * c .units .result) bytes)
-records c = sym (length-take-le (40 * c .units .result) bytes (within c))
+sub-write-with-2 : tie.Need-sub-write-with-2
+sub-write-with-2 c = search needs
 
-array-borrow-prefix-rated : tie.Need-array-borrow-prefix-rated
-array-borrow-prefix-rated c = few c
+part-stored-start : tie.Need-part-stored-start
+part-stored-start c = search needs
 
-slice-aggregate-write-with : tie.Need-slice-aggregate-write-with
-slice-aggregate-write-with c = prefix (replicate 64 0) (c .before) (le-refl 64)
+part-stored-end : tie.Need-part-stored-end
+part-stored-end c = few (c .before)
 
-array-borrow-prefix-reserve : tie.Need-array-borrow-prefix-reserve
-array-borrow-prefix-reserve c = few (c .before)
+sub-write-with-3 : tie.Need-sub-write-with-3
+sub-write-with-3 c = search needs
 
-slice-aggregate-write-with-2 : tie.Need-slice-aggregate-write-with-2
-slice-aggregate-write-with-2 c = prefix (replicate 64 0) (c .before .before) (le-refl 64)
+part-requests-start : tie.Need-part-requests-start
+part-requests-start c = search needs
 
-array-borrow-prefix-stored : tie.Need-array-borrow-prefix-stored
-array-borrow-prefix-stored c = few (c .before .before)
+part-requests-end : tie.Need-part-requests-end
+part-requests-end c = few (c .before .before)
 
-slice-aggregate-write-with-3 : tie.Need-slice-aggregate-write-with-3
-slice-aggregate-write-with-3 c = prefix (replicate 64 0) (c .before .before .before) (le-refl 64)
+mul-write-with : tie.Need-mul-write-with
+mul-write-with c = omega (arith, few (c .before .before .before))
 
-array-borrow-prefix-rating : tie.Need-array-borrow-prefix-rating
-array-borrow-prefix-rating c = few (c .before .before .before)
+sub-write-with-4 : tie.Need-sub-write-with-4
+sub-write-with-4 c = search needs
 
-slice-aggregate-write-with-4 : tie.Need-slice-aggregate-write-with-4
-slice-aggregate-write-with-4 c = prefix (replicate 64 0) (c .before .before .before .before) (le-refl 64)
+part-room-start : tie.Need-part-room-start
+part-room-start c = search needs
 
-array-borrow-prefix-weight : tie.Need-array-borrow-prefix-weight
-array-borrow-prefix-weight c = few (c .before .before .before .before)
-
-slice-aggregate-write-with-5 : tie.Need-slice-aggregate-write-with-5
-slice-aggregate-write-with-5 c = prefix (replicate 64 0) (c .before .before .before .before .before) (le-refl 64)
-
-array-borrow-prefix-draws : tie.Need-array-borrow-prefix-draws
-array-borrow-prefix-draws c = few (c .before .before .before .before .before)
-
-slice-aggregate-write-with-6 : tie.Need-slice-aggregate-write-with-6
-slice-aggregate-write-with-6 c = prefix (replicate 64 0) (c .before .before .before .before .before .before) (le-refl 64)
-
-array-borrow-prefix-still : tie.Need-array-borrow-prefix-still
-array-borrow-prefix-still c = few (c .before .before .before .before .before .before)
-
-slice-aggregate-write-with-7 : tie.Need-slice-aggregate-write-with-7
-slice-aggregate-write-with-7 c = prefix (replicate 64 (pos 0)) (c .before .before .before .before .before .before .before) (le-refl 64)
-
-array-borrow-prefix-requests : tie.Need-array-borrow-prefix-requests
-array-borrow-prefix-requests c = few (c .before .before .before .before .before .before .before)
-
-slice-aggregate-write-with-8 : tie.Need-slice-aggregate-write-with-8
-slice-aggregate-write-with-8 c = prefix (replicate 64 (pos 0)) (c .before .before .before .before .before .before .before .before) (le-refl 64)
-
-mul-room : tie.Need-mul-room
-mul-room c = omega (arith, within (c .before .before .before .before .before .before .before .before))
-
-array-borrow-prefix-room : tie.Need-array-borrow-prefix-room
-array-borrow-prefix-room c = within (c .before .before .before .before .before .before .before .before)
-
-slice-aggregate-write-with-9 : tie.Need-slice-aggregate-write-with-9
-slice-aggregate-write-with-9 c = records (c .before .before .before .before .before .before .before .before .before)
+part-room-end : tie.Need-part-room-end
+part-room-end c = omega (arith, few (c .before .before .before))
 
 write-with-requires : tie.Need-write-with-requires
-write-with-requires c κs =
-    let u = c .before .before .before .before .before .before .before .before .before in
-    let s = u .before .before in
-    let zeros : List ℕ = replicate 64 0 in
-    let rests : List ℤ = replicate 64 (pos 0) in
-    let values : length (take (u .units .result) zeros) ≡ unitsOf (s .args .file .now) = sym (prefix zeros u (le-refl 64)) ∙ u .units .ensures in
-    let asks : length (take (u .units .result) rests) ≡ unitsOf (s .args .file .now) = sym (prefix rests u (le-refl 64)) ∙ u .units .ensures in (
-      s .pre,
-      (
-        record { rated-there = values; reserve-there = values; stored-there = values; rating-there = values; weight-there = values; requests-there = asks },
-        (values, (asks, sym (records u) ∙ ap (λ (n : ℕ). 40 * n) (u .units .ensures))),
-      ),
-    )
+write-with-requires c κs = search needs
 
 returns : tie.Need-returns
 returns c = search needs
@@ -117,24 +66,18 @@ write-spec =
     tie.close
     (tie.spec
     units-requires
-    array-borrow-prefix-rated
-    slice-aggregate-write-with
-    array-borrow-prefix-reserve
-    slice-aggregate-write-with-2
-    array-borrow-prefix-stored
-    slice-aggregate-write-with-3
-    array-borrow-prefix-rating
-    slice-aggregate-write-with-4
-    array-borrow-prefix-weight
-    slice-aggregate-write-with-5
-    array-borrow-prefix-draws
-    slice-aggregate-write-with-6
-    array-borrow-prefix-still
-    slice-aggregate-write-with-7
-    array-borrow-prefix-requests
-    slice-aggregate-write-with-8
-    mul-room
-    array-borrow-prefix-room
-    slice-aggregate-write-with-9
+    sub-write-with
+    part-rows-start
+    part-rows-end
+    sub-write-with-2
+    part-stored-start
+    part-stored-end
+    sub-write-with-3
+    part-requests-start
+    part-requests-end
+    mul-write-with
+    sub-write-with-4
+    part-room-start
+    part-room-end
     write-with-requires
     returns)

@@ -1,44 +1,46 @@
--- The lists hold what the file says of its units, so that a step can begin from them.
+-- The rows hold what the file says of its units and what stands is what it says of them at first, so that every step can be taken from there.
 use borrow.Author.Needs.{needs}
-use Rattle.season.proofs.HeadLaws.{head, readable, first-held}
+use mathlib.Core.Path.{sym, _∙_}
+use Rattle.season.proofs.LoadLaws.{rows-there, loaded-sited, all-loaded}
 use Rattle.stick_run.proofs.steps.write_with.Statement.{statement}
 use Rattle.stick_run.proofs.steps.write_with.Tie as tie
 
--- the way back from what is lent last to the lists of how the units idle, from there to the other lists, and to the start
-abbrev rested : tie.After-write-steps-arg9 → tie.After-load-rests
-rested c = c .before .before .before .before .before .before .before .before .before .before .before .before
-
-abbrev loaded : tie.After-load-rests-arg2 → tie.After-load
-loaded c = c .before .before .before .before .before .before .before .before .before .before .before .before .before
-
-abbrev start : tie.After-load → tie.Start
-start l = l .before .before .before .before .before .before .before .before .before .before .before .before .before .before .before
-
 load-requires : tie.Need-load-requires
-load-requires c κs =
-    let s = c .before .before .before .before .before .before .before .before .before .before .before .before .before .before in
-    let (a, (n, (ed, (ev, f)))) = s .pre in
-    (head (s .args .file .now) (s .args .count) a, n)
+load-requires c κs = search needs
 
-load-rests-requires : tie.Need-load-rests-requires
-load-rests-requires c κs =
-    let s = start (loaded c) in
-    let (a, (n, (ed, (ev, f)))) = s .pre in
-    (head (s .args .file .now) (s .args .count) a, (ed, ev))
+head-requires : tie.Need-head-requires
+head-requires c κs = search needs
+
+framed-requires : tie.Need-framed-requires
+framed-requires c κs =
+    let h = c .before in
+    let o = h .before .before in
+    let s = o .before .before .before .before .before in
+    let (n, (ls, f)) = s .pre in
+    let (eu, rs) = o .load .ensures in
+    (loaded-sited (s .args .file .now) (o .load .last .1 .0) eu (h .head .result) (h .head .ensures) (n .accepted), rs)
+
+start-requires : tie.Need-start-requires
+start-requires c κs =
+    let o = c .before .before .before .before .before .before .before in
+    let s = o .before .before .before .before .before in
+    let (n, (ls, f)) = s .pre in
+    let (eu, rs) = o .load .ensures in
+    let e = sym (rows-there (s .args .file .now) (o .load .last .1 .0) eu) in
+    (ls .stored-there ∙ e, ls .requests-there ∙ e)
 
 write-steps-requires : tie.Need-write-steps-requires
 write-steps-requires c κs =
-    let r = rested c in
-    let l = loaded (r .before) in
-    let s = start l in
-    let (a, (n, (ed, (ev, f)))) = s .pre in
-    let (cs, e) = l .load .ensures in
-    let stored = l .load .last .1 .1 .1 .0 in
-    let requests = l .load .last .1 .1 .1 .1 .1 .1 .0 in
-    let file = s .args .file .now in
-    let count = s .args .count in
-    let h = head file count a in
-    (h, (cs, (r .load-rests .ensures, (first-held file stored requests h e, (readable file count a, f)))))
+    let t = c .before .before .before .before .before .before .before in
+    let m = t .before .before .before .before in
+    let h = m .before .before in
+    let o = h .before .before in
+    let s = o .before .before .before .before .before in
+    let (n, (ls, f)) = s .pre in
+    let (eu, rs) = o .load .ensures in
+    let (ef, rd) = m .framed .ensures in
+    let last = t .start .last .1 in
+    (n, (all-loaded (s .args .file .now) (o .load .last .1 .0) eu (h .head .result) (h .head .ensures) (m .framed .result) ef (last .0) (last .1 .0) (t .start .ensures) (n .accepted) rd, f))
 
 same-length : tie.Need-same-length
 same-length c = search needs
@@ -52,21 +54,6 @@ same-length-3 c = search needs
 same-length-4 : tie.Need-same-length-4
 same-length-4 c = search needs
 
-same-length-5 : tie.Need-same-length-5
-same-length-5 c = search needs
-
-same-length-6 : tie.Need-same-length-6
-same-length-6 c = search needs
-
-same-length-7 : tie.Need-same-length-7
-same-length-7 c = search needs
-
-same-length-8 : tie.Need-same-length-8
-same-length-8 c = search needs
-
-same-length-9 : tie.Need-same-length-9
-same-length-9 c = search needs
-
 returns : tie.Need-returns
 returns c = search needs
 
@@ -75,15 +62,12 @@ write-with-spec =
     tie.close
     (tie.spec
     load-requires
-    load-rests-requires
+    head-requires
+    framed-requires
+    start-requires
     write-steps-requires
     same-length
     same-length-2
     same-length-3
     same-length-4
-    same-length-5
-    same-length-6
-    same-length-7
-    same-length-8
-    same-length-9
     returns)

@@ -5,7 +5,7 @@ use Prim.Native.Nat.{_-_, _*_, _/_, _≤_}
 use native.Mathlib.Nat.{mul-le-mul, lt-of-le-of-lt}
 use native.Mathlib.Omega.{arith}
 use lib.Dec.{lit<}
-use Rattle.storage.proofs.RangeLaws.{bounds}
+use Rattle.unit.proofs.RangeLaws.{bounds}
 use Rattle.storage.proofs.EnergyLaws.{added-room, added-none}
 use Rattle.storage.specs.Step.{addedBy}
 use Rattle.storage.proofs.energy.added.Statement.{statement}

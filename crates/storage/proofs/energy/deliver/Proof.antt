@@ -5,7 +5,7 @@ use mathlib.Core.Path.{sym, _∙_}
 use Prim.Native.Nat.{_-_, _*_, _≤_}
 use native.Mathlib.Nat.{mul-le-mul, le-of-lt}
 use native.Mathlib.Omega.{arith}
-use Rattle.storage.proofs.RangeLaws.{bounds}
+use Rattle.unit.proofs.RangeLaws.{bounds}
 use Rattle.storage.proofs.EnergyLaws.{delivered-room}
 use Rattle.storage.proofs.LimitLaws.{deliverable-is, deliverable-none, deliverable-empty}
 use Rattle.storage.proofs.energy.deliver.Statement.{statement}

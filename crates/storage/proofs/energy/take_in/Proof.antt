@@ -6,7 +6,7 @@ use Prim.Native.Nat.{_-_}
 use native.Mathlib.Nat.{mul-le-mul, lt-of-le-of-lt, lt-of-lt-of-le}
 use native.Mathlib.Omega.{arith}
 use lib.Dec.{lit<}
-use Rattle.storage.proofs.RangeLaws.{bounds}
+use Rattle.unit.proofs.RangeLaws.{bounds}
 use Rattle.storage.proofs.EnergyLaws.{keepable-most}
 use Rattle.storage.proofs.LimitLaws.{takeable-is}
 use Rattle.storage.proofs.energy.take_in.Statement.{statement}

@@ -2,7 +2,7 @@
 use borrow.Author.Needs.{needs}
 use mathlib.Core.Path.{sym, ap, _∙_, subst}
 use Prim.Native.Nat.{ℕ, _-_, _≤_}
-use Rattle.storage.proofs.RangeLaws.{bounds}
+use Rattle.unit.proofs.RangeLaws.{bounds}
 use Rattle.storage.proofs.LimitLaws.{takeable-all}
 use Rattle.storage.proofs.StepLaws.{charged-none, charged-some, in-moves}
 use Rattle.storage.specs.Posts.{moveBy}

@@ -1,7 +1,7 @@
 -- Idle where nothing is asked or below the reserve; all that is asked where its removal is available, since then it is the largest count; and less
 -- otherwise.
 use borrow.Author.Needs.{needs}
-use mathlib.Core.Path.{sym, ap, _∙_, subst}
+use mathlib.Core.Path.{ap, _∙_, subst}
 use Prim.Native.Nat.{ℕ, _-_, _≤_}
 use Rattle.storage.proofs.LimitLaws.{deliverable-all}
 use Rattle.storage.proofs.StepLaws.{discharged-nothing, discharged-below, discharged-some, out-moves}

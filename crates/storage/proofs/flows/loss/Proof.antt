@@ -1,7 +1,6 @@
 -- The code is the definition, by what the flow moves. A removal is at least what is delivered and an addition at most what is drawn, so no loss is below
 -- 0; and watts up to S over a day fit 64 bits.
 use borrow.Author.Needs.{needs}
-use native.Mathlib.Omega.{arith}
 use Rattle.storage.proofs.StepLaws.{out-fits, out-covers, in-fits, in-covered, idle-fits, out-loss, in-loss, idle-loss}
 use Rattle.storage.proofs.flows.loss.Statement.{statement}
 use Rattle.storage.proofs.flows.loss.Tie as tie

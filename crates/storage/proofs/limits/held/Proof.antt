@@ -2,21 +2,22 @@
 use borrow.Author.Needs.{needs}
 use mathlib.Core.Path.{_≡_}
 use lib.IntN.{natAbs}
-use Rattle.storage.proofs.LimitLaws.{sized, held-beside, held-first}
+use Rattle.whole.proofs.SignLaws.{sized}
+use Rattle.storage.proofs.LimitLaws.{held-beside, held-first}
 use Rattle.storage.proofs.limits.held.Statement.{statement}
 use Rattle.storage.proofs.limits.held.Tie as tie
 
 size32-requires : tie.Need-size32-requires
 size32-requires c κs = search needs
 
-least-requires : tie.Need-least-requires
-least-requires c κs = search needs
+least32-requires : tie.Need-least32-requires
+least32-requires c κs = search needs
 
 size32-requires-2 : tie.Need-size32-requires-2
 size32-requires-2 c κs = search needs
 
-least-requires-2 : tie.Need-least-requires-2
-least-requires-2 c κs = search needs
+least32-requires-2 : tie.Need-least32-requires-2
+least32-requires-2 c κs = search needs
 
 beside-requires : tie.Need-beside-requires
 beside-requires c κs = search needs
@@ -43,9 +44,9 @@ held-spec =
     tie.close
     (tie.spec
     size32-requires
-    least-requires
+    least32-requires
     size32-requires-2
-    least-requires-2
+    least32-requires-2
     beside-requires
     returns
     returns-2)

@@ -3,8 +3,8 @@ use borrow.Author.Needs.{needs}
 use mathlib.Core.Path.{_∙_}
 use native.Mathlib.Omega.{arith}
 use mir.Syntax.{w32}
-use Rattle.whole.proofs.SignLaws.{read, signed-fits}
-use Rattle.storage.proofs.LimitLaws.{sized, vars-are}
+use Rattle.whole.proofs.SignLaws.{read, signed-fits, sized}
+use Rattle.storage.proofs.LimitLaws.{vars-are}
 use Rattle.storage.proofs.limits.vars.Statement.{statement}
 use Rattle.storage.proofs.limits.vars.Tie as tie
 

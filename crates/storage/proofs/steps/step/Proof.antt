@@ -4,7 +4,7 @@ use mathlib.Core.Path.{ap, _∙_}
 use native.Mathlib.Omega.{arith}
 use mir.Syntax.{w32}
 use Rattle.whole.proofs.SignLaws.{read}
-use Rattle.storage.proofs.LimitLaws.{sized}
+use Rattle.whole.proofs.SignLaws.{sized}
 use Rattle.storage.proofs.StepLaws.{refused-values, refused-rating, done, ranged}
 use Rattle.storage.specs.declared.Stepped.the-variants.{Done}
 use Rattle.storage.specs.Step.{stepOf}

@@ -1,6 +1,6 @@
 -- A step is what flows with what that moves, and then the watts, the vars, the store and the loss of that flow, which the unit can carry.
 use borrow.Author.Needs.{needs}
-use Rattle.storage.proofs.RangeLaws.{bounds}
+use Rattle.unit.proofs.RangeLaws.{bounds}
 use Rattle.storage.proofs.StepLaws.{moving, outcome-is}
 use Rattle.storage.proofs.steps.step_within.Statement.{statement}
 use Rattle.storage.proofs.steps.step_within.Tie as tie

@@ -1,9 +1,8 @@
 -- The bisection keeps low² ≤ room < high², where room is what y leaves of the circle. When high is low + 1, low is the leg.
 -- No product wraps: middle is at most s, and s² fits 64 bits.
-use borrow.Author.Needs.{needs}
-use mathlib.Core.Path.{_≡_, sym, ap, subst}
-use Prim.Native.Nat.{ℕ, suc, _+_, _-_, _*_, _^_, _≤_, _<_}
-use native.Mathlib.Nat.{le-trans, lt-of-le-of-lt}
+use mathlib.Core.Path.{_≡_, sym, subst}
+use Prim.Native.Nat.{ℕ, suc, _+_, _-_, _*_, _≤_, _<_}
+use native.Mathlib.Nat.{lt-of-le-of-lt}
 use native.Mathlib.Numerals.{add-one}
 use native.Mathlib.Omega.{arith}
 use Rattle.whole.proofs.LargestLaws.{square-le, square-suc, square-fits, leg-is, leg-none}

@@ -1,0 +1,94 @@
+/* What the parts of the import tool share; each part says at its start what it does.
+**
+** What a stick says is asked of the library, and nothing here reads a stick's values by itself. The library's answers
+** are proved, but nothing here trusts them with memory: a place or a size that cannot be about the file is a fault, is
+** told, and ends the command.
+*/
+#ifndef IMPORT_H
+#define IMPORT_H
+
+#include <stddef.h>
+#include <stdint.h>
+#include <stdio.h>
+
+/* What came of a command, which is its exit status. */
+enum { COMPLETE = 0, REFUSED = 1, FAILED = 2 };
+
+/* A file as it was read, and the check's answer. The units, 1 to 64, are those of a file that was asked for as a
+** complete one.
+*/
+struct stick {
+    const char *name;
+    const uint8_t *bytes;
+    size_t len;
+    uint32_t number, steps;
+    uint64_t place;
+    unsigned units;
+};
+
+/* The settings of a complete stick, and one of its units. */
+struct settings {
+    uint8_t mode;
+    int32_t target;
+    uint32_t band;
+    uint16_t factor;
+    uint8_t phase;
+};
+
+struct unit {
+    uint64_t rated, reserve, stored;
+    uint32_t rating, kva, idle_loss;
+    int32_t var_request;
+    uint16_t weight, inverter, charge, discharge;
+    uint8_t priority;
+};
+
+/* The run over a complete stick: the result file's bytes, to be freed. */
+struct run {
+    uint8_t *bytes;
+    size_t len;
+    unsigned units;
+    uint32_t steps;
+};
+
+/* import_stick.c */
+
+/* Print a name as a part of one line. */
+void print_name(FILE *out, const char *name);
+
+/* Say on standard error what is the matter with a file; give FAILED. */
+int failed(const char *name, const char *what, const char *why);
+int fault(const char *name);
+
+/* Read and check a file. Gives what came of it; where it FAILED, that is told. */
+int ask(struct stick *stick, const char *name);
+
+/* Print a file's line and, of a refused one, what to do about it; and with show the refused field's bytes. */
+void print_answer(const struct stick *stick, int show);
+
+/* Ask for a complete file; of a refused one print the answer, and on standard error what was not done. */
+int ask_complete(struct stick *stick, const char *name, const char *not_done);
+
+/* Ask for what a complete stick says: its settings, and the values of a unit, counted from 0. Gives COMPLETE, or
+** FAILED where the library refuses that, which is a fault and is told.
+*/
+int ask_settings(struct settings *settings, const struct stick *stick);
+int ask_unit(struct unit *unit, const struct stick *stick, unsigned which);
+
+/* import_run.c */
+
+/* Run a complete stick. Gives COMPLETE, or FAILED where there is no memory for the result. */
+int make_run(struct run *run, const struct stick *stick);
+
+/* import_whole.c */
+
+/* Write a file that appears whole under its name or not at all. Gives COMPLETE, or FAILED, which is told. */
+int write_whole(const char *name, const uint8_t *bytes, size_t len);
+
+/* The commands, with the words that follow them. */
+int run_command(const char *file, const char *result);
+int settle_command(const char *file, const char *load, const char *budget);
+int table_command(const char *file, const char *result);
+int summary_command(const char *file, const char *result);
+
+#endif

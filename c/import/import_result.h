@@ -1,0 +1,46 @@
+/* A result file as table and summary read it: the run's bytes, once the file was found to be just these. */
+#ifndef IMPORT_RESULT_H
+#define IMPORT_RESULT_H
+
+#include "import.h"
+
+/* The layout of a result file, which stands here alone: the parts of a record, and of the end, by their first bytes,
+** and the bytes of all of them. A tag is a byte, a length two; the numbers are big-endian.
+*/
+enum {
+    RECORD_TAG = 0x11,
+    RECORD_LENGTH = 1,
+    RECORD_STEP = 3,
+    RECORD_UNIT = 7,
+    RECORD_REQUEST = 8,
+    RECORD_KW = 12,
+    RECORD_VARS = 20,
+    RECORD_STORED = 24,
+    RECORD_LOSS = 32,
+    RECORD_BYTES = 40
+};
+enum {
+    RESULT_END_TAG = 0x1F,
+    RESULT_END_LENGTH = 1,
+    RESULT_END_STEPS = 3,
+    RESULT_END_BYTES = 7
+};
+
+/* What a result says of one unit in one step. */
+struct record {
+    int32_t request, watts, vars;
+    uint64_t stored, loss;
+};
+
+/* Check a run file, run it, and compare a result file with what that gives. Where it is COMPLETE the run is to be
+** freed; anything else is told, and nothing of the result is to be shown.
+*/
+int open_result(struct stick *stick, struct run *run, const char *file, const char *result);
+
+struct record record_at(const struct run *run, uint32_t step, unsigned unit);
+
+/* Watts as kW with all of their three decimals, in a text of at most 24 bytes. */
+enum { KW_TEXT = 24 };
+void kw_text(char *text, int64_t watts);
+
+#endif

@@ -1,0 +1,180 @@
+/* import summary: what a planner asks of a result, a line for each unit and one for the fleet. */
+#include <inttypes.h>
+#include <stdlib.h>
+#include <string.h>
+
+#include "import_result.h"
+#include "yesbrulka.h"
+
+/* Sixty-four units that draw all they can through 65,535 steps of a day take more joules than 64 bits hold. */
+typedef unsigned __int128 joules;
+
+/* A unit's line, or the fleet's: the request of the largest size, the most watts out and in of a step, the energy
+** out, in and lost, the least stored and the first step that left it, and the steps whose request was not met.
+*/
+struct line {
+    int64_t request, out, in;
+    joules given, taken, lost;
+    uint64_t low;
+    uint32_t low_step, not_met;
+};
+
+/* A request is not met where it is not 0 and the power is another: less than was asked, or the idle draw. A unit
+** that is asked nothing does what it is asked when it idles.
+*/
+static int is_met(const struct record *r)
+{
+    return r->request == 0 || r->watts == r->request;
+}
+
+static int64_t size_of(int64_t watts)
+{
+    return watts < 0 ? -watts : watts;
+}
+
+/* One step of a unit, or the sums of one step of the fleet. */
+static void see_step(struct line *line, uint32_t step, int64_t request, int64_t watts, uint64_t stored, int met)
+{
+    if (size_of(request) > size_of(line->request))
+        line->request = request;
+    if (watts > line->out)
+        line->out = watts;
+    if (-watts > line->in)
+        line->in = -watts;
+    if (step == 0 || stored < line->low) {
+        line->low = stored;
+        line->low_step = step;
+    }
+    line->not_met += !met;
+}
+
+static void see_energy(struct line *line, const struct record *r, uint32_t seconds)
+{
+    joules energy = (joules)size_of(r->watts) * seconds;
+    if (r->watts > 0)
+        line->given += energy;
+    else
+        line->taken += energy;
+    line->lost += r->loss;
+}
+
+/* The lines of the units and, after them, the fleet's. */
+static void see_run(struct line *lines, const struct run *run, uint32_t seconds)
+{
+    struct line *fleet = &lines[run->units];
+    for (uint32_t step = 0; step < run->steps; step++) {
+        int64_t request = 0, watts = 0;
+        uint64_t stored = 0;
+        int met = 1;
+        for (unsigned unit = 0; unit < run->units; unit++) {
+            struct record r = record_at(run, step, unit);
+            see_step(&lines[unit], step, r.request, r.watts, r.stored, is_met(&r));
+            see_energy(&lines[unit], &r, seconds);
+            see_energy(fleet, &r, seconds);
+            request += r.request;
+            watts += r.watts;
+            stored += r.stored;
+            met &= is_met(&r);
+        }
+        see_step(fleet, step, request, watts, stored, met);
+    }
+}
+
+/* A heading, a line for each unit and the fleet's, as texts, to be set in columns. */
+enum { ROWS = YB_MOST_UNITS + 2, COLUMNS = 13, CELL = 48 };
+
+typedef char row[COLUMNS][CELL];
+
+static void whole_text(char *text, joules number)
+{
+    char digits[CELL] = "";
+    int at = CELL - 1;
+    do
+        digits[--at] = (char)('0' + (int)(number % 10));
+    while ((number /= 10) != 0);
+    memcpy(text, digits + at, (size_t)(CELL - at));
+}
+
+/* Joules, and beside them the nearest kWh of three decimals. */
+static void energy_texts(char *whole, char *kwh, joules energy)
+{
+    joules watt_hours = (energy + 1800) / 3600;
+    whole_text(whole, energy);
+    whole_text(kwh, watt_hours / 1000);
+    snprintf(kwh + strlen(kwh), 5, ".%03d", (int)(watt_hours % 1000));
+}
+
+/* Without a step there is no least store. */
+static void line_texts(row cells, const struct line *line, uint32_t steps)
+{
+    snprintf(cells[1], CELL, "%" PRId64, line->request);
+    kw_text(cells[2], line->out);
+    kw_text(cells[3], line->in);
+    energy_texts(cells[4], cells[5], line->given);
+    energy_texts(cells[6], cells[7], line->taken);
+    energy_texts(cells[8], cells[9], line->lost);
+    snprintf(cells[10], CELL, "%" PRIu64, line->low);
+    snprintf(cells[11], CELL, "%" PRIu32, line->low_step);
+    if (steps == 0)
+        strcpy(cells[10], "-"), strcpy(cells[11], "-");
+    snprintf(cells[12], CELL, "%" PRIu32, line->not_met);
+}
+
+static void print_rows(row *rows, unsigned count)
+{
+    int width[COLUMNS] = {0};
+    for (unsigned i = 0; i < count; i++)
+        for (int k = 0; k < COLUMNS; k++)
+            if ((int)strlen(rows[i][k]) > width[k])
+                width[k] = (int)strlen(rows[i][k]);
+    for (unsigned i = 0; i < count; i++)
+        for (int k = 0; k < COLUMNS; k++)
+            printf("%*s%s", width[k], rows[i][k], k + 1 == COLUMNS ? "\n" : "  ");
+}
+
+static void print_lines(const struct line *lines, const struct run *run)
+{
+    static const char *const heading[COLUMNS] = {"unit", "request_W", "out_kW", "in_kW", "out_J", "out_kWh", "in_J",
+        "in_kWh", "loss_J", "loss_kWh", "low_J", "at_step", "not_met"};
+    static row rows[ROWS];
+    for (int k = 0; k < COLUMNS; k++)
+        strcpy(rows[0][k], heading[k]);
+    for (unsigned i = 0; i <= run->units; i++) {
+        snprintf(rows[i + 1][0], CELL, "%u", i);
+        line_texts(rows[i + 1], &lines[i], run->steps);
+    }
+    strcpy(rows[run->units + 1][0], "fleet");
+    print_rows(rows, run->units + 2);
+}
+
+static void print_settings(unsigned units, uint32_t seconds, const struct settings *settings)
+{
+    static const char *const modes[] = {
+        [YB_PEAK_SHAVE] = " (PeakShave)", [YB_SUPPORT] = " (Support)", [YB_PEAK_SHAVE_LOW] = " (PeakShaveLow)"};
+    unsigned mode = settings->mode;
+    int named = mode < sizeof modes / sizeof modes[0] && modes[mode] != NULL;
+    printf("%u units, steps of %" PRIu32 " s, mode %u%s, ", units, seconds, mode, named ? modes[mode] : "");
+    printf("target %" PRId32 " W, band %" PRIu32 " W, factor %u\n", settings->target, settings->band,
+        (unsigned)settings->factor);
+}
+
+int summary_command(const char *file, const char *result)
+{
+    static struct line lines[YB_MOST_UNITS + 1];
+    struct stick stick;
+    struct run run;
+    struct settings settings;
+    int outcome = open_result(&stick, &run, file, result);
+    if (outcome != COMPLETE)
+        return outcome;
+    uint32_t seconds = yb_seconds(stick.bytes, stick.len);
+    see_run(lines, &run, seconds);
+    free(run.bytes);
+    outcome = seconds != 0 ? ask_settings(&settings, &stick) : fault(file);
+    if (outcome != COMPLETE)
+        return outcome;
+    print_answer(&stick, 0);
+    print_settings(stick.units, seconds, &settings);
+    print_lines(lines, &run);
+    return COMPLETE;
+}

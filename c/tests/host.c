@@ -1,0 +1,512 @@
+/* Holds the proved archive for tests that are not written in C: calls come in on standard input as frames,
+** answers go out on standard output. All numbers of a frame are little-endian.
+**
+**     call     op u8, length u32, that many payload bytes
+**     answer   length u32, that many payload bytes
+**
+** The end of input between two frames ends the program with status 0. A frame that is cut short, has an
+** unknown op or a payload that is none of that op's ends it with status 1 and a message.
+*/
+#include <stdint.h>
+#include <stdio.h>
+#include <stdlib.h>
+#include <string.h>
+
+#include "yesbrulka.h"
+
+/* Larger than any frame of the tests; a broken length is caught before it is believed. */
+#define MOST_PAYLOAD (64u << 20)
+
+/* Longer than any room of the tests. */
+#define MOST_ROOM (64u << 20)
+
+/* What an out-number holds before a call, so that a test can see that it was left alone; all of its bytes
+** are equal, for numbers of other widths.
+*/
+#define LEFT_ALONE 0x5A5A5A5A
+
+/* The guard bytes before and after lent memory, and what they hold. */
+#define GUARD 64
+#define GUARD_BYTE 0xA5
+
+static _Noreturn void give_up(const char *why)
+{
+    fprintf(stderr, "host: %s\n", why);
+    exit(1);
+}
+
+static uint64_t number_at(const uint8_t *bytes, int width)
+{
+    uint64_t n = 0;
+    for (int i = width; i-- > 0;)
+        n = n << 8 | bytes[i];
+    return n;
+}
+
+/* The answer as it grows; its first four bytes are kept for the length. */
+static struct {
+    uint8_t *bytes;
+    size_t used, room;
+} answer;
+
+/* Sees to it that so many more bytes fit the answer. */
+static void make_room(size_t length)
+{
+    if (answer.room - answer.used >= length)
+        return;
+    answer.room = 2 * answer.room + length + 4096;
+    answer.bytes = realloc(answer.bytes, answer.room);
+    if (answer.bytes == NULL)
+        give_up("no memory for an answer");
+}
+
+static void put(uint64_t n, int width)
+{
+    make_room((size_t)width);
+    for (int i = 0; i < width; i++)
+        answer.bytes[answer.used++] = (uint8_t)(n >> 8 * i);
+}
+
+static void put_bytes(const uint8_t *bytes, size_t length)
+{
+    make_room(length);
+    memcpy(answer.bytes + answer.used, bytes, length);
+    answer.used += length;
+}
+
+/* 'W': any number of kW doubles by their bits, u64. For each the number, u32, and *watts after the call. */
+static void call_watts(const uint8_t *payload, size_t length)
+{
+    if (length % 8 != 0)
+        give_up("op W: the payload is no row of doubles");
+    for (size_t at = 0; at < length; at += 8) {
+        uint64_t bits = number_at(payload + at, 8);
+        double kw;
+        int32_t watts = LEFT_ALONE;
+        memcpy(&kw, &bits, sizeof kw);
+        put(yb_watts(kw, &watts), 4);
+        put((uint32_t)watts, 4);
+    }
+}
+
+/* What is left of a payload. */
+struct rest {
+    const uint8_t *bytes;
+    size_t length;
+    const char *too_short;
+};
+
+static const uint8_t *take(struct rest *rest, uint64_t length)
+{
+    const uint8_t *taken = rest->bytes;
+    if (rest->length < length)
+        give_up(rest->too_short);
+    rest->bytes += length;
+    rest->length -= length;
+    return taken;
+}
+
+static uint64_t take_number(struct rest *rest, int width)
+{
+    return number_at(take(rest, (uint64_t)width), width);
+}
+
+/* Memory to lend, between guards, and a copy of all of it from before the call. */
+struct lent {
+    uint8_t *memory, *copy;
+    size_t length, room;
+};
+
+/* The six lists of a fleet in the order of the calls, and up to twelve out-numbers after them. */
+enum { RATED, RESERVE, STORED, RATING, WEIGHT, REQUESTS, LISTS };
+enum { FIRST = LISTS, SECOND, THIRD, FOURTH, FIFTH, TWELFTH = FIRST + 11, ALL_LENT };
+
+static const size_t widths[LISTS] = {8, 8, 8, 4, 2, 4};
+static struct lent lent[ALL_LENT];
+static struct lent lent_file, lent_room;
+
+/* Memory of a length between guards; what it holds is still to be filled in and then kept. */
+static uint8_t *between_guards(struct lent *lent, size_t length)
+{
+    size_t whole = length + 2 * GUARD;
+    if (lent->room < whole) {
+        lent->room = 2 * whole;
+        lent->memory = realloc(lent->memory, lent->room);
+        lent->copy = realloc(lent->copy, lent->room);
+        if (lent->memory == NULL || lent->copy == NULL)
+            give_up("no memory to lend");
+    }
+    lent->length = length;
+    memset(lent->memory, GUARD_BYTE, whole);
+    return lent->memory + GUARD;
+}
+
+/* Copies all of it as it is before the call, and gives the address to lend. */
+static void *keep(struct lent *lent)
+{
+    memcpy(lent->copy, lent->memory, lent->length + 2 * GUARD);
+    return lent->memory + GUARD;
+}
+
+/* Puts bytes between guards and gives the address to lend. The archive's numbers are little-endian in
+** memory, as those of a frame are.
+*/
+static void *lend(struct lent *lent, const uint8_t *bytes, size_t length)
+{
+    uint8_t *memory = between_guards(lent, length);
+    if (length != 0)
+        memcpy(memory, bytes, length);
+    return keep(lent);
+}
+
+/* A room whose bytes before the call are the fill, that and 7, that and 14, and so on: no byte is like the
+** next, so that a shifted copy is seen as well.
+*/
+static void *lend_room(size_t length, uint8_t fill)
+{
+    uint8_t *room = between_guards(&lent_room, length);
+    for (size_t i = 0; i < length; i++)
+        room[i] = (uint8_t)(fill + 7 * i);
+    return keep(&lent_room);
+}
+
+static void *lend_number(struct lent *lent, size_t width)
+{
+    static const uint64_t left_alone = (uint64_t)LEFT_ALONE << 32 | LEFT_ALONE;
+    return lend(lent, (const uint8_t *)&left_alone, width);
+}
+
+/* 1 if a guard byte, or any byte of what may only be read, is other than before the call. */
+static int disturbed_one(const struct lent *l, int read_only)
+{
+    size_t before = read_only ? l->length + GUARD : GUARD;
+    size_t after = GUARD + l->length;
+    return memcmp(l->memory, l->copy, before) != 0 || memcmp(l->memory + after, l->copy + after, GUARD) != 0;
+}
+
+/* The same of any of what was lent to a call. */
+static int disturbed(int from, int to)
+{
+    for (int i = from; i <= to; i++)
+        if (disturbed_one(&lent[i], i < REQUESTS))
+            return 1;
+    return 0;
+}
+
+/* The lists of a call: their six lengths in elements, u32, and the elements of each list in turn. */
+static void take_lists(struct rest *rest, void *lists[LISTS], size_t lengths[LISTS])
+{
+    for (int i = 0; i < LISTS; i++)
+        lengths[i] = take_number(rest, 4);
+    for (int i = 0; i < LISTS; i++) {
+        size_t bytes = lengths[i] * widths[i];
+        lists[i] = lend(&lent[i], take(rest, bytes), bytes);
+    }
+}
+
+/* The out-numbers of a call in their own widths, up to a last one. */
+static void put_numbers(int to)
+{
+    for (int i = FIRST; i <= to; i++)
+        put(number_at(lent[i].memory + GUARD, (int)lent[i].length), (int)lent[i].length);
+}
+
+/* The requests that a call left, i32. */
+static void put_requests(void)
+{
+    for (size_t at = 0; at < lent[REQUESTS].length; at += 4)
+        put(number_at(lent[REQUESTS].memory + GUARD + at, 4), 4);
+}
+
+/* What a call left: the number, u32; 1 if it wrote where it may not, u8; the out-numbers. What was lent goes
+** from one place to another.
+*/
+static void put_left(uint32_t number, int from, int to)
+{
+    put(number, 4);
+    put((uint64_t)disturbed(from, to), 1);
+    put_numbers(to);
+}
+
+/* The same of a call that was lent a file as well. */
+static void put_file_left(uint32_t number, int from, int to)
+{
+    put(number, 4);
+    put((uint64_t)(disturbed_one(&lent_file, 1) || disturbed(from, to)), 1);
+    put_numbers(to);
+}
+
+/* What a call over a fleet left: the above, and the requests. */
+static void put_fleet_left(uint32_t number)
+{
+    put_left(number, RATED, SECOND);
+    put_requests();
+}
+
+/* 'P': any number of passes. Each is mode u8, target i32, band u32, factor u16, measure i64, the lists;
+** for each what it left, the need i64 and changed u8.
+*/
+static void call_pass(const uint8_t *payload, size_t length)
+{
+    struct rest rest = {payload, length, "op P: the payload is no row of passes"};
+    while (rest.length != 0) {
+        void *list[LISTS];
+        size_t n[LISTS];
+        uint8_t mode = (uint8_t)take_number(&rest, 1);
+        int32_t target = (int32_t)take_number(&rest, 4);
+        uint32_t band = (uint32_t)take_number(&rest, 4);
+        uint16_t factor = (uint16_t)take_number(&rest, 2);
+        int64_t measure = (int64_t)take_number(&rest, 8);
+        take_lists(&rest, list, n);
+        int64_t *need = lend_number(&lent[FIRST], sizeof *need);
+        uint8_t *changed = lend_number(&lent[SECOND], sizeof *changed);
+        put_fleet_left(yb_pass(mode, target, band, factor, measure, list[RATED], n[RATED], list[RESERVE],
+            n[RESERVE], list[STORED], n[STORED], list[RATING], n[RATING], list[WEIGHT], n[WEIGHT],
+            list[REQUESTS], n[REQUESTS], need, changed));
+    }
+}
+
+/* 'T': any number of settling studies. Each is load i64, target i32, band u32, factor u16, budget u32, the
+** lists; for each what it left, settled u8 and the passes u32.
+*/
+static void call_settle(const uint8_t *payload, size_t length)
+{
+    struct rest rest = {payload, length, "op T: the payload is no row of studies"};
+    while (rest.length != 0) {
+        void *list[LISTS];
+        size_t n[LISTS];
+        int64_t load = (int64_t)take_number(&rest, 8);
+        int32_t target = (int32_t)take_number(&rest, 4);
+        uint32_t band = (uint32_t)take_number(&rest, 4);
+        uint16_t factor = (uint16_t)take_number(&rest, 2);
+        uint32_t budget = (uint32_t)take_number(&rest, 4);
+        take_lists(&rest, list, n);
+        uint8_t *settled = lend_number(&lent[FIRST], sizeof *settled);
+        uint32_t *passes = lend_number(&lent[SECOND], sizeof *passes);
+        put_fleet_left(yb_settle(load, target, band, factor, budget, list[RATED], n[RATED], list[RESERVE],
+            n[RESERVE], list[STORED], n[STORED], list[RATING], n[RATING], list[WEIGHT], n[WEIGHT],
+            list[REQUESTS], n[REQUESTS], settled, passes));
+    }
+}
+
+/* 'S': any number of steps. Each is seconds u32, rated, reserve and stored u64, rating, kva and idle loss u32,
+** var request i32, weight, inverter, charge and discharge u16, priority u8, request i32; for each what it
+** left, watts and vars i32, stored after and loss u64.
+*/
+static void call_step(const uint8_t *payload, size_t length)
+{
+    struct rest rest = {payload, length, "op S: the payload is no row of steps"};
+    while (rest.length != 0) {
+        uint32_t seconds = (uint32_t)take_number(&rest, 4);
+        uint64_t rated = take_number(&rest, 8);
+        uint64_t reserve = take_number(&rest, 8);
+        uint64_t stored = take_number(&rest, 8);
+        uint32_t rating = (uint32_t)take_number(&rest, 4);
+        uint32_t kva = (uint32_t)take_number(&rest, 4);
+        uint32_t idle_loss = (uint32_t)take_number(&rest, 4);
+        int32_t var_request = (int32_t)take_number(&rest, 4);
+        uint16_t weight = (uint16_t)take_number(&rest, 2);
+        uint16_t inverter = (uint16_t)take_number(&rest, 2);
+        uint16_t charge = (uint16_t)take_number(&rest, 2);
+        uint16_t discharge = (uint16_t)take_number(&rest, 2);
+        uint8_t priority = (uint8_t)take_number(&rest, 1);
+        int32_t request = (int32_t)take_number(&rest, 4);
+        int32_t *watts = lend_number(&lent[FIRST], sizeof *watts);
+        int32_t *vars = lend_number(&lent[SECOND], sizeof *vars);
+        uint64_t *stored_after = lend_number(&lent[THIRD], sizeof *stored_after);
+        uint64_t *loss = lend_number(&lent[FOURTH], sizeof *loss);
+        uint32_t number = yb_step(seconds, rated, reserve, stored, rating, kva, idle_loss, var_request, weight,
+            inverter, charge, discharge, priority, request, watts, vars, stored_after, loss);
+        put_left(number, FIRST, FOURTH);
+    }
+}
+
+/* The file of a call, a length u32 and that many bytes, lent; its length is that of what was lent. */
+static const uint8_t *take_file(struct rest *rest)
+{
+    uint64_t length = take_number(rest, 4);
+    return lend(&lent_file, take(rest, length), length);
+}
+
+/* 'C': any number of files. For each the check's number u32, place u64 and steps u32; 1 if anything was
+** written, u8.
+*/
+static void call_check(const uint8_t *payload, size_t length)
+{
+    struct rest rest = {payload, length, "op C: the payload is no row of files"};
+    while (rest.length != 0) {
+        const uint8_t *file = take_file(&rest);
+        size_t n = lent_file.length;
+        put(yb_check(file, n), 4);
+        put(yb_check_place(file, n), 8);
+        put(yb_check_steps(file, n), 4);
+        put((uint64_t)disturbed_one(&lent_file, 1), 1);
+    }
+}
+
+/* 'V': any number of places, each u64, and files. For each the start and the length of the value bytes, u64;
+** 1 if anything was written, u8.
+*/
+static void call_value(const uint8_t *payload, size_t length)
+{
+    struct rest rest = {payload, length, "op V: the payload is no row of places and files"};
+    while (rest.length != 0) {
+        uint64_t place = take_number(&rest, 8);
+        const uint8_t *file = take_file(&rest);
+        size_t n = lent_file.length;
+        put(yb_value_start(file, n, place), 8);
+        put(yb_value_len(file, n, place), 8);
+        put((uint64_t)disturbed_one(&lent_file, 1), 1);
+    }
+}
+
+/* 'F': any number of files. For each the units and the seconds, u32, and what yb_settings left: mode u8, target
+** i32, band u32, factor u16, phase u8.
+*/
+static void call_settings(const uint8_t *payload, size_t length)
+{
+    struct rest rest = {payload, length, "op F: the payload is no row of files"};
+    while (rest.length != 0) {
+        const uint8_t *file = take_file(&rest);
+        size_t n = lent_file.length;
+        uint8_t *mode = lend_number(&lent[FIRST], sizeof *mode);
+        int32_t *target = lend_number(&lent[SECOND], sizeof *target);
+        uint32_t *band = lend_number(&lent[THIRD], sizeof *band);
+        uint16_t *factor = lend_number(&lent[FOURTH], sizeof *factor);
+        uint8_t *phase = lend_number(&lent[FIFTH], sizeof *phase);
+        put(yb_units(file, n), 4);
+        put(yb_seconds(file, n), 4);
+        put_file_left(yb_settings(file, n, mode, target, band, factor, phase), FIRST, FIFTH);
+    }
+}
+
+/* Asks for one unit of the lent file, and answers what that left. */
+static void call_one_unit(const uint8_t *file, uint32_t unit)
+{
+    uint64_t *rated = lend_number(&lent[FIRST], sizeof *rated);
+    uint64_t *reserve = lend_number(&lent[FIRST + 1], sizeof *reserve);
+    uint64_t *stored = lend_number(&lent[FIRST + 2], sizeof *stored);
+    uint32_t *rating = lend_number(&lent[FIRST + 3], sizeof *rating);
+    uint32_t *kva = lend_number(&lent[FIRST + 4], sizeof *kva);
+    uint32_t *idle_loss = lend_number(&lent[FIRST + 5], sizeof *idle_loss);
+    int32_t *var_request = lend_number(&lent[FIRST + 6], sizeof *var_request);
+    uint16_t *weight = lend_number(&lent[FIRST + 7], sizeof *weight);
+    uint16_t *inverter = lend_number(&lent[FIRST + 8], sizeof *inverter);
+    uint16_t *charge = lend_number(&lent[FIRST + 9], sizeof *charge);
+    uint16_t *discharge = lend_number(&lent[FIRST + 10], sizeof *discharge);
+    uint8_t *priority = lend_number(&lent[TWELFTH], sizeof *priority);
+    uint32_t number = yb_unit(file, lent_file.length, unit, rated, reserve, stored, rating, kva, idle_loss,
+        var_request, weight, inverter, charge, discharge, priority);
+    put_file_left(number, FIRST, TWELFTH);
+}
+
+/* 'U': any number of files and units of them. Each is a count u32, that many unit numbers, u32, and the file;
+** for each unit number what it left: rated, reserve and stored u64, rating, kva and idle loss u32, var request
+** i32, weight, inverter, charge and discharge u16, priority u8.
+*/
+static void call_unit(const uint8_t *payload, size_t length)
+{
+    struct rest rest = {payload, length, "op U: the payload is no row of unit numbers and files"};
+    while (rest.length != 0) {
+        uint64_t count = take_number(&rest, 4);
+        const uint8_t *numbers = take(&rest, 4 * count);
+        const uint8_t *file = take_file(&rest);
+        for (uint64_t i = 0; i < count; i++)
+            call_one_unit(file, (uint32_t)number_at(numbers + 4 * i, 4));
+    }
+}
+
+/* 'Y': any number of studies over files. Each is load i64, budget u32, the length of the requests u32, the
+** requests, i32, and the file; for each what it left: settled u8, the passes u32 and the requests.
+*/
+static void call_study(const uint8_t *payload, size_t length)
+{
+    struct rest rest = {payload, length, "op Y: the payload is no row of studies and files"};
+    while (rest.length != 0) {
+        int64_t load = (int64_t)take_number(&rest, 8);
+        uint32_t budget = (uint32_t)take_number(&rest, 4);
+        size_t n = take_number(&rest, 4);
+        int32_t *requests = lend(&lent[REQUESTS], take(&rest, n * sizeof *requests), n * sizeof *requests);
+        const uint8_t *file = take_file(&rest);
+        uint8_t *settled = lend_number(&lent[FIRST], sizeof *settled);
+        uint32_t *passes = lend_number(&lent[SECOND], sizeof *passes);
+        uint32_t number = yb_study(file, lent_file.length, load, budget, requests, n, settled, passes);
+        put_file_left(number, REQUESTS, SECOND);
+        put_requests();
+    }
+}
+
+/* 'R': any number of runs. Each is the room's length u32, its fill u8, and the file; for each the room that
+** the file needs u64; the run's number u32; 1 if the file or a guard was written, u8; and all bytes of the room.
+*/
+static void call_run(const uint8_t *payload, size_t length)
+{
+    struct rest rest = {payload, length, "op R: the payload is no row of rooms and files"};
+    while (rest.length != 0) {
+        uint64_t room_len = take_number(&rest, 4);
+        uint8_t fill = (uint8_t)take_number(&rest, 1);
+        if (room_len > MOST_ROOM)
+            give_up("op R: a room is too long");
+        const uint8_t *file = take_file(&rest);
+        uint8_t *room = lend_room(room_len, fill);
+        put(yb_run_room(file, lent_file.length), 8);
+        put(yb_run(file, lent_file.length, room, room_len), 4);
+        put((uint64_t)(disturbed_one(&lent_file, 1) || disturbed_one(&lent_room, 0)), 1);
+        put_bytes(room, room_len);
+    }
+}
+
+static const struct {
+    uint8_t op;
+    void (*call)(const uint8_t *payload, size_t length);
+} ops[] = {
+    {'W', call_watts},
+    {'P', call_pass},
+    {'T', call_settle},
+    {'S', call_step},
+    {'C', call_check},
+    {'V', call_value},
+    {'F', call_settings},
+    {'U', call_unit},
+    {'Y', call_study},
+    {'R', call_run},
+};
+
+static void dispatch(uint8_t op, const uint8_t *payload, size_t length)
+{
+    for (size_t i = 0; i < sizeof ops / sizeof ops[0]; i++)
+        if (ops[i].op == op) {
+            ops[i].call(payload, length);
+            return;
+        }
+    give_up("unknown op");
+}
+
+int main(void)
+{
+    uint8_t *payload = malloc(MOST_PAYLOAD);
+    if (payload == NULL)
+        give_up("no memory for a frame");
+    for (;;) {
+        uint8_t head[5];
+        size_t got = fread(head, 1, sizeof head, stdin);
+        if (got == 0 && feof(stdin))
+            return 0;
+        if (got < sizeof head)
+            give_up("a frame's head is cut short");
+        uint64_t length = number_at(head + 1, 4);
+        if (length > MOST_PAYLOAD)
+            give_up("a frame is too long");
+        if (fread(payload, 1, length, stdin) < length)
+            give_up("a frame's payload is cut short");
+
+        answer.used = 0;
+        put(0, 4);
+        dispatch(head[0], payload, length);
+        size_t whole = answer.used;
+        answer.used = 0;
+        put(whole - 4, 4);
+        if (fwrite(answer.bytes, 1, whole, stdout) < whole || fflush(stdout) != 0)
+            give_up("an answer cannot be written");
+    }
+}

@@ -1,0 +1,156 @@
+/* A stand-in for the library, for the one test that builds the import tool with the compiler's sanitizers for
+** the machine itself, where the archive may be code of another machine. It checks nothing.
+**
+** A file that begins like a run file is complete, with the units and the steps that its fleet and its last four
+** bytes say; its units are all alike, and its run is a row of numbers. Steps of 0 to 5 seconds are for answers that
+** the library never gives: such a step itself, a room of another size, a run that is refused, a power that is none,
+** settings that are refused, and a last unit that is refused.
+**
+** Any other file is read as six decimal numbers with blanks between them, and these are the answers, in this
+** order: the check's number, place and steps, the start and the length of the value part, and the units. A number
+** that is not there is 0.
+*/
+#include <string.h>
+
+#include "yesbrulka.h"
+
+static uint64_t canned(const uint8_t *file, size_t file_len, int which)
+{
+    uint64_t number = 0;
+    for (size_t at = 0; at < file_len && which >= 0; at++)
+        if (file[at] >= '0' && file[at] <= '9')
+            number = which == 0 ? 10 * number + (file[at] - '0') : 0;
+        else
+            which--;
+    return number;
+}
+
+static uint32_t number_at(const uint8_t *bytes)
+{
+    return (uint32_t)bytes[0] << 24 | (uint32_t)bytes[1] << 16 | (uint32_t)bytes[2] << 8 | bytes[3];
+}
+
+static int is_stick(const uint8_t *file, size_t file_len)
+{
+    return file_len >= 9 && file[0] == 0x01;
+}
+
+uint32_t yb_check(const uint8_t *file, size_t file_len)
+{
+    return is_stick(file, file_len) ? 0 : (uint32_t)canned(file, file_len, 0);
+}
+
+uint64_t yb_check_place(const uint8_t *file, size_t file_len)
+{
+    return is_stick(file, file_len) ? file_len : canned(file, file_len, 1);
+}
+
+uint32_t yb_check_steps(const uint8_t *file, size_t file_len)
+{
+    return is_stick(file, file_len) ? number_at(file + file_len - 4) : (uint32_t)canned(file, file_len, 2);
+}
+
+uint64_t yb_value_start(const uint8_t *file, size_t file_len, uint64_t place)
+{
+    (void)place;
+    return is_stick(file, file_len) ? file_len : canned(file, file_len, 3);
+}
+
+uint64_t yb_value_len(const uint8_t *file, size_t file_len, uint64_t place)
+{
+    (void)place;
+    return is_stick(file, file_len) ? 0 : canned(file, file_len, 4);
+}
+
+uint32_t yb_units(const uint8_t *file, size_t file_len)
+{
+    return is_stick(file, file_len) ? file[4] : (uint32_t)canned(file, file_len, 5);
+}
+
+uint32_t yb_seconds(const uint8_t *file, size_t file_len)
+{
+    return is_stick(file, file_len) ? number_at(file + 5) : 0;
+}
+
+uint32_t yb_settings(const uint8_t *file, size_t file_len, uint8_t *mode, int32_t *target, uint32_t *band,
+    uint16_t *factor, uint8_t *phase)
+{
+    if (yb_seconds(file, file_len) == 4)
+        return 5;
+    *mode = 255;
+    *target = -1;
+    *band = 2;
+    *factor = 3;
+    *phase = 4;
+    return 0;
+}
+
+uint32_t yb_unit(const uint8_t *file, size_t file_len, uint32_t unit, uint64_t *rated, uint64_t *reserve,
+    uint64_t *stored, uint32_t *rating, uint32_t *kva, uint32_t *idle_loss, int32_t *var_request, uint16_t *weight,
+    uint16_t *inverter, uint16_t *charge, uint16_t *discharge, uint8_t *priority)
+{
+    if (unit + (yb_seconds(file, file_len) == 5) >= yb_units(file, file_len))
+        return 10;
+    *rated = *reserve = *stored = 1;
+    *rating = *kva = *idle_loss = 2;
+    *var_request = -3;
+    *weight = *inverter = *charge = *discharge = 4;
+    *priority = 0;
+    return 0;
+}
+
+uint64_t yb_run_room(const uint8_t *file, size_t file_len)
+{
+    return UINT64_C(40) * file[4] * yb_check_steps(file, file_len) + (number_at(file + 5) == 1 ? 8 : 7);
+}
+
+/* Records with their tags, lengths, steps and units; the kW are 1, and in the other numbers all bytes are the step's
+** number but for the first of the energies.
+*/
+uint32_t yb_run(const uint8_t *file, size_t file_len, uint8_t *room, size_t room_len)
+{
+    uint32_t seconds = number_at(file + 5), units = file[4], steps = yb_check_steps(file, file_len);
+    if (seconds == 2)
+        return 11;
+    for (uint32_t i = 0; i < steps * units; i++, room += 40) {
+        uint32_t step = i / units;
+        memset(room, (int)(step & 0x7F), 40);
+        memcpy(room, "\x11\0\x25", 3);
+        memcpy(room + 12, seconds == 3 ? "\x7F\xF8\0\0\0\0\0\0" : "\x3F\xF0\0\0\0\0\0\0", 8);
+        memset(room + 24, 0, 3);
+        memset(room + 32, 0, 3);
+        room[3] = room[4] = 0;
+        room[5] = (uint8_t)(step >> 8);
+        room[6] = (uint8_t)step;
+        room[7] = (uint8_t)(i % units);
+    }
+    memcpy(room, "\x1F\0\4", 3);
+    memcpy(room + 3, file + file_len - 4, 4);
+    (void)room_len;
+    return 0;
+}
+
+uint32_t yb_watts(double kw, int32_t *watts)
+{
+    if (!(kw >= -100000 && kw <= 100000))
+        return 6;
+    *watts = (int32_t)(1000 * kw);
+    return 0;
+}
+
+/* Every request is 1 W, and a budget of one pass is too small. A load of 77 gets an answer that no study gets. */
+uint32_t yb_study(const uint8_t *file, size_t file_len, int64_t load, uint32_t budget, int32_t *requests,
+    size_t requests_len, uint8_t *settled, uint32_t *passes)
+{
+    if (requests_len != yb_units(file, file_len))
+        return 10;
+    if (load < 0 || load > 100000000 || budget < 1 || budget > 10000)
+        return 5;
+    if (load == 77)
+        return 10;
+    for (size_t i = 0; i < requests_len; i++)
+        requests[i] = 1;
+    *settled = budget > 1;
+    *passes = 1;
+    return 0;
+}

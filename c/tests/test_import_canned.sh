@@ -1,0 +1,118 @@
+# shellcheck shell=bash
+# shellcheck disable=SC2034,SC2154 # the variables are those of test_import.sh
+# Sourced by test_import.sh: the tool over a stand-in for the library, for answers that the library does not give.
+
+# canned NUMBER PLACE STEPS START LENGTH: show a file whose answers these are, in the build with the stand-in.
+canned() {
+    printf '%s' "$*" >"$work/canned"
+    call show "$work/canned"
+}
+
+fault="the library's answer is not about this file; keep it and tell the developers"
+
+# What only a stand-in can answer: every number's text, and answers that are not about the file.
+canned_suite() {
+    local number
+    for number in 1 2 3 4 5 6 7 8 9 10 11 12 13 4294967295; do
+        canned "$number" 0 7 3 4
+        good like "$status $output" "1 $work/canned: refused $number (*) at byte 0 after 7 steps*"
+        good lines 4
+    done
+    canned 6 0 0 0 0
+    good like "$output" '*the first row of readings,*'
+    # Places and value parts up to the end of the file, which has ten bytes.
+    for answers in '5 10 7 3 0' '5 07 7 9 1' '5 07 7 1 9' '5 10 7 10 0'; do
+        # shellcheck disable=SC2086 # the answers are words
+        canned $answers
+        good like "$status $output" $'1 *\n    The *value bytes*'
+    done
+    # The same beyond it.
+    for answers in '5 99 7 0 0' '5 0 7 99 0' '5 0 7 3 99' '5 18446744073709551615 7 0 0' \
+        '5 0 7 18446744073709551615 2' '5 0 7 2 18446744073709551615' '5 9 7 0 1'; do
+        # shellcheck disable=SC2086
+        canned $answers
+        good test "$status|$output|$error" = \
+            "2||import: $work/canned: $fault"$'\n''import: 1 of 1 files not checked'
+    done
+    # As many bytes as are read.
+    { printf '5 2097153 7 2097153 0 ' && head -c 3000000 /dev/zero; } >"$work/canned"
+    call show "$work/canned"
+    good like "$status $output" '1 *: the file ends before it.'
+    { printf '3 0 7 3 2097150 ' && head -c 3000000 /dev/zero; } >"$work/canned"
+    call show "$work/canned"
+    good test "$status|$(wc -l <"$work/output")" = '1|131075'
+    : >"$work/canned"
+    check 0 "$work/canned: complete, 0 steps" '' check "$work/canned"
+    check 2 '' 'import: examples: cannot be read: it is a folder'$'\n''import: 1 of 1 files not checked' \
+        check examples
+}
+
+# The other commands over the stand-in, which takes every stick for complete and runs it into a row of numbers.
+canned_run_suite() {
+    local command stick=$work/stick result=$work/result line
+    cp examples/season.stick "$stick"
+    check 0 "$stick: complete, 336 steps" '' run "$stick" "$result"
+    good test "$(wc -c <"$result")" = 40327
+    call table "$stick" "$result"
+    good test "$status|$error|$(wc -l <"$work/output")" = '0||1009'
+    good test "$output" = "$(decoded "$result")"
+    call summary "$stick" "$result"
+    good test "$status|$error|$(wc -l <"$work/output")" = '0||7'
+    good test "$(sed -n 2p "$work/output")" = \
+        '3 units, steps of 3600 s, mode 255, target -1 W, band 2 W, factor 3'
+    check 0 "$stick: not settled within 1 passes, 1 changed a request
+unit	request W	rating W
+0	1	2
+1	1	2
+2	1	2
+sum of requests 3 W, reading left 997 W: not within half the band (2 W) of the target (-1 W)" '' settle "$stick" 1000 1
+    call settle "$stick" 100000001 0
+    good like "$status $output" '1 LOAD 100000001: refused 5*BUDGET 0: refused 5*'
+    check 2 '' "import: $stick: $fault" settle "$stick" 77
+    for place in 0 39 40000 40326; do
+        cp "$result" "$work/bad"
+        patch "$work/bad" "$place" EE
+        call table "$stick" "$work/bad"
+        good like "$status $output" "1 *: byte $place (*) is EE and not *"
+        head -c "$place" "$result" >"$work/bad"
+        call summary "$stick" "$work/bad"
+        good like "$status $output" "1 *: byte $place (*) is not there*"
+    done
+    # Answers that the library never gives.
+    for line in '1 settle' '2 settle' '1 run' '2 run' '1 table' '2 table' '3 table' '0 summary' '3 summary' \
+        '4 summary'; do
+        patch "$stick" 5 "0000000${line% *}"
+        echo old >"$work/target"
+        call "${line#* }" "$stick" "$([ "${line#* }" = settle ] && echo 77 || echo "$work/target")"
+        case $line in
+        '3 table' | *' summary')
+            call run "$stick" "$result"
+            call "${line#* }" "$stick" "$result"
+            ;;
+        esac
+        good test "$status|$output|$error|$(cat "$work/target")" = "2||import: $stick: $fault|old"
+        cp examples/season.stick "$stick"
+    done
+    # What the stick says is refused, when its study is made.
+    for line in 4 5; do
+        patch "$stick" 5 "0000000$line"
+        check 2 '' "import: $stick: $fault" settle "$stick" 1
+    done
+    # Fleets and steps that no complete file has.
+    for command in 'run R' 'settle 1' 'table R' 'summary R'; do
+        for answers in '0 4 7 0 0' '0 4 7 0 0 65' '0 4 7 0 0 256' '0 4 7 0 0 4294967295' '0 4 65536 0 0 1' \
+            '0 4 4294967295 0 0 64'; do
+            printf '%s' "$answers" >"$stick"
+            # shellcheck disable=SC2086 # the command is words
+            call ${command% *} "$stick" "${command#* }"
+            good test "$status|$output|$error" = "2||import: $stick: $fault"
+        done
+        for place in 00 41 FF; do
+            head -c 100 examples/season.stick >"$stick"
+            patch "$stick" 4 "$place"
+            # shellcheck disable=SC2086 # the command is words
+            call ${command% *} "$stick" "${command#* }"
+            good test "$status|$output|$error" = "2||import: $stick: $fault"
+        done
+    done
+}

@@ -1,0 +1,237 @@
+# shellcheck shell=bash
+# shellcheck disable=SC2034,SC2154 # the variables are those of test_import.sh
+# Sourced by test_import.sh: table and summary: results, and files that are none.
+
+# The tables of small sticks.
+heading=$'step\tunit\trequest W\tdelivered kW\tvars\tstored J\tloss J'
+giving_table="$heading
+0	0	900	0.900	0	175749	21750
+1	0	900	0.899	0	100074	21735
+2	0	900	-0.012	0	100074	720"
+taking_table="$heading
+0	0	-1000	-1.000	0	957281	17280
+1	0	-1000	-0.999	0	999953	17268
+2	0	-1000	-0.012	0	999953	720"
+
+# decoded RESULT: the table of a result file, read by other means.
+decoded() {
+    echo "$heading"
+    od -An -v -tu1 -w40 "$1" | awk -v OFS='\t' '
+        function number(from, to,    n) { n = 0; for (; from <= to; from++) n = n * 256 + $from; return n }
+        function sign(n) { return n < 2147483648 ? n : n - 4294967296 }
+        function kw(    e, m) {
+            e = $13 % 128 * 16 + int($14 / 16)
+            m = $14 % 16 * 2 ^ 48 + number(15, 20)
+            m = e == 0 ? m * 2 ^ -1074 : (m + 2 ^ 52) * 2 ^ (e - 1075)
+            return $13 < 128 ? m : -m
+        }
+        NF == 40 {
+            printf "%.0f\t%d\t%.0f\t%.3f\t%.0f\t%.0f\t%.0f\n",
+                number(4, 7), $8, sign(number(9, 12)), kw(), sign(number(21, 24)), number(25, 32), number(33, 40)
+        }'
+}
+
+# summed SECONDS <TABLE: the lines of a summary, made of a table by other means, with one blank between the columns.
+summed() {
+    awk -v seconds="$1" '
+        function size(n) { return n < 0 ? -n : n }
+        function see(u, step, request, watts, stored, met) {
+            if (size(request) > size(most[u])) most[u] = request
+            if (watts > out[u]) out[u] = watts
+            if (-watts > into[u]) into[u] = -watts
+            if (!(u in low) || stored < low[u]) { low[u] = stored; at[u] = step }
+            not_met[u] += !met
+        }
+        function energy(j) { return sprintf("%.0f %.3f", j, int((j + 1800) / 3600) / 1000) }
+        function close_step() { if (step != "") see("fleet", step, r, w, s, m); r = w = s = 0; m = 1 }
+        function line(u) {
+            printf "%s %.0f %.3f %.3f %s %s %s %.0f %.0f %.0f\n", u, most[u], out[u] / 1000, into[u] / 1000,
+                energy(given[u]), energy(taken[u]), energy(lost[u]), low[u], at[u], not_met[u]
+        }
+        NR == 1 { next }
+        $1 != step { close_step(); step = $1 }
+        {
+            watts = $4 * 1000; watts = int(watts + (watts < 0 ? -0.5 : 0.5)); met = $3 == 0 || watts == $3
+            see($2, $1, $3, watts, $6, met)
+            r += $3; w += watts; s += $6; m = m && met
+            if (watts > 0) { given[$2] += watts * seconds; given["fleet"] += watts * seconds }
+            else { taken[$2] -= watts * seconds; taken["fleet"] -= watts * seconds }
+            lost[$2] += $7; lost["fleet"] += $7
+            if ($2 >= units) units = $2 + 1
+        }
+        END { close_step(); for (u = 0; u < units; u++) line(u); line("fleet") }'
+}
+
+result_suite() {
+    local stick=examples/season.stick name
+    for name in table summary; do
+        check 2 '' "import: $name needs a FILE and its RESULT"$'\n'"$usage" "$name"
+        check 2 '' "import: $name needs a FILE and its RESULT"$'\n'"$usage" "$name" "$stick"
+        check 2 '' "import: $name needs a FILE and its RESULT"$'\n'"$usage" "$name" "$stick" "$stick" "$stick"
+    done
+
+    # Tables and summaries whose every number is the document's.
+    check 0 "$heading"$'\n''0	0	0	-1.000	0	3600000	60000' '' table "$work/whole" "$work/whole.result"
+    check 0 "$heading" '' table "$work/none" "$work/none.result"
+    check 0 "$giving_table" '' table "$work/giving" "$work/giving.result"
+    check 0 "$taking_table" '' table "$work/taking" "$work/taking.result"
+    check 0 "$work/none: complete, 0 steps
+1 units, steps of 60 s, mode 1 (PeakShave), target 0 W, band 0 W, factor 1000
+ unit  request_W  out_kW  in_kW  out_J  out_kWh  in_J  in_kWh  loss_J  loss_kWh  low_J  at_step  not_met
+    0          0   0.000  0.000      0    0.000     0   0.000       0     0.000      -        -        0
+fleet          0   0.000  0.000      0    0.000     0   0.000       0     0.000      -        -        0" '' \
+        summary "$work/none" "$work/none.result"
+    check 0 "$work/giving: complete, 3 steps
+1 units, steps of 60 s, mode 1 (PeakShave), target 0 W, band 0 W, factor 1000
+ unit  request_W  out_kW  in_kW   out_J  out_kWh  in_J  in_kWh  loss_J  loss_kWh   low_J  at_step  not_met
+    0        900   0.900  0.012  107940    0.030   720   0.000   44205     0.012  100074        1        2
+fleet        900   0.900  0.012  107940    0.030   720   0.000   44205     0.012  100074        1        2" '' \
+        summary "$work/giving" "$work/giving.result"
+    check 0 "$work/taking: complete, 3 steps
+1 units, steps of 60 s, mode 3 (PeakShaveLow), target 0 W, band 0 W, factor 1000
+ unit  request_W  out_kW  in_kW  out_J  out_kWh    in_J  in_kWh  loss_J  loss_kWh   low_J  at_step  not_met
+    0      -1000   0.000  1.000      0    0.000  120660   0.034   35268     0.010  957281        0        2
+fleet      -1000   0.000  1.000      0    0.000  120660   0.034   35268     0.010  957281        0        2" '' \
+        summary "$work/taking" "$work/taking.result"
+
+    # The season, beside what other means make of it, and as a planner sees it.
+    call table "$stick" "$work/season.result"
+    good test "$status|$error|$(wc -l <"$work/output")" = "0||$((1 + 3 * 336))"
+    good test "$output" = "$(decoded "$work/season.result")"
+    local expected
+    expected=$(printf '%s\n' "$output" | summed 3600)
+    call summary "$stick" "$work/season.result"
+    good test "$(tail -n +4 "$work/output" | sed 's/^ *//; s/  */ /g')" = "$expected"
+    check 0 "$season_summary" '' summary "$stick" "$work/season.result"
+}
+
+season_summary='examples/season.stick: complete, 336 steps
+3 units, steps of 3600 s, mode 1 (PeakShave), target 120000 W, band 6000 W, factor 1000
+ unit  request_W  out_kW  in_kW      out_J  out_kWh       in_J   in_kWh     loss_J  loss_kWh      low_J  at_step  not_met
+    0     100000  75.986  0.363  426600000  118.500  436471200  121.242  477863622   132.740   72007578        6      196
+    1      50000  21.257  0.209  112917600   31.366  251301600   69.806  264380191    73.439   54003809        6      196
+    2      15000  10.628  0.096   69433200   19.287  115430400   32.064  126993288    35.276    9003912        6      167
+fleet     165000  94.754  0.668  608950800  169.153  803203200  223.112  869237101   241.455  135015299        6      196'
+
+# not_shown FILE RESULT WHY: both commands say what is wrong with the result, and show nothing of it.
+not_shown() {
+    local command lines
+    lines="$2: not the result of $1: $3
+    It was changed or cut, or is another file's. Make it again: import run FILE RESULT"
+    for command in table summary; do
+        check 1 "$lines" "import: $2: not shown; it is not what the run gives" "$command" "$1" "$2"
+    done
+}
+
+other_result_suite() {
+    local stick=examples/season.stick bad=$work/bad place part byte
+    # One byte changed, in every part of a record and of the end: that of step 111, unit 2 begins at 13400.
+    while read -r place part; do
+        cp "$work/season.result" "$bad"
+        byte=$(od -An -v -tu1 -j "$place" -N 1 "$bad")
+        patch "$bad" "$place" "$(printf %02X $((byte ^ 0x81)))"
+        not_shown "$stick" "$bad" "byte $place ($part) is $(printf '%02X and not %02X' $((byte ^ 0x81)) "$byte")"
+    done <<END
+0 step 0, unit 0, tag
+13400 step 111, unit 2, tag
+13401 step 111, unit 2, length
+13402 step 111, unit 2, length
+13403 step 111, unit 2, step
+13406 step 111, unit 2, step
+13407 step 111, unit 2, unit
+13408 step 111, unit 2, request
+13411 step 111, unit 2, request
+13412 step 111, unit 2, delivered kW
+13419 step 111, unit 2, delivered kW
+13420 step 111, unit 2, vars
+13424 step 111, unit 2, stored energy
+13431 step 111, unit 2, stored energy
+13432 step 111, unit 2, loss
+13439 step 111, unit 2, loss
+40319 step 335, unit 2, loss
+40320 the end's tag
+40321 the end's length
+40323 the end's number of steps
+40326 the end's number of steps
+END
+    # Cut, longer, empty, another file's, and a stick.
+    while read -r place part; do
+        head -c "$place" "$work/season.result" >"$bad"
+        not_shown "$stick" "$bad" "byte $place ($part) is not there, and 40327 bytes are due"
+    done <<'END'
+0 step 0, unit 0, tag
+1 step 0, unit 0, length
+40 step 0, unit 1, tag
+20000 step 166, unit 2, tag
+40320 the end's tag
+40326 the end's number of steps
+END
+    cp "$work/season.result" "$bad"
+    printf '\0' >>"$bad"
+    not_shown "$stick" "$bad" 'it goes on after its 40327 bytes'
+    cat "$work/season.result" >>"$bad"
+    not_shown "$stick" "$bad" 'it goes on after its 40327 bytes'
+    not_shown "$work/giving" "$work/taking.result" 'byte 8 (step 0, unit 0, request) is FF and not 00'
+    not_shown "$work/giving" "$work/none.result" 'byte 0 (step 0, unit 0, tag) is 1F and not 11'
+    not_shown "$work/none" "$work/giving.result" "byte 0 (the end's tag) is 11 and not 1F"
+    not_shown "$stick" "$work/giving.result" 'byte 10 (step 0, unit 0, request) is 03 and not 00'
+    not_shown "$stick" "$stick" 'byte 0 (step 0, unit 0, tag) is 01 and not 11'
+    not_shown "$stick" /dev/null 'byte 0 (step 0, unit 0, tag) is not there, and 40327 bytes are due'
+    not_shown "$stick" /dev/zero 'byte 0 (step 0, unit 0, tag) is 00 and not 11'
+}
+
+# What is refused or cannot be read or written.
+no_result_suite() {
+    local stick=examples/season.stick command name
+    # The two in the wrong order.
+    for name in season none; do
+        call summary "$work/$name.result" "$stick"
+        good like "$status $output" $'1 *: refused 2 (unknown tag) at byte 0 after 0 steps\n*\n    It looks like a result *'
+    done
+    for command in table summary; do
+        for name in examples/refused-* "$work/empty" "$work/season.result" c/import/import.c; do
+            check 1 "$("$import" check "$name" 2>/dev/null)" "import: $name: refused; nothing is shown" \
+                "$command" "$name" "$work/season.result"
+        done
+        check 2 '' 'import: none: cannot be read: No such file or directory' "$command" none "$work/season.result"
+        check 2 '' 'import: none: cannot be read: No such file or directory' "$command" "$stick" none
+        check 2 '' 'import: examples: cannot be read: it is a folder' "$command" "$stick" examples
+        error=$("$import" "$command" "$stick" "$work/season.result" 2>&1 >/dev/full)
+        status=$? output='' called="$command >/dev/full"
+        good test "$status|$error" = '2|import: the lines cannot be written'
+        error=$("$import" "$command" "$stick" "$work/season.result" 2>&1 >&-)
+        status=$? called="$command >&-"
+        good test "$status|$error" = '2|import: the lines cannot be written'
+    done
+    # A disk that is full in the middle of the table.
+    error=$(ulimit -f 8 && trap '' XFSZ && "$import" table "$stick" "$work/season.result" 2>&1 >"$work/table")
+    status=$? called='table, with a limit of 8 KiB'
+    good test "$status|$error" = '2|import: the lines cannot be written'
+    error=$("$import" help 2>&1 >/dev/full)
+    status=$? called='help >/dev/full'
+    good test "$status|$error" = '2|import: the lines cannot be written'
+}
+
+# As many units and steps as there can be, with the largest draw: more joules than 64 bits hold, and 160 MiB.
+largest_suite() {
+    local i
+    {
+        bytes 01 0006 01 40 00015180
+        for ((i = 0; i < 64; i++)); do
+            bytes 02 0031 000009184E72A000 0000000000000000 000009184E72A000 05F5E100 05F5E100 00989680 00000000 \
+                2710 03E8 2710 2710 00
+        done
+        bytes "$(settings 1 0 0)"
+        head -c 65535 /dev/zero | tr '\0' x | sed 's/x/\x05\x00\x00/g'
+        bytes "$(end 65535)"
+    } >"$work/largest"
+    check 0 "$work/largest: complete, 65535 steps" '' run "$work/largest" "$work/largest.result"
+    good test "$(wc -c <"$work/largest.result")" = $((40 * 64 * 65535 + 7))
+    call summary "$work/largest" "$work/largest.result"
+    good test "$status|$error|$(wc -l <"$work/output")" = '0||68'
+    good test "$(sed -n '4p;$p' "$work/output" | sed 's/^ *//; s/  */ /g')" = "0 0 0.000 100000.000 0 0.000 \
+566222400000000000 157284000000.000 566222400000000000 157284000000.000 10000000000000 0 0
+fleet 0 0.000 6400000.000 0 0.000 36238233600000000000 10066176000000.000 36238233600000000000 10066176000000.000 \
+640000000000000 0 0"
+    rm "$work/largest" "$work/largest.result"
+}

@@ -1,0 +1,179 @@
+#!/bin/bash
+# The Rattle programs stick_check, stick_run and settle give for standard input what the import tool gives for a
+# file: on every sample stick, on an empty file, at the buffer's size and one byte beyond it. Each failed check is
+# told on standard error; the last line counts them.
+set -u
+cd "$(dirname "${BASH_SOURCE[0]}")/../.." || exit 2
+# shellcheck source=tools/env.sh
+. tools/env.sh
+yb_toolchain || { echo "$YB_CC_WHY" >&2; exit 1; }
+for needed in target/bin/{stick_check,stick_run,settle} build/import; do
+    [ -x "$needed" ] || { echo "no program $needed" >&2; exit 1; }
+done
+passed=0
+failed=0
+work=$(mktemp -d) || exit 2
+trap 'rm -rf "$work"' EXIT
+
+# The programs look for the C library of x86-64: in its own place where that is installed, else where the cross
+# compiler has it.
+how=()
+if [ -n "$YB_EMULATOR" ]; then
+    how=("$YB_EMULATOR")
+    [ -e /lib64/ld-linux-x86-64.so.2 ] || how+=(-L /usr/x86_64-linux-gnu)
+fi
+
+# good CONDITION..: count one check; what the program gave is told if it fails.
+good() {
+    if "$@"; then
+        passed=$((passed + 1))
+    else
+        failed=$((failed + 1))
+        printf '%s\n  not: %s\n  output: %s\n  error: %s\n' "$called" "$*" "$(head -c 2000 "$work/output" | tr -d '\0')" \
+            "$error" >&2
+    fi
+}
+
+# call FILE PROGRAM WORD..: run a program on a file and keep what it gives.
+call() {
+    local file=$1 program=$2
+    shift 2
+    called="$program $* <$file"
+    error=$("${how[@]}" "target/bin/$program" "$@" 2>&1 >"$work/output" <"$file")
+}
+
+# check OUTPUT ERROR FILE PROGRAM WORD..: run a program and compare both.
+check() {
+    local expected="$1|$2"
+    shift 2
+    call "$@"
+    good test "$(cat "$work/output")|$error" = "$expected"
+}
+
+# line FILE: the import tool's line of a file, as the programs say it.
+line() {
+    local line
+    line=$(build/import check "$1" 2>/dev/null | head -n 1)
+    echo "standard input: ${line#"$1": }"
+}
+
+# too_long DONE COMMAND: what a program says of input that is longer than its buffer.
+too_long() {
+    echo "standard input: not $1: longer than the 65536 bytes that this program holds; use import $2"
+}
+
+# run_it FILE: stick_run writes the result that the import tool writes, and nothing of a refused file.
+run_it() {
+    local line
+    line=$(line "$1")
+    call "$1" stick_run
+    good test "$error" = "$line"
+    if [ "${line#*: complete, }" != "$line" ]; then
+        rm -f "$work/result"
+        build/import run "$1" "$work/result" >/dev/null 2>&1
+        good cmp -s "$work/output" "$work/result"
+    else
+        good cmp -s "$work/output" /dev/null
+    fi
+}
+
+# settle_it FILE WORD..: settle prints the study that the import tool prints, or its refusal, of a file that is not
+# refused itself.
+settle_it() {
+    local file=$1 lines words
+    shift
+    lines=$(build/import settle "$file" "$@" 2>"$work/error")
+    words=$(cat "$work/error")
+    check "${lines/#"$file": /standard input: }" "${words/#"import: $file: "/standard input: }" "$file" settle "$@"
+}
+
+# studies FILE: settle on a file, at some loads and budgets.
+studies() {
+    local load line
+    line=$(line "$1")
+    if [ "${line#*: complete, }" = "$line" ]; then
+        check "$line" 'standard input: refused; no study is made' "$1" settle 1000
+        return
+    fi
+    for load in 0 1000 150000 00150000 100000000; do
+        settle_it "$1" "$load"
+        settle_it "$1" "$load" 1
+        settle_it "$1" "$load" 0010000
+    done
+    # Outside their ranges.
+    for load in 100000001 999999999 1000000000 4294967296 18446744073709551617 99999999999999999999999999; do
+        settle_it "$1" "$load"
+        settle_it "$1" 5 "$load"
+    done
+    settle_it "$1" 5 0
+    settle_it "$1" 5 10001
+    settle_it "$1" 100000001 00
+}
+
+# all_of FILE: a file that the buffer holds.
+all_of() {
+    check "$(line "$1")" '' "$1" stick_check
+    run_it "$1"
+    studies "$1"
+}
+
+# none_of FILE: a file that the buffer does not hold.
+none_of() {
+    check "$(too_long checked check)" '' "$1" stick_check
+    check '' "$(too_long run run)" "$1" stick_run
+    check '' "$(too_long studied settle)" "$1" settle 1000
+}
+
+# full_stick: a complete stick of 65,536 bytes: the season's head of 180 bytes, its 336 readings seven times, 1,119
+# missing ones, and the end.
+full_stick() {
+    local season=examples/season.stick times
+    head -c 180 "$season"
+    for times in 1 2 3 4 5 6 7; do tail -c +181 "$season" | head -c -7; done
+    for ((times = 0; times < 1119; times++)); do printf '\005\0\0'; done
+    printf '\177\0\004\0\0\015\217'
+}
+
+for file in examples/*.stick; do
+    if [ "$(wc -c <"$file")" -gt 65536 ]; then
+        none_of "$file"
+    else
+        all_of "$file"
+    fi
+done
+all_of /dev/null
+check 'standard input: refused 8 (end field missing) at byte 0 after 0 steps' '' /dev/null stick_check
+
+# At the buffer's size and one byte beyond it.
+full_stick >"$work/full"
+check 'standard input: complete, 3471 steps' '' "$work/full" stick_check
+all_of "$work/full"
+{ cat "$work/full"; printf '\0'; } >"$work/more"
+none_of "$work/more"
+head -c 65536 /dev/zero >"$work/zeros"
+check 'standard input: refused 2 (unknown tag) at byte 0 after 0 steps' '' "$work/zeros" stick_check
+all_of "$work/zeros"
+head -c 65537 /dev/zero >"$work/zeros"
+none_of "$work/zeros"
+
+# A result that cannot be written is told, at the first step and, where there is none, at the end record.
+{ head -c 180 examples/season.stick; printf '\177\0\004\0\0\0\0'; } >"$work/none"
+all_of "$work/none"
+for file in examples/season.stick "$work/none"; do
+    error=$("${how[@]}" target/bin/stick_run 2>&1 >/dev/full <"$file")
+    called="stick_run <$file >/dev/full"
+    good test "$error" = "$(line "$file")"$'\n''standard output: not written whole; throw away what it holds'
+done
+
+# Words that are no whole numbers, and too few or too many of them.
+usage='usage: settle LOAD [BUDGET] <FILE
+    LOAD is in watts, such as 150000; BUDGET is the most passes, such as 100.'
+for word in '' x 1x +5 -5 ' 5' '5 ' 1e3 0x10 1.5 1,000 - / : 000000000000000000000000000000001; do
+    check '' "$usage" examples/season.stick settle "$word"
+    check '' "$usage" examples/season.stick settle 1000 "$word"
+done
+check '' "$usage" examples/season.stick settle
+check '' "$usage" examples/season.stick settle 1000 5 5
+
+echo "$passed passed, $failed failed"
+[ "$failed" = 0 ]

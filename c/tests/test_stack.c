@@ -1,0 +1,375 @@
+/* Measures the stack that a call of each function of the header needs, which is at most 65,536 bytes: the call is
+** made on a stack of its own that was painted before, with the largest fleet and long files, and the paint that is
+** left tells how deep it went. Below that stack is memory that cannot be touched. The last line counts the tests.
+*/
+#define _DEFAULT_SOURCE /* for mmap's anonymous memory */
+#include <inttypes.h>
+#include <stdint.h>
+#include <stdio.h>
+#include <stdlib.h>
+#include <string.h>
+#include <sys/mman.h>
+#include <ucontext.h>
+
+#include "yesbrulka.h"
+
+enum { STACK = 1 << 20, EDGE = 65536, MOST = 65536 };
+enum { UNITS = 64, STEPS = 8760, HEAD = 9 + 52 * UNITS + 15, FILE_LEN = HEAD + 27 * STEPS + 7 };
+enum { RESULT_LEN = 40 * UNITS * STEPS + 7, TOO_LONG = 2097153 };
+
+static uint8_t *stack;
+static ucontext_t home, away;
+
+/* What the calls are about, and the answers that were not as expected. */
+static uint8_t file[TOO_LONG], result[RESULT_LEN];
+static uint64_t rated[UNITS], reserve[UNITS], stored[UNITS];
+static uint32_t rating[UNITS];
+static uint16_t weight[UNITS];
+static int32_t requests[UNITS];
+static unsigned wrong;
+
+static void expect(uint64_t got, uint64_t expected)
+{
+    wrong += got != expected;
+}
+
+static void open_stack(void)
+{
+    uint8_t *all = mmap(NULL, STACK + 2 * EDGE, PROT_NONE, MAP_PRIVATE | MAP_ANONYMOUS, -1, 0);
+    if (all == MAP_FAILED || mprotect(all + EDGE, STACK, PROT_READ | PROT_WRITE) != 0) {
+        perror("no memory for a stack");
+        exit(2);
+    }
+    stack = all + EDGE;
+}
+
+/* Makes a call on the stack. */
+static void call_away(void (*call)(void))
+{
+    getcontext(&away);
+    away.uc_stack.ss_sp = stack;
+    away.uc_stack.ss_size = STACK;
+    away.uc_link = &home;
+    makecontext(&away, call, 0);
+    swapcontext(&home, &away);
+}
+
+/* The bytes from the top of the stack to the lowest that lost its paint. */
+static size_t stack_under(uint8_t paint, void (*call)(void))
+{
+    size_t left = 0;
+    memset(stack, paint, STACK);
+    call_away(call);
+    while (left < STACK && stack[left] == paint)
+        left++;
+    return STACK - left;
+}
+
+/* By two paints, for a call may write one of them. */
+static size_t stack_of(void (*call)(void))
+{
+    size_t one = stack_under(0xA5, call), other = stack_under(0x5A, call);
+    return one > other ? one : other;
+}
+
+static void put(uint8_t *bytes, uint64_t number, int width)
+{
+    for (int i = width; i-- > 0; number >>= 8)
+        bytes[i] = (uint8_t)number;
+}
+
+/* The unit's field: each is another, with watts or vars first, and half of them with vars that touch the limit. */
+static void put_unit(uint8_t *field, unsigned unit)
+{
+    put(field, 0x020031, 3);
+    put(field + 3, UINT64_C(10000000000000) - unit, 8);
+    put(field + 11, 1000 * unit, 8);
+    put(field + 19, UINT64_C(100000000000) * (unit + 1), 8);
+    put(field + 27, 100000000 - unit, 4);
+    put(field + 31, 90000000 + unit, 4);
+    put(field + 35, 1000 + unit, 4);
+    put(field + 39, (uint32_t)(unit % 4 < 2 ? -80000000 : 3), 4);
+    put(field + 43, 1 + 150 * unit, 2);
+    put(field + 45, 9000 + unit, 2);
+    put(field + 47, 9100 + unit, 2);
+    put(field + 49, 9200 + unit, 2);
+    put(field + 51, unit % 2, 1);
+}
+
+/* A complete file: readings up and down, from less than a watt to the largest. */
+static void put_file(uint8_t mode)
+{
+    static const double powers[] = {1e5, -1e5, 0.0625, -33333.3333, 0, 2e-4, 77777, -0.4375, 50000, 12.5};
+    memset(file, 0, sizeof file);
+    put(file, 0x01000601, 4);
+    put(file + 4, UNITS, 1);
+    put(file + 5, 3600, 4);
+    for (unsigned i = 0; i < UNITS; i++)
+        put_unit(file + 9 + 52 * i, i);
+    put(file + HEAD - 15, 0x03000C, 3);
+    put(file + HEAD - 12, mode, 1);
+    put(file + HEAD - 11, (uint32_t)(mode == 3 ? 5000 : 10000), 4);
+    put(file + HEAD - 7, 1000, 4);
+    put(file + HEAD - 3, 1000, 2);
+    put(file + HEAD - 1, 0, 1);
+    for (unsigned step = 0; step < STEPS; step++) {
+        uint8_t *field = file + HEAD + 27 * step;
+        put(field, 0x040018, 3);
+        for (unsigned phase = 0; phase < 3; phase++) {
+            uint64_t bits;
+            memcpy(&bits, &powers[(step / (phase + 1) + phase) % 10], sizeof bits);
+            put(field + 3 + 8 * phase, bits, 8);
+        }
+    }
+    put(file + FILE_LEN - 7, 0x7F0004, 3);
+    put(file + FILE_LEN - 4, STEPS, 4);
+}
+
+static void put_fleet(int32_t request)
+{
+    for (unsigned i = 0; i < UNITS; i++) {
+        rated[i] = UINT64_C(10000000000000);
+        reserve[i] = 1000 * i;
+        stored[i] = UINT64_C(5000000000000) + i;
+        rating[i] = 100000000 - i;
+        weight[i] = (uint16_t)(1 + 150 * i);
+        requests[i] = request;
+    }
+}
+
+/* The check, and the room, of a complete file, a cut one, an empty one and one that is too long. */
+static void call_check(void)
+{
+    expect(yb_check(file, FILE_LEN), 0);
+    expect(yb_check(file, FILE_LEN - 8), 1);
+    expect(yb_check(file, 0), 8);
+    expect(yb_check(file, TOO_LONG), 12);
+}
+
+static void call_check_place(void)
+{
+    expect(yb_check_place(file, FILE_LEN), FILE_LEN);
+    expect(yb_check_place(file, FILE_LEN - 8), FILE_LEN - 34);
+    expect(yb_check_place(file, TOO_LONG), 0);
+}
+
+static void call_check_steps(void)
+{
+    expect(yb_check_steps(file, FILE_LEN), STEPS);
+    expect(yb_check_steps(file, FILE_LEN - 8), STEPS - 1);
+    expect(yb_check_steps(file, TOO_LONG), 0);
+}
+
+static void call_value_start(void)
+{
+    expect(yb_value_start(file, FILE_LEN, 0), 3);
+    expect(yb_value_start(file, FILE_LEN, FILE_LEN - 7), FILE_LEN - 4);
+    expect(yb_value_start(file, FILE_LEN, UINT64_MAX), FILE_LEN);
+}
+
+static void call_value_len(void)
+{
+    expect(yb_value_len(file, FILE_LEN, 0), 6);
+    expect(yb_value_len(file, FILE_LEN - 1, FILE_LEN - 7), 3);
+    expect(yb_value_len(file, FILE_LEN, UINT64_MAX), 0);
+}
+
+static void call_units(void)
+{
+    expect(yb_units(file, FILE_LEN), UNITS);
+    expect(yb_units(file, FILE_LEN - 8), 0);
+    expect(yb_units(file, TOO_LONG), 0);
+}
+
+static void call_seconds(void)
+{
+    expect(yb_seconds(file, FILE_LEN), 3600);
+    expect(yb_seconds(file, FILE_LEN - 8), 0);
+    expect(yb_seconds(file, TOO_LONG), 0);
+}
+
+static void call_settings(void)
+{
+    uint8_t mode, phase;
+    int32_t target;
+    uint32_t band;
+    uint16_t factor;
+    expect(yb_settings(file, FILE_LEN, &mode, &target, &band, &factor, &phase), 0);
+    expect(yb_settings(file, FILE_LEN - 8, &mode, &target, &band, &factor, &phase), 1);
+    expect(yb_settings(file, TOO_LONG, &mode, &target, &band, &factor, &phase), 12);
+    expect(band, 1000);
+}
+
+static uint32_t ask_unit(size_t len, uint32_t unit)
+{
+    uint64_t energy[3];
+    uint32_t power[3];
+    int32_t var_request;
+    uint16_t part[4];
+    uint8_t priority;
+    return yb_unit(file, len, unit, &energy[0], &energy[1], &energy[2], &power[0], &power[1], &power[2], &var_request,
+        &part[0], &part[1], &part[2], &part[3], &priority);
+}
+
+/* Every unit, one that is not there, and refused files. */
+static void call_unit(void)
+{
+    for (uint32_t unit = 0; unit < UNITS; unit++)
+        expect(ask_unit(FILE_LEN, unit), 0);
+    expect(ask_unit(FILE_LEN, UNITS), 10);
+    expect(ask_unit(FILE_LEN, UINT32_MAX), 10);
+    expect(ask_unit(FILE_LEN - 8, 0), 1);
+    expect(ask_unit(TOO_LONG, 0), 12);
+}
+
+static void call_run_room(void)
+{
+    expect(yb_run_room(file, FILE_LEN), RESULT_LEN);
+    expect(yb_run_room(file, FILE_LEN - 8), 0);
+}
+
+/* In every mode, and refused. */
+static void call_run(void)
+{
+    for (uint8_t mode = 1; mode <= 3; mode++) {
+        put_file(mode);
+        expect(yb_run(file, FILE_LEN, result, RESULT_LEN), 0);
+    }
+    expect(yb_run(file, FILE_LEN, result, RESULT_LEN - 1), 11);
+    expect(yb_run(file, FILE_LEN - 8, result, RESULT_LEN), 1);
+}
+
+static void call_watts(void)
+{
+    static const double powers[] = {0, 1.5, -0.0625, 0x1p-1074, 99999.9999, 1e300, -1e300 * 1e300};
+    for (int i = 0; i < 7; i++) {
+        int32_t watts;
+        expect(yb_watts(powers[i], &watts), i < 5 ? 0 : 6);
+    }
+}
+
+static void call_pass(void)
+{
+    for (uint8_t mode = 0; mode <= 4; mode++)
+        for (int sign = -1; sign <= 1; sign++) {
+            int64_t need;
+            uint8_t changed;
+            put_fleet(sign * 100000);
+            expect(yb_pass(mode, 50000, 10, 999, mode == 3 ? -300000000 : 300000000, rated, UNITS, reserve, UNITS,
+                stored, UNITS, rating, UNITS, weight, UNITS, requests, UNITS, &need, &changed),
+                mode >= 1 && mode <= 3 ? 0 : 5);
+        }
+}
+
+/* A study that takes long to settle, and one that is refused. */
+static void call_settle(void)
+{
+    uint8_t settled;
+    uint32_t passes;
+    put_fleet(0);
+    expect(yb_settle(100000000, 1, 0, 1, 10000, rated, UNITS, reserve, UNITS, stored, UNITS, rating, UNITS, weight,
+        UNITS, requests, UNITS, &settled, &passes), 0);
+    expect(passes > 1000, 1);
+    expect(yb_settle(100000000, 1, 0, 1, 0, rated, UNITS, reserve, UNITS, stored, UNITS, rating, UNITS, weight,
+        UNITS, requests, UNITS, &settled, &passes), 5);
+}
+
+/* In every mode and with factors that take long to settle and do not, and refused in every way. */
+static void call_study(void)
+{
+    uint8_t settled;
+    uint32_t passes;
+    for (uint8_t mode = 1; mode <= 3; mode++) {
+        put_file(mode);
+        expect(yb_study(file, FILE_LEN, 100000000, 10000, requests, UNITS, &settled, &passes), 0);
+        put(file + HEAD - 3, 1, 2);
+        expect(yb_study(file, FILE_LEN, 100000000, 10000, requests, UNITS, &settled, &passes), 0);
+        expect(passes > 1000, 1);
+    }
+    put_file(1);
+    expect(yb_study(file, FILE_LEN, -1, 10000, requests, UNITS, &settled, &passes), 5);
+    expect(yb_study(file, FILE_LEN, 0, 0, requests, UNITS, &settled, &passes), 5);
+    expect(yb_study(file, FILE_LEN, 0, 1, requests, UNITS - 1, &settled, &passes), 10);
+    expect(yb_study(file, FILE_LEN - 8, 0, 1, requests, UNITS, &settled, &passes), 1);
+    expect(yb_study(file, TOO_LONG, 0, 1, requests, UNITS, &settled, &passes), 12);
+}
+
+/* Giving, idling and taking, with watts or vars first, and refused. */
+static void call_step(void)
+{
+    for (uint8_t priority = 0; priority <= 2; priority++)
+        for (int32_t request = -100000000; request <= 100000000; request += 50000000) {
+            int32_t watts, vars;
+            uint64_t after, loss;
+            expect(yb_step(86400, UINT64_C(10000000000000), 1, UINT64_C(5000000000000), 100000000, 99999999, 77777,
+                -60000000, 10000, 9999, 8888, 7777, priority, request, &watts, &vars, &after, &loss),
+                priority < 2 ? 0 : 5);
+        }
+}
+
+/* What the measure itself must see: a call of nothing, and one above the limit. */
+static void call_nothing(void)
+{
+}
+
+static void call_deep(void)
+{
+    volatile uint8_t deep[MOST + 1];
+    for (size_t i = 0; i < sizeof deep; i++)
+        deep[i] = (uint8_t)i;
+    expect(deep[MOST], 0);
+}
+
+static const struct {
+    const char *name;
+    void (*call)(void);
+} calls[] = {
+    {"yb_check", call_check},
+    {"yb_check_place", call_check_place},
+    {"yb_check_steps", call_check_steps},
+    {"yb_value_start", call_value_start},
+    {"yb_value_len", call_value_len},
+    {"yb_units", call_units},
+    {"yb_seconds", call_seconds},
+    {"yb_settings", call_settings},
+    {"yb_unit", call_unit},
+    {"yb_run_room", call_run_room},
+    {"yb_run", call_run},
+    {"yb_watts", call_watts},
+    {"yb_pass", call_pass},
+    {"yb_settle", call_settle},
+    {"yb_study", call_study},
+    {"yb_step", call_step},
+};
+
+static int measured(const char *name, void (*call)(void))
+{
+    /* The name is out before the call, which may run off the stack. */
+    printf("%s: ", name);
+    fflush(stdout);
+    wrong = 0;
+    size_t bytes = stack_of(call);
+    int good = wrong == 0 && bytes <= MOST;
+    printf("%zu bytes of stack%s%s\n", bytes, bytes <= MOST ? "" : ", FAILED: more than 65536",
+        wrong == 0 ? "" : ", FAILED: an answer is not as expected");
+    return good;
+}
+
+int main(void)
+{
+    unsigned passed = 0, failed = 0;
+    open_stack();
+    put_file(1);
+    size_t nothing = stack_of(call_nothing), deep = stack_of(call_deep);
+    printf("a call of nothing: %zu bytes of stack, a call of %d bytes: %zu\n", nothing, MOST + 1, deep);
+    int measures = nothing < 4096 && deep > MOST && deep < MOST + 4096;
+    passed += measures;
+    failed += !measures;
+    for (size_t i = 0; i < sizeof calls / sizeof calls[0]; i++) {
+        int good = measured(calls[i].name, calls[i].call);
+        passed += good;
+        failed += !good;
+    }
+    printf("%u passed, %u failed\n", passed, failed);
+    return fflush(stdout) == 0 && failed == 0 ? 0 : 1;
+}

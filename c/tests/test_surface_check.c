@@ -1,0 +1,173 @@
+/* The tests of yb_check and its companions. */
+#include <inttypes.h>
+#include <stdio.h>
+#include <stdlib.h>
+#include <string.h>
+
+#include "test_surface.h"
+#include "yesbrulka.h"
+
+static void check_file(const uint8_t *file, size_t len, uint32_t number, uint64_t place, uint32_t steps)
+{
+    for (int at_end = 0; at_end < 2; at_end++) {
+        const uint8_t *lent = lend(file, len, at_end);
+        uint32_t got = yb_check(lent, len);
+        uint64_t got_place = yb_check_place(lent, len);
+        uint32_t got_steps = yb_check_steps(lent, len);
+        if (got != number || got_place != place || got_steps != steps) {
+            wrong++;
+            fprintf(stderr,
+                "a file of %zu bytes: %" PRIu32 " at %" PRIu64 " after %" PRIu32 "; expected %" PRIu32 " at %" PRIu64
+                " after %" PRIu32 "\n",
+                len, got, got_place, got_steps, number, place, steps);
+        }
+    }
+}
+
+static void test_check_complete(void)
+{
+    uint8_t file[sizeof complete];
+    check_file(complete, sizeof complete, 0, 143, 4);
+    /* No steps at all. */
+    memcpy(file, complete, 76);
+    memcpy(file + 76, "\x7F\0\4\0\0\0\0", 7);
+    check_file(file, 83, 0, 83, 0);
+}
+
+/* Bytes that run out are no end. */
+static void test_check_cut(void)
+{
+    static const size_t fields[] = {0, 9, 61, 76, 103, 106, 133, 136, 143};
+    uint32_t steps = 0;
+    for (int field = 0; field < 8; field++) {
+        check_file(complete, fields[field], 8, fields[field], steps);
+        for (size_t len = fields[field] + 1; len < fields[field + 1]; len++)
+            check_file(complete, len, 1, fields[field], steps);
+        steps += field >= 3;
+    }
+    if (yb_check(NULL, 0) != 8 || yb_check_place(NULL, 0) != 0 || yb_check_steps(NULL, 0) != 0) {
+        wrong++;
+        fprintf(stderr, "no file at all: not 8 at 0 after 0\n");
+    }
+}
+
+static void test_check_after(void)
+{
+    uint8_t file[2 * sizeof complete];
+    memcpy(file, complete, sizeof complete);
+    memcpy(file + sizeof complete, complete, sizeof complete);
+    for (size_t len = sizeof complete + 1; len <= sizeof file; len++)
+        check_file(file, len, 9, 143, 4);
+    for (int byte = 0; byte < 256; byte++) {
+        file[sizeof complete] = (uint8_t)byte;
+        check_file(file, sizeof complete + 1, 9, 143, 4);
+    }
+}
+
+/* The file with one byte changed. */
+static void test_check_changed(void)
+{
+    static const struct {
+        size_t at;
+        uint8_t byte;
+        uint32_t number;
+        uint64_t place;
+        uint32_t steps;
+    } changes[] = {
+        {0, 0x00, 2, 0, 0}, {0, 0xFF, 2, 0, 0}, {0, 0x02, 3, 0, 0}, {1, 1, 3, 0, 0}, {2, 5, 3, 0, 0},
+        /* edition, unit count, seconds */
+        {3, 0, 5, 0, 0}, {3, 2, 5, 0, 0}, {4, 0, 5, 0, 0}, {4, 65, 5, 0, 0}, {4, 255, 5, 0, 0}, {4, 2, 4, 61, 0},
+        {4, 64, 4, 61, 0}, {8, 0, 5, 0, 0}, {6, 2, 5, 0, 0}, {5, 0x80, 5, 0, 0}, {6, 1, 0, 143, 4},
+        /* the unit */
+        {9, 0x7E, 2, 9, 0}, {9, 0x01, 3, 9, 0}, {11, 48, 3, 9, 0}, {12, 1, 5, 9, 0}, {20, 1, 5, 9, 0},
+        {25, 0x0F, 5, 9, 0}, {28, 0x80, 5, 9, 0}, {33, 0x10, 5, 9, 0}, {36, 0xFF, 5, 9, 0}, {40, 0xFF, 5, 9, 0},
+        {44, 1, 5, 9, 0}, {46, 0x20, 5, 9, 0}, {46, 0x11, 0, 143, 4}, {48, 0x80, 5, 9, 0}, {48, 0x7F, 5, 9, 0},
+        {48, 0xFF, 0, 143, 4}, {52, 0x40, 5, 9, 0}, {53, 0, 5, 9, 0}, {54, 0, 5, 9, 0}, {54, 0x28, 5, 9, 0},
+        {56, 0, 5, 9, 0}, {58, 0, 5, 9, 0}, {60, 1, 0, 143, 4}, {60, 2, 5, 9, 0}, {60, 255, 5, 9, 0},
+        /* the settings */
+        {61, 0x02, 3, 61, 0}, {64, 0, 5, 61, 0}, {64, 3, 0, 143, 4}, {64, 4, 5, 61, 0}, {65, 0x80, 5, 61, 0},
+        {65, 0xFF, 0, 143, 4}, {69, 0xFF, 5, 61, 0}, {73, 4, 5, 61, 0}, {75, 5, 0, 143, 4}, {75, 6, 5, 61, 0},
+        /* the readings */
+        {76, 0x06, 2, 76, 0}, {78, 25, 3, 76, 0}, {79, 0x7F, 6, 76, 0}, {79, 0xBF, 0, 143, 4}, {87, 0xFF, 6, 76, 0},
+        {95, 0x41, 6, 76, 0}, {102, 1, 0, 143, 4}, {103, 0x7F, 3, 103, 1}, {103, 0x06, 2, 103, 1},
+        {105, 1, 3, 103, 1}, {109, 0x7F, 6, 106, 2}, {117, 0x7F, 6, 106, 2}, {125, 0x7F, 6, 106, 2},
+        {133, 0x80, 2, 133, 3},
+        /* the end */
+        {136, 0x05, 3, 136, 4}, {138, 0, 3, 136, 4}, {142, 3, 7, 136, 4}, {142, 5, 7, 136, 4}, {139, 1, 7, 136, 4},
+        {140, 1, 7, 136, 4},
+    };
+    for (size_t i = 0; i < sizeof changes / sizeof changes[0]; i++) {
+        uint8_t file[sizeof complete];
+        memcpy(file, complete, sizeof complete);
+        file[changes[i].at] = changes[i].byte;
+        check_file(file, sizeof file, changes[i].number, changes[i].place, changes[i].steps);
+    }
+}
+
+/* Fields of the file in another order, by their numbers from 0. */
+static void test_check_order(void)
+{
+    static const size_t fields[] = {0, 9, 61, 76, 103, 106, 133, 136, 143};
+    static const struct {
+        const char *order;
+        uint32_t number;
+        uint64_t place;
+        uint32_t steps;
+    } orders[] = {
+        {"1", 4, 0, 0}, {"7", 4, 0, 0}, {"00", 4, 9, 0}, {"02", 4, 9, 0}, {"011", 4, 61, 0}, {"013", 4, 61, 0},
+        {"014", 4, 61, 0}, {"017", 4, 61, 0}, {"0122", 4, 76, 0}, {"01241", 4, 79, 1}, {"012440", 4, 82, 2},
+        {"012", 8, 76, 0}, {"01244447", 0, 95, 4}, {"012444457", 7, 115, 5}, {"01233447", 0, 143, 4},
+    };
+    for (size_t i = 0; i < sizeof orders / sizeof orders[0]; i++) {
+        uint8_t file[2 * sizeof complete];
+        size_t len = 0;
+        for (const char *c = orders[i].order; *c != '\0'; c++) {
+            size_t field = (size_t)(*c - '0'), bytes = fields[field + 1] - fields[field];
+            memcpy(file + len, complete + fields[field], bytes);
+            len += bytes;
+        }
+        check_file(file, len, orders[i].number, orders[i].place, orders[i].steps);
+    }
+}
+
+static void test_check_large(void)
+{
+    enum { HEAD = 76, MOST = 2097152, LAST = HEAD + 3 * 65535 };
+    uint8_t *file = calloc(1, 2 * MOST);
+    if (file == NULL)
+        give_up("no memory for a large file");
+    memcpy(file, complete, sizeof complete);
+    check_file(file, MOST, 9, 143, 4);
+    check_file(file, MOST + 1, 12, 0, 0);
+    check_file(file, 2 * MOST, 12, 0, 0);
+    memset(file, 0xFF, 2 * MOST);
+    check_file(file, MOST, 2, 0, 0);
+    check_file(file, MOST + 1, 12, 0, 0);
+
+    memset(file, 0, 2 * MOST);
+    memcpy(file, complete, HEAD);
+    for (int step = 0; step < 65536; step++)
+        file[HEAD + 3 * step] = 0x05;
+    check_file(file, LAST + 1, 1, LAST, 65535);
+    check_file(file, LAST + 3, 12, LAST, 65535);
+    check_file(file, MOST, 12, LAST, 65535);
+    memcpy(file + LAST, "\x04\0\x18\xFF\xFF\xFF", 6);
+    check_file(file, LAST + 27, 12, LAST, 65535);
+    check_file(file, LAST + 26, 1, LAST, 65535);
+    memcpy(file + LAST, "\x7F\0\4\0\0\xFF\xFF", 7);
+    check_file(file, LAST + 7, 0, LAST + 7, 65535);
+    check_file(file, LAST, 8, LAST, 65535);
+    file[LAST + 6]--;
+    check_file(file, LAST + 7, 7, LAST, 65535);
+    free(file);
+}
+
+const struct test check_tests[] = {
+    {"yb_check: complete files", test_check_complete},
+    {"yb_check: files cut at every byte", test_check_cut},
+    {"yb_check: bytes after the end", test_check_after},
+    {"yb_check: single bytes changed", test_check_changed},
+    {"yb_check: fields in another order", test_check_order},
+    {"yb_check: as many steps and bytes as there can be", test_check_large},
+    {NULL, NULL},
+};

@@ -1,0 +1,112 @@
+/* Complete files of any fleet, with values that are drawn. */
+#include <string.h>
+
+#include "test_surface.h"
+#include "test_surface_file.h"
+
+uint64_t draw(uint64_t bound)
+{
+    static uint64_t state = 1;
+    state = state * UINT64_C(6364136223846793005) + UINT64_C(1442695040888963407);
+    uint64_t mixed = state ^ state >> 32;
+    return mixed % bound;
+}
+
+/* A number from the least to the most, and each of the two one time in five. */
+static uint64_t draw_between(uint64_t least, uint64_t most)
+{
+    switch (draw(5)) {
+    case 0:
+        return least;
+    case 1:
+        return most;
+    default:
+        return least + draw(most - least + 1);
+    }
+}
+
+/* The bytes as they are put, the highest of a number first. */
+static uint8_t *put(uint8_t *at, uint64_t number, int width)
+{
+    for (int i = width; i-- > 0; number >>= 8)
+        at[i] = (uint8_t)number;
+    return at + width;
+}
+
+static uint8_t *put_unit(uint8_t *at, const struct unit *unit)
+{
+    at = put(at, 0x020031, 3);
+    at = put(at, unit->rated, 8);
+    at = put(at, unit->reserve, 8);
+    at = put(at, unit->stored, 8);
+    at = put(at, unit->rating, 4);
+    at = put(at, unit->kva, 4);
+    at = put(at, unit->idle_loss, 4);
+    at = put(at, (uint32_t)unit->var_request, 4);
+    at = put(at, unit->weight, 2);
+    at = put(at, unit->inverter, 2);
+    at = put(at, unit->charge, 2);
+    at = put(at, unit->discharge, 2);
+    return put(at, unit->priority, 1);
+}
+
+static uint8_t *put_settings(uint8_t *at, const struct settings *settings)
+{
+    at = put(at, 0x03000C, 3);
+    at = put(at, settings->mode, 1);
+    at = put(at, (uint32_t)settings->target, 4);
+    at = put(at, settings->band, 4);
+    at = put(at, settings->factor, 2);
+    return put(at, settings->phase, 1);
+}
+
+void write_file(struct file *file)
+{
+    uint8_t *at = put(file->bytes, 0x01000601, 4);
+    at = put(at, file->units, 1);
+    at = put(at, file->seconds, 4);
+    for (size_t i = 0; i < file->units; i++)
+        at = put_unit(at, &file->unit[i]);
+    at = put_settings(at, &file->settings);
+    memcpy(at, complete + 76, 27 + 3);
+    at = put(at + 27 + 3, 0x7F0004, 3);
+    at = put(at, 2, 4);
+    file->len = (size_t)(at - file->bytes);
+}
+
+/* The kVA rating holds the idle draw, which is the idle loss by the efficiency, rounded up. */
+static struct unit draw_unit(void)
+{
+    struct unit unit = {
+        .rated = draw_between(1, UINT64_C(10000000000000)),
+        .rating = (uint32_t)draw_between(1, 100000000),
+        .idle_loss = (uint32_t)draw_between(0, 10000000),
+        .var_request = (int32_t)draw_between(0, 200000000) - 100000000,
+        .weight = (uint16_t)draw_between(1, 10000),
+        .inverter = (uint16_t)draw_between(1000, 10000),
+        .charge = (uint16_t)draw_between(1000, 10000),
+        .discharge = (uint16_t)draw_between(1000, 10000),
+        .priority = (uint8_t)draw(2),
+    };
+    uint64_t idle_draw = (UINT64_C(10000) * unit.idle_loss + unit.inverter - 1) / unit.inverter;
+    unit.reserve = draw_between(0, unit.rated);
+    unit.stored = draw_between(0, unit.rated);
+    unit.kva = (uint32_t)draw_between(idle_draw == 0 ? 1 : idle_draw, 100000000);
+    return unit;
+}
+
+void draw_file(struct file *file, size_t units)
+{
+    file->units = units;
+    file->seconds = (uint32_t)draw_between(1, 86400);
+    for (size_t i = 0; i < units; i++)
+        file->unit[i] = draw_unit();
+    file->settings = (struct settings){
+        .mode = (uint8_t)(1 + draw(3)),
+        .target = (int32_t)draw_between(0, 200000000) - 100000000,
+        .band = (uint32_t)draw_between(0, 200000000),
+        .factor = (uint16_t)draw_between(1, 1000),
+        .phase = (uint8_t)draw(6),
+    };
+    write_file(file);
+}

@@ -1,0 +1,48 @@
+/* Complete files of any fleet, for the calls that say what a file holds. */
+#ifndef TEST_SURFACE_FILE_H
+#define TEST_SURFACE_FILE_H
+
+#include <stddef.h>
+#include <stdint.h>
+
+enum { MOST_UNITS = 64, MOST_HEAD = 9 + 52 * MOST_UNITS + 15, MOST_FILE = MOST_HEAD + 27 + 3 + 7 };
+
+/* The values of a unit and the settings, in the order of the calls. */
+struct unit {
+    uint64_t rated, reserve, stored;
+    uint32_t rating, kva, idle_loss;
+    int32_t var_request;
+    uint16_t weight, inverter, charge, discharge;
+    uint8_t priority;
+};
+
+struct settings {
+    uint8_t mode;
+    int32_t target;
+    uint32_t band;
+    uint16_t factor;
+    uint8_t phase;
+};
+
+/* What a file says, and its bytes: a head, a reading, a missing one, and the end. */
+struct file {
+    size_t units;
+    uint32_t seconds;
+    struct unit unit[MOST_UNITS];
+    struct settings settings;
+    uint8_t bytes[MOST_FILE];
+    size_t len;
+};
+
+/* Write the bytes that say the rest. */
+void write_file(struct file *file);
+
+/* Draw a complete file of so many units. Each value is at its least or its most now and then, and else anything
+** between.
+*/
+void draw_file(struct file *file, size_t units);
+
+/* A number below a bound, the next of a row that is the same in every run. */
+uint64_t draw(uint64_t bound);
+
+#endif

@@ -1,0 +1,55 @@
+/* The tests of the header's names: each is the document's number. */
+#include <inttypes.h>
+#include <stdio.h>
+
+#include "test_surface.h"
+#include "yesbrulka.h"
+
+struct name {
+    const char *name;
+    uint64_t number, due;
+};
+
+static void check_names(const struct name *names)
+{
+    for (; names->name != NULL; names++)
+        if (names->number != names->due) {
+            wrong++;
+            fprintf(stderr, "%s is %" PRIu64 ", expected %" PRIu64 "\n", names->name, names->number, names->due);
+        }
+}
+
+#define NAME(name, due) {#name, name, due}
+
+static void test_refusals(void)
+{
+    check_names((const struct name[]){NAME(YB_CUT_SHORT, 1), NAME(YB_UNKNOWN_TAG, 2), NAME(YB_WRONG_LENGTH, 3),
+        NAME(YB_OUT_OF_ORDER, 4), NAME(YB_OUT_OF_RANGE, 5), NAME(YB_NOT_USABLE, 6), NAME(YB_WRONG_COUNT, 7),
+        NAME(YB_END_MISSING, 8), NAME(YB_AFTER_END, 9), NAME(YB_DOES_NOT_FIT, 10), NAME(YB_ROOM_TOO_SHORT, 11),
+        NAME(YB_TOO_MANY, 12), {NULL, 0, 0}});
+}
+
+static void test_choices(void)
+{
+    check_names((const struct name[]){NAME(YB_PEAK_SHAVE, 1), NAME(YB_SUPPORT, 2), NAME(YB_PEAK_SHAVE_LOW, 3),
+        NAME(YB_PHASE_SUM, 0), NAME(YB_PHASE_1, 1), NAME(YB_PHASE_2, 2), NAME(YB_PHASE_3, 3),
+        NAME(YB_PHASE_LARGEST, 4), NAME(YB_PHASE_SMALLEST, 5), NAME(YB_WATTS_FIRST, 0), NAME(YB_VARS_FIRST, 1),
+        {NULL, 0, 0}});
+}
+
+static void test_limits(void)
+{
+    check_names((const struct name[]){NAME(YB_MOST_UNITS, 64), NAME(YB_MOST_STEPS, 65535),
+        NAME(YB_MOST_FILE_BYTES, 2097152), NAME(YB_MOST_SECONDS, 86400), NAME(YB_MOST_POWER, 100000000),
+        NAME(YB_MOST_IDLE_LOSS, 10000000), NAME(YB_MOST_WEIGHT, 10000), NAME(YB_LEAST_EFFICIENCY, 1000),
+        NAME(YB_MOST_EFFICIENCY, 10000), NAME(YB_MOST_BAND, 200000000), NAME(YB_MOST_FACTOR, 1000),
+        NAME(YB_MOST_MEASURE, 300000000), NAME(YB_MOST_BUDGET, 10000),
+        NAME(YB_MOST_RATED, UINT64_C(10000000000000)), {NULL, 0, 0}});
+}
+
+const struct test header_tests[] = {
+    {"the header's refusals", test_refusals},
+    {"the header's modes, phases and priorities", test_choices},
+    {"the header's limits", test_limits},
+    {NULL, NULL},
+};

@@ -1,0 +1,201 @@
+/* The tests of yb_run_room and yb_run. */
+#include <inttypes.h>
+#include <stdio.h>
+#include <stdlib.h>
+#include <string.h>
+#include <sys/mman.h>
+
+#include "test_surface.h"
+#include "yesbrulka.h"
+
+/* The whole case of document 01: one unit that draws 1,000 W, one missing reading; and its result. */
+static const uint8_t whole_case[] = {
+    0x01, 0, 6, 1, 1, 0, 0, 0, 60,
+    0x02, 0, 49, 0, 0, 0, 0, 0, 0x36, 0xEE, 0x80, 0, 0, 0, 0, 0, 0, 0, 0, 0, 0, 0, 0, 0, 0x36, 0xEE, 0x80, 0x05, 0xF5,
+    0xE1, 0, 0x05, 0xF5, 0xE1, 0, 0, 0, 0x03, 0xE8, 0, 0, 0, 0, 0, 1, 0x27, 0x10, 0x27, 0x10, 0x27, 0x10, 0,
+    0x03, 0, 12, 1, 0, 0, 0, 0, 0, 0, 0, 0, 0x03, 0xE8, 0,
+    0x05, 0, 0,
+    0x7F, 0, 4, 0, 0, 0, 1,
+};
+static const uint8_t whole_result[] = {
+    0x11, 0, 0x25, 0, 0, 0, 0, 0, 0, 0, 0, 0, 0xBF, 0xF0, 0, 0, 0, 0, 0, 0, 0, 0, 0, 0,
+    0, 0, 0, 0, 0, 0x36, 0xEE, 0x80, 0, 0, 0, 0, 0, 0, 0xEA, 0x60,
+    0x1F, 0, 4, 0, 0, 0, 1,
+};
+
+/* The unit of the figures, with a store of 251,499 J: it is asked 900 W and gives 900 (figure D1), 899 (D2) and
+** nothing, which draws 12 W.
+*/
+static const uint8_t giving_result[] = {
+    0x11, 0, 0x25, 0, 0, 0, 0, 0, 0, 0, 0x03, 0x84, 0x3F, 0xEC, 0xCC, 0xCC, 0xCC, 0xCC, 0xCC, 0xCD, 0, 0, 0, 0,
+    0, 0, 0, 0, 0, 0x02, 0xAE, 0x85, 0, 0, 0, 0, 0, 0, 0x54, 0xF6,
+    0x11, 0, 0x25, 0, 0, 0, 1, 0, 0, 0, 0x03, 0x84, 0x3F, 0xEC, 0xC4, 0x9B, 0xA5, 0xE3, 0x53, 0xF8, 0, 0, 0, 0,
+    0, 0, 0, 0, 0, 0x01, 0x86, 0xEA, 0, 0, 0, 0, 0, 0, 0x54, 0xE7,
+    0x11, 0, 0x25, 0, 0, 0, 2, 0, 0, 0, 0x03, 0x84, 0xBF, 0x88, 0x93, 0x74, 0xBC, 0x6A, 0x7E, 0xFA, 0, 0, 0, 0,
+    0, 0, 0, 0, 0, 0x01, 0x86, 0xEA, 0, 0, 0, 0, 0, 0, 0x02, 0xD0,
+    0x1F, 0, 4, 0, 0, 0, 3,
+};
+
+static const uint8_t no_steps[] = {0x1F, 0, 4, 0, 0, 0, 0};
+
+/* One run into a room of a given length at the start or the end of its pages: the number, the result at the room's
+** start, and every other byte as it was.
+*/
+static void check_room(const uint8_t *file, size_t len, size_t room_len, int at_end, uint32_t number,
+    const uint8_t *result, size_t result_len)
+{
+    static uint8_t *results;
+    size_t whole = (room_len + EDGE - 1) / EDGE * EDGE, written = number == 0 ? result_len : 0, bad = 0;
+    if (results == NULL)
+        results = open_pages();
+    uint8_t *pages = at_end ? results + ROOM - whole : results;
+    uint8_t *lent = at_end ? results + ROOM - room_len : results;
+    uint8_t fill = at_end ? 0x5A : 0xFF;
+    if (mprotect(results, ROOM, PROT_NONE) != 0 || mprotect(pages, whole, PROT_READ | PROT_WRITE) != 0)
+        give_up("room to lend");
+    memset(pages, fill, whole);
+    uint32_t got = yb_run(lend(file, len, at_end), len, lent, room_len);
+    if (written != 0 && memcmp(lent, result, written) != 0)
+        bad++;
+    for (uint8_t *at = pages; at < pages + whole; at++)
+        bad += (at < lent || at >= lent + written) && *at != fill;
+    if (got != number || bad != 0) {
+        wrong++;
+        fprintf(stderr, "yb_run, a file of %zu bytes, room of %zu: number %" PRIu32 "; expected %" PRIu32 "%s\n", len,
+            room_len, got, number, bad == 0 ? "" : "; the room is not as expected");
+    }
+}
+
+static void check_run_room(const uint8_t *file, size_t len, uint64_t due)
+{
+    for (int at_end = 0; at_end < 2; at_end++) {
+        uint64_t got = yb_run_room(lend(file, len, at_end), len);
+        if (got != due) {
+            wrong++;
+            fprintf(stderr, "yb_run_room, a file of %zu bytes: %" PRIu64 ", expected %" PRIu64 "\n", len, got, due);
+        }
+    }
+}
+
+/* A complete file: rooms that fit, are longer, or are too short by any number of bytes. */
+static void check_run(const uint8_t *file, size_t len, const uint8_t *result, size_t due)
+{
+    check_run_room(file, len, due);
+    for (int at_end = 0; at_end < 2; at_end++) {
+        for (size_t more = 0; more < 90; more++)
+            check_room(file, len, due + more, at_end, 0, result, due);
+        check_room(file, len, ROOM, at_end, 0, result, due);
+        for (size_t room_len = 0; room_len < due; room_len++)
+            check_room(file, len, room_len, at_end, 11, NULL, 0);
+    }
+}
+
+/* A file that is not complete, with rooms of any length. */
+static void refused_run(const uint8_t *file, size_t len, uint32_t number)
+{
+    check_run_room(file, len, 0);
+    for (int at_end = 0; at_end < 2; at_end++)
+        for (size_t room_len = 0; room_len < 400; room_len += 47)
+            check_room(file, len, room_len, at_end, number, NULL, 0);
+}
+
+/* The fields of a file of one unit and of several steps that ask it nothing anew. */
+static size_t giving_file(uint8_t *file)
+{
+    memcpy(file, complete, 76);
+    memcpy(file + 28, "\0\0\0\0\0\x03\xD6\x6B", 8);
+    memset(file + 65, 0, 8);
+    memcpy(file + 76, "\x04\0\x18\x3F\xEC\xCC\xCC\xCC\xCC\xCC\xCD", 11);
+    memset(file + 87, 0, 16);
+    memcpy(file + 103, "\x05\0\0\x05\0\0\x7F\0\4\0\0\0\3", 13);
+    return 116;
+}
+
+static void test_run_figures(void)
+{
+    uint8_t file[sizeof complete];
+    check_run(whole_case, sizeof whole_case, whole_result, sizeof whole_result);
+    check_run(file, giving_file(file), giving_result, sizeof giving_result);
+}
+
+static void test_run_no_steps(void)
+{
+    uint8_t file[sizeof complete];
+    memcpy(file, complete, 76);
+    memcpy(file + 76, "\x7F\0\4\0\0\0\0", 7);
+    check_run(file, 83, no_steps, sizeof no_steps);
+}
+
+static void test_run_refused(void)
+{
+    uint8_t file[sizeof complete + 1];
+    for (size_t len = 0; len < sizeof complete; len++)
+        refused_run(complete, len, yb_check(complete, len));
+    memcpy(file, complete, sizeof complete);
+    file[sizeof complete] = 0;
+    refused_run(file, sizeof file, 9);
+    /* One byte of each field: tag, length, order, edition, unit, settings, reading, count. */
+    static const struct {
+        size_t at;
+        uint8_t byte;
+        uint32_t number;
+    } changes[] = {{0, 0x06, 2}, {2, 5, 3}, {4, 2, 4}, {3, 2, 5}, {4, 65, 5}, {53, 0, 5}, {64, 4, 5}, {79, 0x7F, 6},
+        {142, 3, 7}};
+    for (size_t i = 0; i < sizeof changes / sizeof changes[0]; i++) {
+        memcpy(file, complete, sizeof complete);
+        file[changes[i].at] = changes[i].byte;
+        refused_run(file, sizeof complete, changes[i].number);
+    }
+    /* Nothing at all, lent by no address. */
+    if (yb_run_room(NULL, 0) != 0 || yb_run(NULL, 0, NULL, 0) != 8) {
+        wrong++;
+        fprintf(stderr, "no file at all: not 8, or not a room of 0\n");
+    }
+    if (yb_run(lend(whole_case, sizeof whole_case, 0), sizeof whole_case, NULL, 0) != 11) {
+        wrong++;
+        fprintf(stderr, "no room at all: not 11\n");
+    }
+}
+
+/* As many units and steps as fit the room, of which nothing is asked: every record is the unit's draw. */
+static void test_run_large(void)
+{
+    enum { UNITS = 64, STEPS = 1800, HEAD = 9 + 52 * UNITS + 15, LEN = HEAD + 3 * STEPS + 7,
+        DUE = 40 * UNITS * STEPS + 7 };
+    uint8_t *file = calloc(1, LEN), *result = calloc(1, DUE);
+    if (file == NULL || result == NULL)
+        give_up("no memory for a large file");
+    memcpy(file, whole_case, 9);
+    file[4] = UNITS;
+    for (int i = 0; i < UNITS; i++)
+        memcpy(file + 9 + 52 * i, whole_case + 9, 52);
+    memcpy(file + HEAD - 15, whole_case + 61, 15);
+    for (int step = 0; step < STEPS; step++)
+        file[HEAD + 3 * step] = 0x05;
+    memcpy(file + LEN - 7, "\x7F\0\4\0\0\x07\x08", 7);
+    for (int i = 0; i < UNITS * STEPS; i++) {
+        memcpy(result + 40 * i, whole_result, 40);
+        result[40 * i + 5] = (uint8_t)(i / UNITS >> 8);
+        result[40 * i + 6] = (uint8_t)(i / UNITS);
+        result[40 * i + 7] = (uint8_t)(i % UNITS);
+    }
+    memcpy(result + DUE - 7, "\x1F\0\4\0\0\x07\x08", 7);
+    check_run_room(file, LEN, DUE);
+    for (int at_end = 0; at_end < 2; at_end++) {
+        check_room(file, LEN, DUE, at_end, 0, result, DUE);
+        check_room(file, LEN, DUE + 1, at_end, 0, result, DUE);
+        check_room(file, LEN, DUE - 1, at_end, 11, NULL, 0);
+        check_room(file, LEN, DUE - 7, at_end, 11, NULL, 0);
+        check_room(file, LEN - 1, DUE, at_end, 1, NULL, 0);
+    }
+    free(file);
+    free(result);
+}
+
+const struct test run_tests[] = {
+    {"yb_run: the document's whole case, and figures D1 and D2 in a row", test_run_figures},
+    {"yb_run: no steps", test_run_no_steps},
+    {"yb_run: refused files", test_run_refused},
+    {"yb_run: 64 units", test_run_large},
+    {NULL, NULL},
+};

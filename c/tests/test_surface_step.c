@@ -1,0 +1,284 @@
+/* The tests of yb_step. */
+#include <inttypes.h>
+#include <stdio.h>
+
+#include "test_surface.h"
+#include "yesbrulka.h"
+
+/* A unit, the length of its step and its request, in the order of the call. */
+struct step {
+    uint32_t seconds;
+    uint64_t rated, reserve, stored;
+    uint32_t rating, kva, idle_loss;
+    int32_t var_request;
+    uint16_t weight, inverter, charge, discharge;
+    uint8_t priority;
+    int32_t request;
+};
+
+/* The unit of the figures D1 to D3, with 500,000 J above its reserve. */
+static const struct step unit = {
+    60, 1000000, 100000, 600000, 5000, 5000, 10, 0, 1, 9000, 8000, 8000, 0, 0,
+};
+
+/* The unit with everything as large as it can be, and no losses. */
+static const struct step largest = {
+    86400, UINT64_C(10000000000000), 0, UINT64_C(10000000000000), 100000000, 100000000, 0, 0, 10000, 10000, 10000,
+    10000, 0, 0,
+};
+
+/* One step, made twice over different memory: the number, what it stores, and the words around it. */
+static void check_step(const struct step *s, uint32_t number, int32_t watts, int32_t vars, uint64_t after,
+    uint64_t loss)
+{
+    for (int i = 0; i < 2; i++) {
+        int32_t fill = i == 0 ? 0x5A5A5A5A : -1;
+        uint64_t long_fill = i == 0 ? UINT64_C(0x5A5A5A5A5A5A5A5A) : UINT64_MAX;
+        int32_t w[3] = {fill, fill, fill}, v[3] = {fill, fill, fill};
+        uint64_t a[3] = {long_fill, long_fill, long_fill}, l[3] = {long_fill, long_fill, long_fill};
+        uint32_t got = yb_step(s->seconds, s->rated, s->reserve, s->stored, s->rating, s->kva, s->idle_loss,
+            s->var_request, s->weight, s->inverter, s->charge, s->discharge, s->priority, s->request, &w[1], &v[1],
+            &a[1], &l[1]);
+        int stored = number == 0
+            ? w[1] == watts && v[1] == vars && a[1] == after && l[1] == loss
+            : w[1] == fill && v[1] == fill && a[1] == long_fill && l[1] == long_fill;
+        int around = w[0] == fill && w[2] == fill && v[0] == fill && v[2] == fill && a[0] == long_fill &&
+            a[2] == long_fill && l[0] == long_fill && l[2] == long_fill;
+        if (got != number || !stored || !around) {
+            wrong++;
+            fprintf(stderr,
+                "yb_step(%" PRIu32 ", %" PRIu64 ", %" PRIu64 ", %" PRIu64 ", %" PRIu32 ", %" PRIu32 ", %" PRIu32
+                ", %" PRId32 ", %u, %u, %u, %u, %u, %" PRId32 "): number %" PRIu32 ", %" PRId32 " W, %" PRId32
+                " var, %" PRIu64 " J, lost %" PRIu64 " J; expected %" PRIu32 ", %" PRId32 ", %" PRId32 ", %" PRIu64
+                ", %" PRIu64 "%s\n",
+                s->seconds, s->rated, s->reserve, s->stored, s->rating, s->kva, s->idle_loss, s->var_request,
+                (unsigned)s->weight, (unsigned)s->inverter, (unsigned)s->charge, (unsigned)s->discharge,
+                (unsigned)s->priority, s->request, got, w[1], v[1], a[1], l[1], number, watts, vars, after, loss,
+                around ? "" : "; memory beside them changed");
+        }
+    }
+}
+
+/* Refused with 5, whatever the request. */
+static void refused_step(const struct step *s)
+{
+    static const int32_t requests[] = {0, 1, -1, 5001, INT32_MAX, INT32_MIN};
+    struct step step = *s;
+    for (size_t i = 0; i < sizeof requests / sizeof requests[0]; i++) {
+        step.request = requests[i];
+        check_step(&step, 5, 0, 0, 0, 0);
+    }
+}
+
+/* The unit with a request and a store. */
+static struct step asked(int32_t request, uint64_t stored)
+{
+    struct step step = unit;
+    step.request = request;
+    step.stored = stored;
+    return step;
+}
+
+static void test_step_figures(void)
+{
+    struct step s = asked(900, 175750);
+    check_step(&s, 0, 900, 0, 100000, 21750);
+    s.stored = 175749;
+    check_step(&s, 0, 899, 0, 100074, 21735);
+    s = asked(-1000, 100000);
+    check_step(&s, 0, -1000, 0, 142720, 17280);
+
+    s = unit;
+    s.idle_loss = 0;
+    for (int sign = -1; sign <= 1; sign += 2)
+        for (int32_t v = 4; v <= 6; v++) {
+            s.kva = 5;
+            s.var_request = sign * v;
+            s.request = 3;
+            check_step(&s, 0, 3, sign * 4, 599700, 120);
+            s.request = -3;
+            check_step(&s, 0, -3, sign * 4, 600096, 84);
+            s.kva = 10;
+            s.var_request = sign * (v + 3);
+            s.request = 7;
+            check_step(&s, 0, 7, sign * 7, 599400, 180);
+            s.request = -7;
+            check_step(&s, 0, -7, sign * 7, 600288, 132);
+        }
+}
+
+static void test_step_idling(void)
+{
+    struct step s = largest;
+    s.seconds = 60;
+    s.rated = s.stored = 3600000;
+    s.idle_loss = 1000;
+    check_step(&s, 0, -1000, 0, 3600000, 60000);
+    /* Full and asked to take; at its reserve or below it and asked to give. */
+    s.request = -100000000;
+    check_step(&s, 0, -1000, 0, 3600000, 60000);
+    s.request = 100000000;
+    s.reserve = 3600000;
+    check_step(&s, 0, -1000, 0, 3600000, 60000);
+    for (uint64_t stored = 0; stored < 3600000; stored = 2 * stored + 1) {
+        s.stored = stored;
+        check_step(&s, 0, -1000, 0, stored, 60000);
+    }
+    /* The draw at S leaves no room for vars. */
+    s = largest;
+    s.inverter = 1000;
+    s.idle_loss = 10000000;
+    s.var_request = 100000000;
+    for (s.priority = 0; s.priority <= 1; s.priority++)
+        check_step(&s, 0, -100000000, 0, UINT64_C(10000000000000), UINT64_C(8640000000000));
+}
+
+static void test_step_last_joule(void)
+{
+    struct step s = asked(1, 100899);
+    check_step(&s, 0, -12, 0, 100899, 720);
+    s = asked(1, 100900);
+    check_step(&s, 0, 1, 0, 100000, 840);
+    s = asked(1, 100901);
+    check_step(&s, 0, 1, 0, 100001, 840);
+    s = asked(-1000, 1000000 - 42720);
+    check_step(&s, 0, -1000, 0, 1000000, 17280);
+    s = asked(-1000, 1000000 - 42719);
+    check_step(&s, 0, -999, 0, 999953, 17268);
+    s = asked(-1000, 1000000 - 48);
+    check_step(&s, 0, -13, 0, 1000000, 732);
+    s = asked(-1000, 1000000 - 47);
+    check_step(&s, 0, -12, 0, 999953, 720);
+    /* Part of a joule more is a joule from the store, and none to it. */
+    s = asked(900, 186572);
+    s.discharge = 7000;
+    check_step(&s, 0, 900, 0, 100000, 32572);
+    s.stored--;
+    check_step(&s, 0, 899, 0, 100085, 32546);
+    s = asked(-1000, 1000000 - 41529);
+    s.charge = 7777;
+    check_step(&s, 0, -1000, 0, 1000000, 18471);
+    s.stored++;
+    check_step(&s, 0, -999, 0, 999954, 18458);
+    /* What passes the inverter does not cover the idle loss. */
+    for (int32_t watts = 1; watts <= 12; watts++) {
+        s = asked(-watts, 0);
+        check_step(&s, 0, -12, 0, 0, 720);
+    }
+    s = asked(-13, 0);
+    check_step(&s, 0, -13, 0, 48, 732);
+}
+
+static void test_step_circle(void)
+{
+    struct step s = unit;
+    s.kva = 50;
+    s.request = 5000;
+    check_step(&s, 0, 50, 0, 595050, 1950);
+    s.request = -5000;
+    check_step(&s, 0, -50, 0, 601680, 1320);
+
+    /* The stored energy cuts the watts before the vars are limited. */
+    s = asked(900, 175749);
+    s.kva = 900;
+    s.var_request = 900;
+    check_step(&s, 0, 899, 42, 100074, 21735);
+
+    for (int sign = -1; sign <= 1; sign += 2) {
+        s = unit;
+        s.kva = 1000;
+        s.var_request = sign * 600;
+        s.request = 900;
+        check_step(&s, 0, 900, sign * 435, 524250, 21750);
+        s.request = -900;
+        check_step(&s, 0, -900, sign * 435, 638400, 15600);
+        s.priority = 1;
+        check_step(&s, 0, -800, sign * 600, 634080, 13920);
+        s.request = 900;
+        check_step(&s, 0, 800, sign * 600, 532575, 19425);
+        /* Vars at S or beyond it leave no watts. */
+        for (int32_t v = 1000; v <= 100000000; v *= 10) {
+            s.var_request = sign * v;
+            check_step(&s, 0, -12, sign * 999, 600000, 720);
+        }
+    }
+}
+
+static void test_step_largest(void)
+{
+    struct step s = largest;
+    s.request = 100000000;
+    s.var_request = INT32_C(-100000000);
+    check_step(&s, 0, 100000000, 0, UINT64_C(1360000000000), 0);
+    s.inverter = s.charge = s.discharge = 1000;
+    check_step(&s, 0, 1157407, -99993301, 3520000, UINT64_C(9899996515200));
+    s.seconds = 1;
+    check_step(&s, 0, 100000000, 0, UINT64_C(9990000000000), UINT64_C(9900000000));
+    s.request = -100000000;
+    s.stored = 0;
+    check_step(&s, 0, -100000000, 0, 1000000, 99000000);
+    s.seconds = 86400;
+    check_step(&s, 0, -100000000, 0, UINT64_C(86400000000), UINT64_C(8553600000000));
+    s.inverter = s.charge = s.discharge = 10000;
+    check_step(&s, 0, -100000000, 0, UINT64_C(8640000000000), 0);
+}
+
+static void test_step_values(void)
+{
+    static const uint32_t seconds[] = {0, 86401, UINT32_C(1) << 31, UINT32_MAX};
+    static const uint64_t rated[] = {0, UINT64_C(10000000000001), UINT64_C(1) << 63, UINT64_MAX};
+    static const uint64_t energy[] = {1000001, UINT64_C(1) << 32, UINT64_C(1) << 63, UINT64_MAX};
+    static const uint32_t power[] = {0, 100000001, UINT32_C(1) << 31, UINT32_MAX};
+    static const uint32_t idle[] = {4501, 10000001, UINT32_C(1) << 31, UINT32_MAX};
+    static const int32_t var[] = {INT32_MIN, -100000001, 100000001, INT32_MAX};
+    static const uint16_t weight[] = {0, 10001, 1 << 15, UINT16_MAX};
+    static const uint16_t efficiency[] = {0, 999, 10001, UINT16_MAX};
+    static const uint8_t priority[] = {2, 3, 128, UINT8_MAX};
+    struct step s;
+    for (int i = 0; i < 4; i++) {
+        s = unit, s.seconds = seconds[i], refused_step(&s);
+        s = unit, s.rated = rated[i], refused_step(&s);
+        s = unit, s.reserve = energy[i], refused_step(&s);
+        s = unit, s.stored = energy[i], refused_step(&s);
+        s = unit, s.rating = power[i], refused_step(&s);
+        s = unit, s.kva = power[i], refused_step(&s);
+        s = unit, s.idle_loss = idle[i], refused_step(&s);
+        s = unit, s.var_request = var[i], refused_step(&s);
+        s = unit, s.weight = weight[i], refused_step(&s);
+        s = unit, s.inverter = efficiency[i], refused_step(&s);
+        s = unit, s.charge = efficiency[i], refused_step(&s);
+        s = unit, s.discharge = efficiency[i], refused_step(&s);
+        s = unit, s.priority = priority[i], refused_step(&s);
+    }
+    s = unit, s.rated = s.reserve = s.stored = 0, refused_step(&s);
+    /* An idle draw of S, and above it by rounding up alone. */
+    s = unit, s.idle_loss = 4500;
+    check_step(&s, 0, -5000, 0, 600000, 300000);
+    s = unit, s.idle_loss = s.kva = 10, s.inverter = 10000;
+    check_step(&s, 0, -10, 0, 600000, 600);
+    s.inverter = 9999, refused_step(&s);
+    s = largest, s.idle_loss = 10000000, s.inverter = 1000, s.kva = 99999999, refused_step(&s);
+}
+
+static void test_step_requests(void)
+{
+    static const int32_t beyond[] = {5001, -5001, 100000001, INT32_MAX, INT32_MIN, -INT32_MAX};
+    for (size_t i = 0; i < sizeof beyond / sizeof beyond[0]; i++) {
+        struct step s = asked(beyond[i], 600000);
+        check_step(&s, 10, 0, 0, 0, 0);
+        /* It is the power rating that counts, not S. */
+        s.kva = 100000000;
+        check_step(&s, 10, 0, 0, 0, 0);
+    }
+}
+
+const struct test step_tests[] = {
+    {"yb_step: the document's figures D1 to D3 and E1", test_step_figures},
+    {"yb_step: idling", test_step_idling},
+    {"yb_step: the last joule", test_step_last_joule},
+    {"yb_step: the kVA circle and the priority", test_step_circle},
+    {"yb_step: the largest numbers", test_step_largest},
+    {"yb_step: values outside their ranges", test_step_values},
+    {"yb_step: requests beyond the rating", test_step_requests},
+    {NULL, NULL},
+};

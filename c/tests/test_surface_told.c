@@ -1,0 +1,233 @@
+/* The tests of yb_units, yb_seconds, yb_settings and yb_unit: what a complete file says. */
+#include <inttypes.h>
+#include <stdio.h>
+#include <stdlib.h>
+#include <string.h>
+
+#include "test_surface.h"
+#include "test_surface_file.h"
+#include "yesbrulka.h"
+
+/* What yb_settings and yb_unit write, each number between two of its kind. */
+struct told_settings {
+    uint8_t mode[3];
+    int32_t target[3];
+    uint32_t band[3];
+    uint16_t factor[3];
+    uint8_t phase[3];
+};
+
+struct told_unit {
+    uint64_t rated[3], reserve[3], stored[3];
+    uint32_t rating[3], kva[3], idle_loss[3];
+    int32_t var_request[3];
+    uint16_t weight[3], inverter[3], charge[3], discharge[3];
+    uint8_t priority[3];
+};
+
+/* The number of units and the seconds, of a file at the start and at the end of its pages; 0 and 0 are a refused
+** file's.
+*/
+static void check_fleet(const uint8_t *file, size_t len, uint32_t units, uint32_t seconds)
+{
+    for (int at_end = 0; at_end < 2; at_end++) {
+        const uint8_t *lent = lend(file, len, at_end);
+        uint32_t got = yb_units(lent, len), got_seconds = yb_seconds(lent, len);
+        if (got != units || got_seconds != seconds) {
+            wrong++;
+            fprintf(stderr,
+                "a file of %zu bytes: %" PRIu32 " units, %" PRIu32 " s; expected %" PRIu32 ", %" PRIu32 "\n", len, got,
+                got_seconds, units, seconds);
+        }
+    }
+}
+
+/* The number, the settings or nothing written, and the memory beside them; twice over different memory. */
+static void check_settings(const uint8_t *file, size_t len, uint32_t number, const struct settings *settings)
+{
+    for (int at_end = 0; at_end < 2; at_end++) {
+        struct told_settings told, due;
+        memset(&told, at_end ? 0x5A : 0xFF, sizeof told);
+        memcpy(&due, &told, sizeof due);
+        if (number == 0) {
+            due.mode[1] = settings->mode;
+            due.target[1] = settings->target;
+            due.band[1] = settings->band;
+            due.factor[1] = settings->factor;
+            due.phase[1] = settings->phase;
+        }
+        uint32_t got = yb_settings(lend(file, len, at_end), len, &told.mode[1], &told.target[1], &told.band[1],
+            &told.factor[1], &told.phase[1]);
+        if (got != number || memcmp(&told, &due, sizeof due) != 0) {
+            wrong++;
+            fprintf(stderr, "yb_settings, a file of %zu bytes: %" PRIu32 ", mode %u, target %" PRId32 ", band %" PRIu32
+                ", factor %u, phase %u; expected %" PRIu32 "%s\n",
+                len, got, told.mode[1], told.target[1], told.band[1], told.factor[1], told.phase[1], number,
+                got == number ? ", and other memory" : "");
+        }
+    }
+}
+
+/* The memory of yb_unit as it is due: the unit's values in it. */
+static void put_unit(struct told_unit *due, const struct unit *unit)
+{
+    due->rated[1] = unit->rated;
+    due->reserve[1] = unit->reserve;
+    due->stored[1] = unit->stored;
+    due->rating[1] = unit->rating;
+    due->kva[1] = unit->kva;
+    due->idle_loss[1] = unit->idle_loss;
+    due->var_request[1] = unit->var_request;
+    due->weight[1] = unit->weight;
+    due->inverter[1] = unit->inverter;
+    due->charge[1] = unit->charge;
+    due->discharge[1] = unit->discharge;
+    due->priority[1] = unit->priority;
+}
+
+/* The same for a unit, which is NULL where the number is another than 0. */
+static void check_unit(const uint8_t *file, size_t len, uint32_t which, uint32_t number, const struct unit *unit)
+{
+    for (int at_end = 0; at_end < 2; at_end++) {
+        struct told_unit told, due;
+        memset(&told, at_end ? 0x5A : 0xFF, sizeof told);
+        memcpy(&due, &told, sizeof due);
+        if (number == 0)
+            put_unit(&due, unit);
+        uint32_t got = yb_unit(lend(file, len, at_end), len, which, &told.rated[1], &told.reserve[1], &told.stored[1],
+            &told.rating[1], &told.kva[1], &told.idle_loss[1], &told.var_request[1], &told.weight[1],
+            &told.inverter[1], &told.charge[1], &told.discharge[1], &told.priority[1]);
+        if (got != number || memcmp(&told, &due, sizeof due) != 0) {
+            wrong++;
+            fprintf(stderr, "yb_unit, unit %" PRIu32 " of a file of %zu bytes: %" PRIu32 ", expected %" PRIu32 "%s\n",
+                which, len, got, number, got == number ? ", and other memory" : "");
+        }
+    }
+}
+
+/* All of what a file says, and nothing of units that it has not. */
+static void check_told(const struct file *file)
+{
+    check_fleet(file->bytes, file->len, (uint32_t)file->units, file->seconds);
+    check_settings(file->bytes, file->len, 0, &file->settings);
+    for (uint32_t which = 0; which < 256; which++)
+        if (which < file->units)
+            check_unit(file->bytes, file->len, which, 0, &file->unit[which]);
+        else
+            check_unit(file->bytes, file->len, which, 10, NULL);
+    /* Numbers that a narrower count would take for one of the fleet. */
+    for (int bit = 8; bit < 32; bit++)
+        for (uint32_t low = 0; low < 2; low++)
+            check_unit(file->bytes, file->len, (UINT32_C(1) << bit) + low, 10, NULL);
+    check_unit(file->bytes, file->len, UINT32_MAX, 10, NULL);
+    check_unit(file->bytes, file->len, UINT32_MAX / 52, 10, NULL);
+}
+
+/* Nothing of a file that is not complete; its number comes before that of the unit. */
+static void refused_told(const uint8_t *file, size_t len, uint32_t number)
+{
+    static const uint32_t units[] = {0, 1, 63, 64, 255, UINT32_MAX};
+    check_fleet(file, len, 0, 0);
+    check_settings(file, len, number, NULL);
+    for (size_t i = 0; i < sizeof units / sizeof units[0]; i++)
+        check_unit(file, len, units[i], number, NULL);
+}
+
+static void test_told_complete(void)
+{
+    struct file file;
+    for (size_t units = 1; units <= 64; units += units < 4 || units > 61 ? 1 : 19)
+        for (int times = 0; times < 3; times++) {
+            draw_file(&file, units);
+            check_told(&file);
+        }
+}
+
+/* Every value at its least and at its most. */
+static void test_told_limits(void)
+{
+    static const struct unit least = {1, 0, 0, 1, 1, 0, -100000000, 1, 1000, 1000, 1000, 0};
+    static const struct unit most = {UINT64_C(10000000000000), UINT64_C(10000000000000), UINT64_C(10000000000000),
+        100000000, 100000000, 10000000, 100000000, 10000, 10000, 10000, 10000, 1};
+    struct file file = {.units = 2, .seconds = 1, .unit = {least, most}, .settings = {1, -100000000, 0, 1, 0}};
+    write_file(&file);
+    check_told(&file);
+    file.seconds = 86400;
+    file.unit[0] = most;
+    file.unit[1] = least;
+    file.settings = (struct settings){3, 100000000, 200000000, 1000, 5};
+    write_file(&file);
+    check_told(&file);
+}
+
+/* The steps after the settings do not matter: none, and as many as there can be. */
+static void test_told_steps(void)
+{
+    enum { HEAD = 76, STEPS = 65535, LEN = HEAD + 3 * STEPS + 7 };
+    struct file file;
+    uint8_t *bytes = calloc(1, LEN);
+    if (bytes == NULL)
+        give_up("no memory for a large file");
+    draw_file(&file, 1);
+    memcpy(bytes, file.bytes, HEAD);
+    memcpy(bytes + HEAD, "\x7F\0\4\0\0\0\0", 7);
+    check_fleet(bytes, HEAD + 7, 1, file.seconds);
+    check_settings(bytes, HEAD + 7, 0, &file.settings);
+    check_unit(bytes, HEAD + 7, 0, 0, &file.unit[0]);
+    for (int step = 0; step < STEPS; step++)
+        memcpy(bytes + HEAD + 3 * step, "\x05\0\0", 3);
+    memcpy(bytes + LEN - 7, "\x7F\0\4\0\0\xFF\xFF", 7);
+    check_fleet(bytes, LEN, 1, file.seconds);
+    check_settings(bytes, LEN, 0, &file.settings);
+    check_unit(bytes, LEN, 0, 0, &file.unit[0]);
+    bytes[LEN - 1]--;
+    refused_told(bytes, LEN, 7);
+    free(bytes);
+}
+
+static void test_told_cut(void)
+{
+    struct file file;
+    draw_file(&file, 3);
+    for (size_t len = 0; len < file.len; len++)
+        refused_told(file.bytes, len, yb_check(file.bytes, len));
+    check_fleet(NULL, 0, 0, 0);
+    if (yb_units(NULL, 0) != 0 || yb_seconds(NULL, 0) != 0) {
+        wrong++;
+        fprintf(stderr, "no file at all: units or seconds\n");
+    }
+}
+
+/* One byte changed, for each refusal that a file can get. */
+static void test_told_refused(void)
+{
+    static const struct {
+        size_t at;
+        uint8_t byte;
+        uint32_t number;
+    } changes[] = {{0, 0x06, 2}, {2, 5, 3}, {4, 2, 4}, {3, 2, 5}, {4, 0, 5}, {4, 65, 5}, {53, 0, 5}, {64, 4, 5},
+        {75, 6, 5}, {79, 0x7F, 6}, {142, 3, 7}};
+    enum { TOO_LONG = 2097153 };
+    uint8_t *file = calloc(1, TOO_LONG);
+    if (file == NULL)
+        give_up("no memory for a large file");
+    for (size_t i = 0; i < sizeof changes / sizeof changes[0]; i++) {
+        memcpy(file, complete, sizeof complete);
+        file[changes[i].at] = changes[i].byte;
+        refused_told(file, sizeof complete, changes[i].number);
+    }
+    memcpy(file, complete, sizeof complete);
+    refused_told(file, sizeof complete + 1, 9);
+    refused_told(file, TOO_LONG - 1, 9);
+    refused_told(file, TOO_LONG, 12);
+    free(file);
+}
+
+const struct test told_tests[] = {
+    {"yb_units, yb_seconds, yb_settings, yb_unit: complete files", test_told_complete},
+    {"yb_units, yb_seconds, yb_settings, yb_unit: values at their limits", test_told_limits},
+    {"yb_units, yb_seconds, yb_settings, yb_unit: no steps, and all that there can be", test_told_steps},
+    {"yb_units, yb_seconds, yb_settings, yb_unit: files cut at every byte", test_told_cut},
+    {"yb_units, yb_seconds, yb_settings, yb_unit: refused files", test_told_refused},
+    {NULL, NULL},
+};

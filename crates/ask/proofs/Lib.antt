@@ -1,0 +1,4 @@
+-- Laws about what a file says.
+pub mod SaysLaws
+pub mod FleetLaws
+pub mod StudyLaws

@@ -1,0 +1,109 @@
+-- What is said of a file, by the check's number: of an accepted file what it says, of any other nothing or the number. Assumes nothing.
+use mathlib.Core.Path.{_≡_, sym, ap, _∙_}
+use mathlib.Core.Bool.{Bool, true, false, cond}
+use mathlib.Core.List.{List}
+use Prim.Native.Nat.{ℕ, _≤_, _<_}
+use lib.Dec.{ltb, eqb}
+use lib.IntN.{ℤ}
+use borrow.Author.Tests.{eq-eqb, ne-eqb, lt-ltb, le-ltb}
+use Rattle.unit.specs.declared.Unit.{Unit}
+use Rattle.settling.specs.declared.StudyAnswer.{StudyAnswer}
+use Rattle.settling.specs.declared.StudyAnswer.the-variants.{StudyRefused}
+use Rattle.settling.specs.Answers.{studyAnswer, studyLeaves}
+use Rattle.site.specs.declared.Head.{Head}
+use Rattle.site.specs.Site.{count, unitOf}
+use Rattle.stick.specs.declared.Answer.{Answer}
+use Rattle.stick.specs.Check.{checkOf}
+use Rattle.stick.specs.Site.{siteOf}
+use Rattle.stick.specs.Posts.{Accepted}
+use Rattle.ask.specs.declared.HeadAnswer.the-variants.{HeadSaid, HeadRefused}
+use Rattle.ask.specs.declared.UnitAnswer.{UnitAnswer}
+use Rattle.ask.specs.declared.UnitAnswer.the-variants.{UnitSaid, UnitRefused}
+use Rattle.ask.specs.Says.{unitsSaid, secondsSaid, headAnswer, unitAnswer, fleetSaid, trialSaid, fileStudy, fileStudyLeaves}
+
+-- a choice by whether a number is 0
+abbrev byNumber {ℓ} : {X : Type ℓ} → ℕ → X → X → X
+byNumber n x y = cond (eqb n 0) x y
+
+zero-number {ℓ} : {X : Type ℓ} (n : ℕ) (x y : X) → n ≡ 0 → byNumber n x y ≡ x
+zero-number n x y e = ap (λ (b : Bool). cond b x y) (eq-eqb n 0 e)
+
+other-number {ℓ} : {X : Type ℓ} (n : ℕ) (x y : X) → (n ≡ 0 → ⊥) → byNumber n x y ≡ y
+other-number n x y h = ap (λ (b : Bool). cond b x y) (ne-eqb n 0 h)
+
+module _ (file : List ℕ) (a : Answer) (is : a ≡ checkOf file) where
+  number-is : a .number ≡ checkOf file .number
+  number-is = ap (λ (x : Answer). x .number) is
+
+  pub accepts : a .number ≡ 0 → Accepted file
+  accepts e = record { complete = sym number-is ∙ e }
+
+  -- a file that is refused
+  module _ (no : a .number ≡ 0 → ⊥) where
+    refused : checkOf file .number ≡ 0 → ⊥
+    refused e = no (number-is ∙ e)
+
+    pub no-units : 0 ≡ unitsSaid file
+    unfolding unitsSaid
+    no-units = sym (other-number (checkOf file .number) (count (siteOf file)) 0 refused)
+
+    pub no-seconds : 0 ≡ secondsSaid file
+    unfolding secondsSaid
+    no-seconds = sym (other-number (checkOf file .number) (siteOf file .head .seconds) 0 refused)
+
+    pub no-head : HeadRefused (a .number) ≡ headAnswer file
+    unfolding headAnswer
+    no-head = ap HeadRefused number-is ∙ sym (other-number (checkOf file .number) (HeadSaid (siteOf file .head)) (HeadRefused (checkOf file .number)) refused)
+
+    pub no-unit : (i : ℕ) → UnitRefused (a .number) ≡ unitAnswer file i
+    unfolding unitAnswer
+    no-unit i =
+        ap UnitRefused number-is
+        ∙ sym (other-number (checkOf file .number) (cond (ltb i (count (siteOf file))) (UnitSaid (unitOf (siteOf file) i)) (UnitRefused 10)) (UnitRefused (checkOf file .number)) refused)
+
+    pub no-study : (load : ℤ) (budget : ℕ) (rs : List ℤ) → (StudyRefused (a .number) ≡ fileStudy file load budget rs) × (rs ≡ fileStudyLeaves file load budget rs)
+    unfolding fileStudy fileStudyLeaves
+    no-study load budget rs = (
+      ap StudyRefused number-is
+          ∙ sym (other-number (checkOf file .number) (studyAnswer (trialSaid file load budget) (fleetSaid file) rs) (StudyRefused (checkOf file .number)) refused),
+      sym (other-number (checkOf file .number) (studyLeaves (trialSaid file load budget) (fleetSaid file) rs) rs refused),
+    )
+
+-- ---- an accepted file
+module _ (file : List ℕ) (z : Accepted file) where
+  pub units-said : (n : ℕ) → n ≡ count (siteOf file) → n ≡ unitsSaid file
+  unfolding unitsSaid
+  units-said n e = e ∙ sym (zero-number (checkOf file .number) (count (siteOf file)) 0 (z .complete))
+
+  pub seconds-said : (h : Head) → h ≡ siteOf file .head → h .seconds ≡ secondsSaid file
+  unfolding secondsSaid
+  seconds-said h e = ap (λ (x : Head). x .seconds) e ∙ sym (zero-number (checkOf file .number) (siteOf file .head .seconds) 0 (z .complete))
+
+  pub head-said : (h : Head) → h ≡ siteOf file .head → HeadSaid h ≡ headAnswer file
+  unfolding headAnswer
+  head-said h e = ap HeadSaid e ∙ sym (zero-number (checkOf file .number) (HeadSaid (siteOf file .head)) (HeadRefused (checkOf file .number)) (z .complete))
+
+  -- a unit, by its number
+  abbrev within : ℕ → Bool → UnitAnswer
+  within i b = cond b (UnitSaid (unitOf (siteOf file) i)) (UnitRefused 10)
+
+  answered : (i : ℕ) (b : Bool) → ltb i (count (siteOf file)) ≡ b → within i b ≡ unitAnswer file i
+  unfolding unitAnswer
+  answered i b e =
+      sym (zero-number (checkOf file .number) (within i (ltb i (count (siteOf file)))) (UnitRefused (checkOf file .number)) (z .complete) ∙ ap (within i) e)
+
+  pub unit-said : (i : ℕ) → i < count (siteOf file) → (u : Unit) → u ≡ unitOf (siteOf file) i → UnitSaid u ≡ unitAnswer file i
+  unit-said i l u e = ap UnitSaid e ∙ answered i true (lt-ltb i (count (siteOf file)) l)
+
+  pub unit-outside : (i : ℕ) → count (siteOf file) ≤ i → UnitRefused 10 ≡ unitAnswer file i
+  unit-outside i l = answered i false (le-ltb i (count (siteOf file)) l)
+
+  -- a study of the file is a study of its fleet
+  pub study-said : (load : ℤ) (budget : ℕ) (rs after : List ℤ) (r : StudyAnswer)
+      → (r ≡ studyAnswer (trialSaid file load budget) (fleetSaid file) rs) × (after ≡ studyLeaves (trialSaid file load budget) (fleetSaid file) rs)
+      → (r ≡ fileStudy file load budget rs) × (after ≡ fileStudyLeaves file load budget rs)
+  unfolding fileStudy fileStudyLeaves
+  study-said load budget rs after r e = (
+    e .0 ∙ sym (zero-number (checkOf file .number) (studyAnswer (trialSaid file load budget) (fleetSaid file) rs) (StudyRefused (checkOf file .number)) (z .complete)),
+    e .1 ∙ sym (zero-number (checkOf file .number) (studyLeaves (trialSaid file load budget) (fleetSaid file) rs) rs (z .complete)),
+  )

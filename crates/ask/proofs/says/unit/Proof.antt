@@ -1,0 +1,54 @@
+-- Of a file that the check accepts a number below its count is a unit of it, and any other number is outside; any other file is refused by the check's
+-- number.
+use Prim.Native.Nat.{_<_}
+use native.Mathlib.Omega.{arith}
+use Rattle.site.specs.Site.{count}
+use Rattle.stick.specs.Site.{siteOf}
+use Rattle.stick.specs.Posts.{Accepted}
+use Rattle.ask.proofs.SaysLaws.{accepts, no-unit, unit-said, unit-outside}
+use borrow.Author.Needs.{needs}
+use Rattle.ask.proofs.says.unit.Statement.{statement}
+use Rattle.ask.proofs.says.unit.Tie as tie
+
+-- past the test the file is accepted
+accepted : (e : tie.Else1) → Accepted (e .before .before .before .args .file .now)
+accepted e =
+    let k = e .before in
+    accepts (k .before .before .args .file .now) (k .check .result) (k .check .ensures) (e .if1 .left)
+
+-- a number below the count is one of the fleet's
+below : (t : tie.Then2) → let s = t .before .before .before .before .before in s .args .i < count (siteOf (s .args .file .now))
+below t = omega (arith, t .before .units .ensures, t .if2 .taken)
+
+check-requires : tie.Need-check-requires
+check-requires c κs = search needs
+
+returns : tie.Need-returns
+returns c =
+    let k = c .before in
+    let s = k .before .before in
+    no-unit (s .args .file .now) (k .check .result) (k .check .ensures) (c .if1 .taken) (s .args .i)
+
+units-requires : tie.Need-units-requires
+units-requires c κs = accepted c
+
+unit-requires : tie.Need-unit-requires
+unit-requires c κs = (accepted (c .before .before), below c)
+
+returns-2 : tie.Need-returns-2
+returns-2 c =
+    let t = c .before in
+    let e = t .before .before in
+    let s = e .before .before .before in
+    unit-said (s .args .file .now) (accepted e) (s .args .i) (below t) (c .unit .result) (c .unit .ensures)
+
+returns-3 : tie.Need-returns-3
+returns-3 c =
+    let u = c .before in
+    let e = u .before in
+    let s = e .before .before .before in
+    unit-outside (s .args .file .now) (accepted e) (s .args .i) (omega (arith, u .units .ensures, c .if2 .left))
+
+pub unit-spec : {M : Type 1} → statement M
+unit-spec =
+    tie.close (tie.spec check-requires returns units-requires unit-requires returns-2 returns-3)

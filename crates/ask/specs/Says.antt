@@ -1,0 +1,75 @@
+-- What a file says, asked of any bytes (rules C8 to C12): of an accepted file its number of units, its seconds, its head, a unit, and the study over its
+-- fleet; of any other file nothing, or the check's refusal.
+use Prim.Native.Nat.{ℕ}
+use mathlib.Core.Bool.{cond}
+use mathlib.Core.List.{List, map}
+use lib.Dec.{ltb, eqb}
+use lib.IntN.{ℤ}
+use Rattle.whole.specs.Call.{Call, Gave, Refused}
+use Rattle.unit.specs.declared.Unit.{Unit}
+use Rattle.controller.specs.Ranges.{Fleet, fleetFor}
+use Rattle.settling.specs.declared.Trial.{Trial}
+use Rattle.settling.specs.declared.StudyAnswer.{StudyAnswer}
+use Rattle.settling.specs.declared.StudyAnswer.the-variants.{StudyRefused}
+use Rattle.settling.specs.Answers.{studyAnswer, studyLeaves}
+use Rattle.site.specs.declared.Head.{Head}
+use Rattle.site.specs.Site.{count, unitOf}
+use Rattle.stick.specs.Check.{checkOf}
+use Rattle.stick.specs.Site.{siteOf}
+use Rattle.ask.specs.declared.HeadAnswer.{HeadAnswer}
+use Rattle.ask.specs.declared.HeadAnswer.the-variants.{HeadSaid, HeadRefused}
+use Rattle.ask.specs.declared.UnitAnswer.{UnitAnswer}
+use Rattle.ask.specs.declared.UnitAnswer.the-variants.{UnitSaid, UnitRefused}
+
+-- a number of an accepted file, 0 of any other
+abbrev pub orZero : List ℕ → ℕ → ℕ
+orZero file n = cond (eqb (checkOf file .number) 0) n 0
+
+unfoldable pub unitsSaid : List ℕ → ℕ
+unfolding checkOf siteOf
+unitsSaid file = orZero file (count (siteOf file))
+
+unfoldable pub secondsSaid : List ℕ → ℕ
+unfolding checkOf siteOf
+secondsSaid file = orZero file (siteOf file .head .seconds)
+
+-- the head, or the check's number
+unfoldable pub headAnswer : List ℕ → HeadAnswer
+unfolding checkOf siteOf
+headAnswer file =
+    let said = HeadSaid (siteOf file .head) in
+    cond (eqb (checkOf file .number) 0) said (HeadRefused (checkOf file .number))
+
+abbrev pub headCall : HeadAnswer → Call Head
+headCall (HeadSaid h) = Gave h
+headCall (HeadRefused n) = Refused n
+
+-- a unit, or the check's number, or 10 for a number outside the fleet
+unfoldable pub unitAnswer : List ℕ → ℕ → UnitAnswer
+unfolding checkOf siteOf
+unitAnswer file i =
+    let said = UnitSaid (unitOf (siteOf file) i) in
+    cond (eqb (checkOf file .number) 0) (cond (ltb i (count (siteOf file))) said (UnitRefused 10)) (UnitRefused (checkOf file .number))
+
+abbrev pub unitCall : UnitAnswer → Call Unit
+unitCall (UnitSaid u) = Gave u
+unitCall (UnitRefused n) = Refused n
+
+-- ---- the study over a file's fleet, with what its units hold, and its settings: the check's number, then as a study without a file
+abbrev pub fleetSaid : List ℕ → Fleet
+fleetSaid file = fleetFor (siteOf file .units) (map (λ (u : Unit). u .stored) (siteOf file .units))
+
+abbrev pub trialSaid : List ℕ → ℤ → ℕ → Trial
+trialSaid file load budget = record { settings = siteOf file .head .settings; load = load; budget = budget }
+
+unfoldable pub fileStudy : List ℕ → ℤ → ℕ → List ℤ → StudyAnswer
+unfolding checkOf siteOf studyAnswer
+fileStudy file load budget rs =
+    let studied = studyAnswer (trialSaid file load budget) (fleetSaid file) rs in
+    cond (eqb (checkOf file .number) 0) studied (StudyRefused (checkOf file .number))
+
+unfoldable pub fileStudyLeaves : List ℕ → ℤ → ℕ → List ℤ → List ℤ
+unfolding checkOf siteOf studyLeaves
+fileStudyLeaves file load budget rs =
+    let left = studyLeaves (trialSaid file load budget) (fleetSaid file) rs in
+    cond (eqb (checkOf file .number) 0) left rs

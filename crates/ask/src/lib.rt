@@ -1,0 +1,24 @@
+// What a file says, asked of any bytes: an accepted file's units, seconds, settings, a unit of it,
+// and the study over its fleet.
+mod says;
+mod studies;
+
+pub use says::head;
+pub use says::seconds;
+pub use says::unit;
+pub use says::units;
+use site::Head;
+pub use studies::study;
+use unit::Unit;
+
+// What a file says beside its units, or the check's number.
+pub enum HeadAnswer {
+    HeadSaid(Head),
+    HeadRefused(u8),
+}
+
+// A unit of a file, or the check's number, or 10.
+pub enum UnitAnswer {
+    UnitSaid(Unit),
+    UnitRefused(u8),
+}

@@ -1,0 +1,50 @@
+ghost use mathlib.Core.Path.{_≡_};
+ghost use Rattle.ask.specs.Says.{unitsSaid, secondsSaid, headAnswer, unitAnswer};
+use super::HeadAnswer;
+use super::UnitAnswer;
+
+// The number of units of an accepted file, 0 of any other.
+pub fn units(file: &[u8]) -> u32
+    ensures { λ r. ⌜ r ≡ unitsSaid (now (file .entry)) ⌝ }
+{
+    if stick::check(file).number != 0 {
+        return 0;
+    }
+    stick::units(file) as u32
+}
+
+// The seconds of a step of an accepted file, 0 of any other.
+pub fn seconds(file: &[u8]) -> u32
+    ensures { λ r. ⌜ r ≡ secondsSaid (now (file .entry)) ⌝ }
+{
+    if stick::check(file).number != 0 {
+        return 0;
+    }
+    stick::head(file).seconds
+}
+
+// What a file says beside its units.
+pub fn head(file: &[u8]) -> HeadAnswer
+    ensures { λ r. ⌜ r ≡ headAnswer (now (file .entry)) ⌝ }
+{
+    let n = stick::check(file).number;
+    if n != 0 {
+        return HeadAnswer::HeadRefused(n);
+    }
+    HeadAnswer::HeadSaid(stick::head(file))
+}
+
+// Unit i of a file.
+pub fn unit(file: &[u8], i: u32) -> UnitAnswer
+    ensures { λ r. ⌜ r ≡ unitAnswer (now (file .entry)) i ⌝ }
+{
+    let n = stick::check(file).number;
+    if n != 0 {
+        return UnitAnswer::UnitRefused(n);
+    }
+    let place = i as usize;
+    if place < stick::units(file) {
+        return UnitAnswer::UnitSaid(stick::unit(file, place));
+    }
+    UnitAnswer::UnitRefused(10)
+}

@@ -1,0 +1,5 @@
+-- Laws about one step of a site.
+pub mod UnitLaws
+pub mod SiteLaws
+pub mod StepLaws
+pub mod UsedLaws

@@ -1,0 +1,3 @@
+-- One step of a site.
+pub mod Step
+pub mod Posts

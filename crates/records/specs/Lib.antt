@@ -1,0 +1,2 @@
+-- The result file's records.
+pub mod Records

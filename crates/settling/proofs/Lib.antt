@@ -1,0 +1,11 @@
+-- Laws about the study and the settling law, and the law proved.
+pub mod SumLaws
+pub mod DifferenceLaws
+pub mod SettlingSteps
+pub mod SettlingStill
+pub mod SettlingPass
+pub mod SettlingProved
+pub mod StudyProved
+pub mod StudyLaws
+pub mod TrialLaws
+pub mod AnswerLaws

@@ -1,0 +1,5 @@
+-- The settling study, what it answers, and the settling law.
+pub mod Study
+pub mod Answers
+pub mod Posts
+pub mod Settling

@@ -1,0 +1,1 @@
+-- Laws about a site, for the proofs above.

@@ -1,0 +1,45 @@
+-- What a run file says of the fleet, once its bytes are read: the definitions of the run take a site and its steps, and never see bytes or places.
+use Prim.Native.Nat.{ℕ}
+use mathlib.Core.List.{List, map}
+use lib.IntN.{pos}
+use lib.ListN.{length, getD}
+use Rattle.reading.specs.declared.Reading.{Reading}
+use Rattle.unit.specs.declared.Unit.{Unit}
+use Rattle.site.specs.declared.Head.{Head}
+use Rattle.site.specs.declared.Step.{Step}
+
+-- edition, seconds of a step, settings with the phase choice; and the units
+pub record Site : Type 0 where
+  pub head : Head
+  pub units : List Unit
+
+-- how many units there are, and unit i; past the last there is one of no values
+abbrev pub count : Site → ℕ
+count site = length (site .units)
+
+abbrev pub noUnit : Unit
+noUnit = record {
+  rated = 0;
+  reserve = 0;
+  stored = 0;
+  rating = 0;
+  kva = 0;
+  «idle_loss» = 0;
+  «var_request» = pos 0;
+  weight = 0;
+  inverter = 0;
+  charge = 0;
+  discharge = 0;
+  priority = 0;
+}
+
+abbrev pub unitOf : Site → ℕ → Unit
+unitOf site i = getD (site .units) i noUnit
+
+-- one value of every unit
+abbrev pub column : (Unit → ℕ) → Site → List ℕ
+column value site = map value (site .units)
+
+-- a step with its reading
+abbrev pub stepWith : Reading → Step
+stepWith r = record { reading = r }

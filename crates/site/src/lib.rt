@@ -1,0 +1,18 @@
+// What a run file says of a site: its head, and its units as rows. One step of it: the reading that
+// closes the step.
+use controller::Settings;
+use reading::Reading;
+
+// What a file says of a site beside its units: the edition, the seconds of a step, the controller's
+// settings and the phase choice.
+pub struct Head {
+    pub edition: u8,
+    pub seconds: u32,
+    pub settings: Settings,
+    pub phase: u8,
+}
+
+// One step: a group of fields that its reading closes, and today the reading alone.
+pub struct Step {
+    pub reading: Reading,
+}

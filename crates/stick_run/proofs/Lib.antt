@@ -1,0 +1,2 @@
+-- Laws about the steps that are still to come.
+pub mod WalkLaws

@@ -1,0 +1,3 @@
+-- Laws about a unit's values that other proofs cite.
+pub mod RangeLaws
+pub mod RowLaws

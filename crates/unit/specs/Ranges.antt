@@ -1,0 +1,54 @@
+-- A unit's twelve values, in the file's order, and their ranges (rules Q); the idle draw and its limit; the length of a step.
+use Prim.Native.Nat.{ℕ, _*_}
+use mathlib.Core.Bool.{Bool, true, _&&_}
+use mathlib.Core.Path.{_≡_}
+use lib.Dec.{leb}
+use lib.IntN.{natAbs}
+use Rattle.whole.specs.Interval.{between}
+use Rattle.whole.specs.Quotient.{ceil}
+use Rattle.unit.specs.declared.Unit.{Unit}
+
+-- what an idle unit draws from the grid: its idle loss by the inverter's efficiency, rounded up
+unfoldable pub idleDraw : Unit → ℕ
+unfolding ceil
+idleDraw u = ceil (u .«idle_loss» * 10000) (u .inverter)
+
+-- the five values that a pass looks at: rated energy 1 to 10^13 J, reserve and stored 0 to rated, power rating 1 to 10^8 W, weight 1 to 10,000
+unfoldable pub memberIn : ℕ → ℕ → ℕ → ℕ → ℕ → Bool
+memberIn rated reserve stored rating weight =
+    between 1 10000000000000 rated && leb reserve rated && leb stored rated && between 1 100000000 rating && between 1 10000 weight
+
+-- all twelve: these, S, the idle loss, the var request, the efficiencies, the priority, and an idle draw of at most S
+unfoldable pub unitIn : Unit → Bool
+unfolding memberIn idleDraw
+unitIn u =
+    memberIn (u .rated) (u .reserve) (u .stored) (u .rating) (u .weight)
+    && between 1 100000000 (u .kva) && leb (u .«idle_loss») 10000000 && leb (natAbs (u .«var_request»)) 100000000
+    && between 1000 10000 (u .inverter) && between 1000 10000 (u .charge) && between 1000 10000 (u .discharge)
+    && leb (u .priority) 1 && leb (idleDraw u) (u .kva)
+
+-- a step of 1 to 86,400 s
+abbrev pub secondsIn : ℕ → Bool
+secondsIn seconds = between 1 86400 seconds
+
+-- the unit with another store
+abbrev pub holding : Unit → ℕ → Unit
+holding u stored = record {
+  rated = u .rated;
+  reserve = u .reserve;
+  stored = stored;
+  rating = u .rating;
+  kva = u .kva;
+  «idle_loss» = u .«idle_loss»;
+  «var_request» = u .«var_request»;
+  weight = u .weight;
+  inverter = u .inverter;
+  charge = u .charge;
+  discharge = u .discharge;
+  priority = u .priority;
+}
+
+-- a unit and a step length in their ranges
+pub record Ranged (u : Unit) (seconds : ℕ) : Type 0 where
+  pub unit : unitIn u ≡ true
+  pub seconds-in : secondsIn seconds ≡ true

@@ -1,0 +1,35 @@
+// A storage unit's values, their ranges, and rows of them. Power is whole watts, positive for
+// discharge; energy is whole joules; efficiencies are parts in 10,000.
+mod ranges;
+mod rows;
+
+pub use ranges::idle_draw;
+pub use ranges::member_in;
+pub use ranges::seconds_in;
+pub use ranges::unit_in;
+pub use rows::draw_of;
+pub use rows::rated_of;
+pub use rows::rating_of;
+pub use rows::reserve_of;
+pub use rows::row;
+pub use rows::stored_of;
+pub use rows::stores;
+pub use rows::unit_of;
+pub use rows::vars_of;
+pub use rows::weight_of;
+
+// A unit's values, in the order of the file. Priority 0 is watts, 1 vars.
+pub struct Unit {
+    pub rated: u64,
+    pub reserve: u64,
+    pub stored: u64,
+    pub rating: u32,
+    pub kva: u32,
+    pub idle_loss: u32,
+    pub var_request: i32,
+    pub weight: u16,
+    pub inverter: u16,
+    pub charge: u16,
+    pub discharge: u16,
+    pub priority: u8,
+}

@@ -1,0 +1,46 @@
+ghost use mathlib.Core.Path.{_≡_};
+ghost use Rattle.unit.specs.Ranges.{idleDraw, memberIn, unitIn, secondsIn};
+use super::Unit;
+
+// The watts that an idle unit draws from the grid.
+pub fn idle_draw(u: Unit) -> u64
+    ensures { λ r. ⌜ r ≡ idleDraw u ⌝ }
+{
+    whole::ceil((u.idle_loss as u64) * 10000, u.inverter as u64)
+}
+
+// The five values that a pass looks at are in their ranges.
+pub fn member_in(rated: u64, reserve: u64, stored: u64, rating: u32, weight: u16) -> bool
+    ensures { λ r. ⌜ r ≡ memberIn rated reserve stored rating weight ⌝ }
+{
+    ((1 <= rated) & (rated <= 10000000000000))
+        & (reserve <= rated)
+        & (stored <= rated)
+        & ((1 <= rating) & (rating <= 100000000))
+        & ((1 <= weight) & (weight <= 10000))
+}
+
+// Every value of the unit is in its range, and its idle draw is at most S.
+pub fn unit_in(u: Unit) -> bool
+    ensures { λ r. ⌜ r ≡ unitIn u ⌝ }
+{
+    let member = member_in(u.rated, u.reserve, u.stored, u.rating, u.weight);
+    let vars = whole::size32(u.var_request);
+    let draw = idle_draw(u);
+    member
+        & ((1 <= u.kva) & (u.kva <= 100000000))
+        & (u.idle_loss <= 10000000)
+        & (vars <= 100000000)
+        & ((1000 <= u.inverter) & (u.inverter <= 10000))
+        & ((1000 <= u.charge) & (u.charge <= 10000))
+        & ((1000 <= u.discharge) & (u.discharge <= 10000))
+        & (u.priority <= 1)
+        & (draw <= u.kva as u64)
+}
+
+// A step of 1 to 86,400 s.
+pub fn seconds_in(seconds: u32) -> bool
+    ensures { λ r. ⌜ r ≡ secondsIn seconds ⌝ }
+{
+    (1 <= seconds) & (seconds <= 86400)
+}
