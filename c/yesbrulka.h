@@ -24,7 +24,10 @@
 extern "C" {
 #endif
 
-/* The refusals by their numbers. Those of a file are 1 to 9 and 12. */
+/* The refusals by their numbers. Those of a file are 1 to 9 and 12; their place and steps are those that yb_check_place
+** and yb_check_steps return. A refusal of a call that takes no file, or of what is asked of a complete one, has place 0
+** and steps 0, but for 11: its place is the file's length and its steps are all.
+*/
 enum {
     YB_CUT_SHORT = 1, /* one or two bytes are left where tag and length are due, or the value runs past the end */
     YB_UNKNOWN_TAG = 2, /* the tag is unknown */

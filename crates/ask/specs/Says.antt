@@ -5,12 +5,13 @@ use mathlib.Core.Bool.{cond}
 use mathlib.Core.List.{List, map}
 use lib.Dec.{ltb, eqb}
 use lib.IntN.{ℤ}
-use Rattle.whole.specs.Call.{Call, Gave, Refused}
+use Rattle.whole.specs.Call.{Call, Gave, Refused, Refusal}
 use Rattle.unit.specs.declared.Unit.{Unit}
 use Rattle.controller.specs.Ranges.{Fleet, fleetFor}
 use Rattle.settling.specs.declared.Trial.{Trial}
+use Rattle.settling.specs.declared.Studied.{Studied}
 use Rattle.settling.specs.declared.StudyAnswer.{StudyAnswer}
-use Rattle.settling.specs.declared.StudyAnswer.the-variants.{StudyRefused}
+use Rattle.settling.specs.declared.StudyAnswer.the-variants.{StudyDone, StudyRefused}
 use Rattle.settling.specs.Answers.{studyAnswer, studyLeaves}
 use Rattle.site.specs.declared.Head.{Head}
 use Rattle.site.specs.Site.{count, unitOf}
@@ -33,6 +34,12 @@ unfoldable pub secondsSaid : List ℕ → ℕ
 unfolding checkOf siteOf
 secondsSaid file = orZero file (siteOf file .head .seconds)
 
+-- a whole refusal of a call about a file (rule C3): the check's place and steps; what is refused of an accepted file has place 0 and steps 0
+abbrev pub refusalOver : List ℕ → ℕ → Refusal
+refusalOver file n =
+    let fine = eqb (checkOf file .number) 0 in
+    record { number = n; place = cond fine 0 (checkOf file .place); steps = cond fine 0 (checkOf file .steps) }
+
 -- the head, or the check's number
 unfoldable pub headAnswer : List ℕ → HeadAnswer
 unfolding checkOf siteOf
@@ -40,9 +47,9 @@ headAnswer file =
     let said = HeadSaid (siteOf file .head) in
     cond (eqb (checkOf file .number) 0) said (HeadRefused (checkOf file .number))
 
-abbrev pub headCall : HeadAnswer → Call Head
-headCall (HeadSaid h) = Gave h
-headCall (HeadRefused n) = Refused n
+abbrev pub headCall : List ℕ → HeadAnswer → Call Head
+headCall file (HeadSaid h) = Gave h
+headCall file (HeadRefused n) = Refused (refusalOver file n)
 
 -- a unit, or the check's number, or 10 for a number outside the fleet
 unfoldable pub unitAnswer : List ℕ → ℕ → UnitAnswer
@@ -51,9 +58,9 @@ unitAnswer file i =
     let said = UnitSaid (unitOf (siteOf file) i) in
     cond (eqb (checkOf file .number) 0) (cond (ltb i (count (siteOf file))) said (UnitRefused 10)) (UnitRefused (checkOf file .number))
 
-abbrev pub unitCall : UnitAnswer → Call Unit
-unitCall (UnitSaid u) = Gave u
-unitCall (UnitRefused n) = Refused n
+abbrev pub unitCall : List ℕ → UnitAnswer → Call Unit
+unitCall file (UnitSaid u) = Gave u
+unitCall file (UnitRefused n) = Refused (refusalOver file n)
 
 -- ---- the study over a file's fleet, with what its units hold, and its settings: the check's number, then as a study without a file
 abbrev pub fleetSaid : List ℕ → Fleet
@@ -73,3 +80,7 @@ unfolding checkOf siteOf studyLeaves
 fileStudyLeaves file load budget rs =
     let left = studyLeaves (trialSaid file load budget) (fleetSaid file) rs in
     cond (eqb (checkOf file .number) 0) left rs
+
+abbrev pub fileStudyCall : List ℕ → StudyAnswer → Call Studied
+fileStudyCall file (StudyDone r) = Gave r
+fileStudyCall file (StudyRefused n) = Refused (refusalOver file n)

@@ -1,4 +1,4 @@
--- "Requests of both signs never arise": a pass on requests that are not of both signs gives requests that are not either. A pass that leaves them
+-- A pass over requests that are not of both signs gives requests that are not either. A pass that leaves them
 -- keeps their signs, one that clears them leaves 0, and rule 6 lets nothing against the mode through. Assumes nothing.
 use mathlib.Core.Path.{_≡_, refl, ap, _∙_, subst}
 use mathlib.Core.Bool.{Bool, true, false, cond, _&&_}
@@ -12,11 +12,8 @@ use Rattle.whole.proofs.Choice.{by-test}
 use Rattle.whole.proofs.OverLaws.{none-of, each-length, each-at}
 use Rattle.controller.specs.declared.Settings.{Settings}
 use Rattle.controller.specs.Ranges.{Fleet, someAbove, someBelow}
+use Rattle.controller.specs.OneSign.{OneSign, OneSignLaw}
 use Rattle.controller.specs.Pass.{total, charges, needOf, rests, spent, allInBand, shareOf, limited, withMode, requestAfter, passOf}
-
--- not requests of both signs
-abbrev pub OneSign : List ℤ → Type 0
-OneSign rs = (someAbove rs && someBelow rs) ≡ false
 
 left-none : (a b : Bool) → a ≡ false → (a && b) ≡ false
 left-none a b e = ap (λ (x : Bool). x && b) e
@@ -68,7 +65,7 @@ shared s n f need rs false e =
     let z = limited (getD (f .rating) i 0) (r +ℤ shareOf (s .factor) need (getD (f .weight) i 0) (total n (f .weight))) in
     ap (λ (x : ℤ). ltZ x (pos 0)) (mode-rules s n f need i r ∙ ap (λ (b : Bool). withMode b z) e) ∙ not-below z)
 
-pub one-sign : (s : Settings) (m : ℤ) (f : Fleet) (rs : List ℤ) → OneSign rs → OneSign (passOf s m f rs)
+pub one-sign : OneSignLaw
 unfolding passOf
 one-sign s m f rs h =
     by-test OneSign (rests s (needOf s m rs) rs) rs

@@ -4,7 +4,7 @@ use mathlib.Core.Bool.{cond}
 use mathlib.Core.List.{List}
 use lib.Dec.{eqb}
 use lib.IntN.{ℤ}
-use Rattle.whole.specs.Call.{Call, Gave, Refused}
+use Rattle.whole.specs.Call.{Call, Gave, Refused, refusal}
 use Rattle.controller.specs.declared.Settings.{Settings}
 use Rattle.controller.specs.declared.Passed.{Passed}
 use Rattle.controller.specs.declared.PassAnswer.{PassAnswer}
@@ -31,4 +31,4 @@ passLeaves s m f rs = let after = passOf s m f rs in cond (eqb (passRefusal s m 
 -- the answer as a call's
 abbrev pub passCall : PassAnswer → Call Passed
 passCall (PassDone p) = Gave p
-passCall (PassRefused n) = Refused n
+passCall (PassRefused n) = Refused (refusal n)

@@ -1,5 +1,6 @@
 -- The controller: settings and ranges, and one pass.
 pub mod Ranges
 pub mod Pass
+pub mod OneSign
 pub mod Posts
 pub mod Answers

@@ -1,9 +1,13 @@
--- Every figure of the table is as it is stated: the definitions compute it. Assumes nothing.
-use mathlib.Core.List.{map}
+-- Every row is as it is stated: the definitions compute it. Assumes nothing.
+use mathlib.Core.List.{_++_, map}
 use mathlib.Core.Path.{_≡_, refl}
 use lib.Ieee.{toBits, div, ofInt}
-use Rattle.figures.specs.Table.{Figure, table}
+use Rattle.reading.specs.Conversion.{wattsOf}
+use Rattle.reading.specs.Choice.{choiceOf}
+use Rattle.figures.specs.Rows.{Row}
+use Rattle.figures.specs.Table.{table}
+use Rattle.figures.specs.Further.{further}
 
-pub figures-hold : map (λ (f : Figure). f .given) table ≡ map (λ (f : Figure). f .stated) table
-unfolding table toBits div ofInt
+pub figures-hold : map (λ (r : Row). r .given) (table ++ further) ≡ map (λ (r : Row). r .stated) (table ++ further)
+unfolding table further toBits div ofInt wattsOf choiceOf
 figures-hold = refl

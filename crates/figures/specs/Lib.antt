@@ -1,2 +1,4 @@
--- The figures A1 to E1 of docs/RULES.md.
+-- The figures A1 to E1 of docs/RULES.md, and further rows that pin what no figure does.
+pub mod Rows
 pub mod Table
+pub mod Further

@@ -21,7 +21,7 @@ use Rattle.reading.specs.declared.Reading.{Reading}
 use Rattle.reading.specs.declared.Reading.the-variants.{Missing, Power}
 use Rattle.reading.specs.declared.Measure.{Measure}
 use Rattle.reading.specs.declared.Measure.the-variants.{Chosen, RefusedBy}
-use Rattle.reading.specs.Choice.{measureOf}
+use Rattle.reading.specs.Choice.{measureOf, measureCall}
 use Rattle.reading.proofs.MeasureLaws.{measure-small}
 use Rattle.unit.specs.declared.Unit.{Unit}
 use Rattle.unit.specs.Ranges.{holding}
@@ -50,7 +50,7 @@ unfolding askedBy
 asked-length site stored rs Missing = refl
 asked-length site stored rs (Power p) = go (measureOf p (site .head .phase))
   where
-    go : (m : Measure) → length (passedOn site stored rs m) ≡ length rs
+    go : (m : Measure) → length (passedOn site stored rs (measureCall m)) ≡ length rs
     go (Chosen m) = pass-length (site .head .settings) m (fleetFor (site .units) stored) rs
     go (RefusedBy n) = refl
 
@@ -60,19 +60,19 @@ unfolding askedBy
 ask-none site stored rs r e = ap (askedBy site stored rs) (sym e)
 
 module _ (site : Site) (stored : List ℕ) (rs : List ℤ) (r : Reading) (p : Phases) (e : r ≡ Power p) (x : Measure) (ex : x ≡ measureOf p (site .head .phase)) where
-  asked-is : passedOn site stored rs x ≡ askedBy site stored rs r
+  asked-is : passedOn site stored rs (measureCall x) ≡ askedBy site stored rs r
   unfolding askedBy
-  asked-is = ap (passedOn site stored rs) ex ∙ ap (askedBy site stored rs) (sym e)
+  asked-is = ap (λ (y : Measure). passedOn site stored rs (measureCall y)) ex ∙ ap (askedBy site stored rs) (sym e)
 
   pub ask-refused : (n : ℕ) → x ≡ RefusedBy n → rs ≡ askedBy site stored rs r
-  ask-refused n m = ap (passedOn site stored rs) (sym m) ∙ asked-is
+  ask-refused n m = ap (λ (y : Measure). passedOn site stored rs (measureCall y)) (sym m) ∙ asked-is
 
   -- with a measure: the pass
   pub ask-passed : (m : ℤ) → x ≡ Chosen m → mag m < 2 ^ 63 → (after : List ℤ) → after ≡ passOf (site .head .settings) (toZ w64 (ofZ w64 m)) (fleetFor (site .units) stored) rs
       → after ≡ askedBy site stored rs r
   ask-passed m em fits after d =
       d ∙ ap (λ (z : ℤ). passOf (site .head .settings) z (fleetFor (site .units) stored) rs) (read w64 m fits)
-      ∙ ap (passedOn site stored rs) (sym em) ∙ asked-is
+      ∙ ap (λ (y : Measure). passedOn site stored rs (measureCall y)) (sym em) ∙ asked-is
 
 -- what the pass counts on, from a site in its ranges and what stands
 pub ask-sound : (head : Head) (rows : List (List ℕ)) (stored : List ℕ) (rs : List ℤ) (p : Phases) (m : ℤ) → measureOf p (head .phase) ≡ Chosen m → mag m < 2 ^ 63

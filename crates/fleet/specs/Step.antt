@@ -5,11 +5,10 @@ use mathlib.Core.List.{List, [], _++_, map}
 use lib.IntN.{ℤ, pos}
 use lib.ListN.{length, getD, replicate}
 use Rattle.whole.specs.Over.{each}
+use Rattle.whole.specs.Call.{Call, Gave, Refused}
 use Rattle.reading.specs.declared.Reading.{Reading}
 use Rattle.reading.specs.declared.Reading.the-variants.{Missing, Power}
-use Rattle.reading.specs.declared.Measure.{Measure}
-use Rattle.reading.specs.declared.Measure.the-variants.{Chosen, RefusedBy}
-use Rattle.reading.specs.Choice.{measureOf}
+use Rattle.reading.specs.Choice.{measureOf, measureCall}
 use Rattle.unit.specs.declared.Unit.{Unit}
 use Rattle.unit.specs.Ranges.{holding}
 use Rattle.controller.specs.Ranges.{fleetFor}
@@ -35,15 +34,15 @@ atFirst units = standing (map (λ (u : Unit). u .stored) units) (replicate (leng
 -- ---- T3: the pass
 
 -- on a measure. No reading of an accepted file is refused; where one were, the requests would stand
-abbrev pub passedOn : Site → List ℕ → List ℤ → Measure → List ℤ
-passedOn site stored rs (Chosen m) = passOf (site .head .settings) m (fleetFor (site .units) stored) rs
-passedOn site stored rs (RefusedBy n) = rs
+abbrev pub passedOn : Site → List ℕ → List ℤ → Call ℤ → List ℤ
+passedOn site stored rs (Gave m) = passOf (site .head .settings) m (fleetFor (site .units) stored) rs
+passedOn site stored rs (Refused r) = rs
 
 -- one pass, none if the reading is missing
 unfoldable pub askedBy : Site → List ℕ → List ℤ → Reading → List ℤ
 unfolding measureOf passOf
 askedBy site stored rs Missing = rs
-askedBy site stored rs (Power p) = passedOn site stored rs (measureOf p (site .head .phase))
+askedBy site stored rs (Power p) = passedOn site stored rs (measureCall (measureOf p (site .head .phase)))
 
 -- ---- T4: one step of every unit
 

@@ -1,4 +1,4 @@
--- What the code does to be quick: numbers whose first byte weighs least, and a number with its bytes in the other order.
+-- Nobody has to believe this file: it is what the code does to be quick. Numbers whose first byte weighs least, and a number with its bytes in the other order.
 -- A big-endian number is the swapped one of these; the contracts of other crates do not speak of them.
 use Prim.Native.Nat.{ℕ, zero, suc, _+_, _*_, _/_, _%_, _^_}
 use mathlib.Core.List.{List, [], _∷_}

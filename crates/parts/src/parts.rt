@@ -1,7 +1,7 @@
 ghost use mathlib.Core.Path.{_≡_};
 ghost use Prim.Native.Nat.{_≤_, _+_};
-ghost use lib.ListN.{length, take, drop};
-ghost use Rattle.parts.specs.Parts.{headThere, partStart, partSize};
+ghost use lib.ListN.{length};
+ghost use Rattle.parts.specs.Parts.{headThere, partStart, partSize, PartOf};
 
 // The three bytes of tag and length are there.
 fn head_there(size: u64, place: u64) -> bool
@@ -38,7 +38,7 @@ pub fn part_size(file: &[u8], place: u64) -> u64
 
 // The value bytes of the field at a place, as they lie in the file.
 pub fn part<'a>(file: &'a [u8], place: u64) -> &'a [u8]
-    ensures { λ r. ⌜ now r ≡ take (partSize (now (file .entry)) place) (drop (partStart (now (file .entry)) place) (now (file .entry))) ⌝ }
+    ensures { λ r. ⌜ PartOf (file .entry) place r ⌝ }
 {
     let start = part_start(file, place) as usize;
     let size = part_size(file, place) as usize;

@@ -1,7 +1,6 @@
 ghost use mathlib.Core.Path.{_≡_};
 ghost use Prim.Native.Nat.{_+_};
-ghost use lib.ListN.{take, drop};
-ghost use Rattle.parts.specs.Parts.{partStart, partSize};
+ghost use Rattle.parts.specs.Parts.{partStart, partSize, PartOf};
 use super::parts;
 
 // Walks the lent file and keeps its place.
@@ -12,7 +11,7 @@ pub struct Reader<'a> {
 
 // The value bytes of the field at the reader's place, as they lie in the file: those that are there, or an empty part.
 pub fn value<'a>(r: Reader<'a>) -> &'a [u8]
-    ensures { λ s. ⌜ now s ≡ take (partSize (now (r .entry .file)) (r .entry .place)) (drop (partStart (now (r .entry .file)) (r .entry .place)) (now (r .entry .file))) ⌝ }
+    ensures { λ s. ⌜ PartOf (r .entry .file) (r .entry .place) s ⌝ }
 {
     parts::part(r.file, r.place)
 }

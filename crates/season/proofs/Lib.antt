@@ -3,3 +3,4 @@ pub mod RunLaws
 pub mod AnswerLaws
 pub mod LoadLaws
 pub mod UsedLaws
+pub mod HoldsProved

@@ -6,7 +6,7 @@ use mathlib.Core.List.{List}
 use lib.Dec.{eqb}
 use lib.IntN.{ℤ}
 use lib.ListN.{length}
-use Rattle.whole.specs.Call.{Call, Gave, Refused}
+use Rattle.whole.specs.Call.{Call, Gave, Refused, refusal}
 use Rattle.controller.specs.Ranges.{Fleet}
 use Rattle.settling.specs.declared.Trial.{Trial}
 use Rattle.settling.specs.declared.Studied.{Studied}
@@ -40,4 +40,4 @@ studyLeaves q f rs =
 -- the answer as a call's
 abbrev pub studyCall : StudyAnswer → Call Studied
 studyCall (StudyDone r) = Gave r
-studyCall (StudyRefused n) = Refused n
+studyCall (StudyRefused n) = Refused (refusal n)

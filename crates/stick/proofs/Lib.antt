@@ -8,3 +8,4 @@ pub mod StepLaws
 pub mod SiteProved
 pub mod SiteLaws
 pub mod LoadLaws
+pub mod AcceptedProved

@@ -2,4 +2,5 @@
 pub mod Fields
 pub mod Check
 pub mod Site
+pub mod Accepted
 pub mod Posts

@@ -1,11 +1,13 @@
 -- What a planner relies on, of each flow that is at most the held size: what it removes lies above the reserve and what it adds has room, the loss
 -- is the difference from what passes the grid, which is never below 0, and the vars are at most the leg that the watts leave. Assumes nothing.
-use mathlib.Core.Path.{_≡_, refl}
+use mathlib.Core.Path.{_≡_, refl, subst⁻¹}
+use mathlib.Core.Bool.{Bool, true, false, cond}
+use mathlib.Core.Logic.{_⊎_, inl, inr}
 use Prim.Native.Nat.{ℕ, zero, suc, _+_, _*_, _≤_, min}
 use native.Mathlib.Nat.{le-trans, le-of-eq, min-le-right}
 use native.Mathlib.Omega.{arith}
-use lib.Dec.{le→leb}
-use lib.IntN.{ℤ, pos, negℤ, natAbs}
+use lib.Dec.{le→leb, eqb}
+use lib.IntN.{ℤ, pos, negsuc, negℤ, natAbs}
 use lib.Signed.{_≤ℤ_}
 use Rattle.whole.proofs.LargestLaws.{square-le, leg-in}
 use Rattle.whole.proofs.SignLaws.{size-signed, size-neg}
@@ -18,7 +20,7 @@ use Rattle.storage.specs.declared.Flow.{Flow}
 use Rattle.storage.specs.declared.Flow.the-variants.{Out, In, Idle}
 use Rattle.unit.specs.Ranges.{idleDraw}
 use Rattle.storage.specs.Relied.{Conserved}
-use Rattle.storage.specs.Step.{removedBy, addedBy, gridWatts, storedOf, lossOf, varsOf, outcomeOf}
+use Rattle.storage.specs.Step.{heldSize, removedBy, addedBy, takeable, charged, flowOf, gridWatts, storedOf, lossOf, varsOf, outcomeOf}
 
 -- ---- the vars leave the watts in the circle
 pub vars-in-circle : (u : Unit) (watts : ℤ) → natAbs watts ≤ u .kva
@@ -81,3 +83,24 @@ module _ (u : Unit) (seconds p : ℕ) where
   no-more n h (Out x) a = record { le = le→leb x n (le-trans (a .0) h) }
   no-more n h (In x) a = draw-below x n
   no-more n h Idle a = draw-below (idleDraw u) n
+
+  pub moves-no-more : (n : ℕ) → p ≤ n → (f : Flow) → Able u seconds p f → (natAbs (gridWatts u f) ≤ n) ⊎ (gridWatts u f ≡ negℤ (pos (idleDraw u)))
+  unfolding gridWatts
+  moves-no-more n h (Out x) a = inl (le-trans (a .0) h)
+  moves-no-more n h (In x) a = inl (draw-size x n (le-trans (a .0) h))
+  moves-no-more n h Idle a = inr refl
+
+-- what is asked of a charging unit flows in, or nothing flows
+pub charging-draws : (u : Unit) (seconds : ℕ) (request : ℤ) (x : ℕ) → request ≡ negsuc x → gridWatts u (flowOf u seconds request) ≤ℤ pos 0
+unfolding flowOf charged gridWatts
+charging-draws u seconds request x e = subst⁻¹ (λ (r : ℤ). gridWatts u (flowOf u seconds r) ≤ℤ pos 0) e asked
+  where
+    P : ℕ
+    P = heldSize u (negsuc x)
+
+    by-addition : (b : Bool) → gridWatts u (cond b Idle (In (takeable u seconds P))) ≤ℤ pos 0
+    by-addition true = draw-below (idleDraw u) 0
+    by-addition false = draw-below (takeable u seconds P) 0
+
+    asked : gridWatts u (flowOf u seconds (negsuc x)) ≤ℤ pos 0
+    asked = by-addition (eqb (addedBy u seconds (takeable u seconds P)) 0)

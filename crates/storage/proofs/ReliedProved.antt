@@ -8,7 +8,7 @@ use lib.IntN.{ℤ, natAbs}
 use Rattle.unit.proofs.RangeLaws.{bounds}
 use Rattle.storage.proofs.LimitLaws.{held-most}
 use Rattle.storage.proofs.StepLaws.{flow-able}
-use Rattle.storage.proofs.ReliedLaws.{vars-in-circle, no-more, watts-le, stays, never-above, conserves}
+use Rattle.storage.proofs.ReliedLaws.{vars-in-circle, no-more, moves-no-more, charging-draws, watts-le, stays, never-above, conserves}
 use Rattle.unit.specs.declared.Unit.{Unit}
 use Rattle.unit.specs.Ranges.{unitIn, secondsIn}
 use Rattle.storage.specs.Relied.{Relied}
@@ -28,4 +28,6 @@ relied u seconds request e t =
       inCircle = vars-in-circle u (gridWatts u f) (watts-le u seconds p b rated f a);
       conserved = conserves u seconds p b f a;
       noMoreThanAsked = λ x q. no-more u seconds p x (le-trans asked (le-of-eq (ap natAbs q))) f a;
+      nothingWhileCharging = λ x q. charging-draws u seconds request x q;
+      movesNoMore = moves-no-more u seconds p (natAbs request) asked f a;
     }

@@ -1,9 +1,11 @@
 -- What a planner relies on (rules U13 to U16), of the definition of a step: for a unit in its ranges, a step length in its range and any request.
 use Prim.Native.Nat.{ℕ, _+_, _*_, _≤_}
 use mathlib.Core.Path.{_≡_}
-use lib.IntN.{ℤ, pos, negsuc, natAbs}
+use mathlib.Core.Logic.{_⊎_}
+use lib.IntN.{ℤ, pos, negsuc, negℤ, natAbs}
 use lib.Signed.{_≤ℤ_}
 use Rattle.unit.specs.declared.Unit.{Unit}
+use Rattle.unit.specs.Ranges.{idleDraw}
 use Rattle.storage.specs.declared.Outcome.{Outcome}
 use Rattle.storage.specs.Step.{stepOf}
 
@@ -24,5 +26,8 @@ pub record Relied (u : Unit) (seconds : ℕ) (request : ℤ) : Type 0 where
   pub inCircle : natAbs (stepOf u seconds request .watts) * natAbs (stepOf u seconds request .watts)
       + natAbs (stepOf u seconds request .vars) * natAbs (stepOf u seconds request .vars) ≤ u .kva * u .kva
   pub conserved : Conserved seconds (u .stored) (stepOf u seconds request)
-  -- a unit delivers no more than it is asked
+  -- a unit delivers no more than it is asked, and nothing where it is asked to charge
   pub noMoreThanAsked : (x : ℕ) → request ≡ pos x → stepOf u seconds request .watts ≤ℤ pos x
+  pub nothingWhileCharging : (x : ℕ) → request ≡ negsuc x → stepOf u seconds request .watts ≤ℤ pos 0
+  -- it moves no more than it is asked either way, or it idles and draws its idle draw
+  pub movesNoMore : (natAbs (stepOf u seconds request .watts) ≤ natAbs request) ⊎ (stepOf u seconds request .watts ≡ negℤ (pos (idleDraw u)))

@@ -7,7 +7,7 @@ use lib.IntN.{ℤ}
 use lib.Signed.{mag}
 use mir.Syntax.{w32, w64}
 use mir.Val.{toZ, ofZ, boolByte}
-use Rattle.whole.specs.Call.{numberOf, heldAfter}
+use Rattle.whole.specs.Call.{Call, Gave, Refused, Refusal, refusal, numberOf, heldAfter}
 use Rattle.whole.proofs.SignLaws.{read}
 use Rattle.unit.specs.declared.Unit.{Unit}
 use Rattle.controller.specs.declared.Passed.{Passed}
@@ -24,12 +24,6 @@ use Rattle.storage.specs.declared.Stepped.{Stepped}
 use Rattle.storage.specs.declared.Stepped.the-variants.{Done, RefusedBy}
 use Rattle.storage.specs.Answers.{stepCall}
 use Rattle.storage.specs.Step.{steppedOf}
-use Rattle.site.specs.declared.Head.{Head}
-use Rattle.ask.specs.declared.HeadAnswer.{HeadAnswer}
-use Rattle.ask.specs.declared.HeadAnswer.the-variants.{HeadSaid, HeadRefused}
-use Rattle.ask.specs.declared.UnitAnswer.{UnitAnswer}
-use Rattle.ask.specs.declared.UnitAnswer.the-variants.{UnitSaid, UnitRefused}
-use Rattle.ask.specs.Says.{headCall, unitCall}
 use Rattle.yesbrulka.specs.Calls.{flag, settingsOf, PassSeen, StudySeen, trialOf, StepSeen}
 
 -- a flag as a byte
@@ -74,19 +68,19 @@ module _ (mode : ℕ) (target : ℤ) (band factor : ℕ) (measure : ℤ) (f : Fl
   pass-refused n is = (pass-kept (passAnswer (settingsOf mode target band factor) measure f rs) need changed n (sym pass-is ∙ is), left-is)
 
 -- ---- a study
-module _ (a : StudyAnswer) (settled passes : ℕ) where
-  pub study-given : (r : Studied) → a ≡ StudyDone r → StudySeen a 0 settled (boolByte (r .settled)) passes (r .passes)
+module _ (c : Call Studied) (settled passes : ℕ) where
+  pub study-given : (r : Studied) → c ≡ Gave r → StudySeen c 0 settled (boolByte (r .settled)) passes (r .passes)
   study-given r is = record {
-    number-is = sym (ap (λ (x : StudyAnswer). numberOf (studyCall x)) is);
-    settled-is = byte-is (r .settled) ∙ sym (ap (λ (x : StudyAnswer). heldAfter (studyCall x) (λ (q : Studied). flag (q .settled)) settled) is);
-    passes-is = sym (ap (λ (x : StudyAnswer). heldAfter (studyCall x) (λ (q : Studied). q .passes) passes) is);
+    number-is = sym (ap numberOf is);
+    settled-is = byte-is (r .settled) ∙ sym (ap (λ (x : Call Studied). heldAfter x (λ (q : Studied). flag (q .settled)) settled) is);
+    passes-is = sym (ap (λ (x : Call Studied). heldAfter x (λ (q : Studied). q .passes) passes) is);
   }
 
-  pub study-kept : (n : ℕ) → a ≡ StudyRefused n → StudySeen a n settled settled passes passes
-  study-kept n is = record {
-    number-is = sym (ap (λ (x : StudyAnswer). numberOf (studyCall x)) is);
-    settled-is = sym (ap (λ (x : StudyAnswer). heldAfter (studyCall x) (λ (q : Studied). flag (q .settled)) settled) is);
-    passes-is = sym (ap (λ (x : StudyAnswer). heldAfter (studyCall x) (λ (q : Studied). q .passes) passes) is);
+  pub study-kept : (r : Refusal) → c ≡ Refused r → StudySeen c (r .number) settled settled passes passes
+  study-kept r is = record {
+    number-is = sym (ap numberOf is);
+    settled-is = sym (ap (λ (x : Call Studied). heldAfter x (λ (q : Studied). flag (q .settled)) settled) is);
+    passes-is = sym (ap (λ (x : Call Studied). heldAfter x (λ (q : Studied). q .passes) passes) is);
   }
 
 module _ (load target : ℤ) (band factor budget : ℕ) (f : Fleet) (rs : List ℤ) (hl : mag load < 2 ^ 63) (ht : mag target < 2 ^ 31)
@@ -100,14 +94,14 @@ module _ (load target : ℤ) (band factor budget : ℕ) (f : Fleet) (rs : List �
   study-left-is = el ∙ ap₂ (λ (l t : ℤ). studyLeaves (trialOf l t band factor budget) f rs) (read w64 load hl) (read w32 target ht)
 
   pub study-done : (r : Studied) → ans ≡ StudyDone r
-      → StudySeen (studyAnswer (trialOf load target band factor budget) f rs) 0 settled (boolByte (r .settled)) passes (r .passes)
+      → StudySeen (studyCall (studyAnswer (trialOf load target band factor budget) f rs)) 0 settled (boolByte (r .settled)) passes (r .passes)
       × (after ≡ studyLeaves (trialOf load target band factor budget) f rs)
-  study-done r is = (study-given (studyAnswer (trialOf load target band factor budget) f rs) settled passes r (sym study-is ∙ is), study-left-is)
+  study-done r is = (study-given (studyCall (studyAnswer (trialOf load target band factor budget) f rs)) settled passes r (ap studyCall (sym study-is ∙ is)), study-left-is)
 
   pub study-refused : (n : ℕ) → ans ≡ StudyRefused n
-      → StudySeen (studyAnswer (trialOf load target band factor budget) f rs) n settled settled passes passes
+      → StudySeen (studyCall (studyAnswer (trialOf load target band factor budget) f rs)) n settled settled passes passes
       × (after ≡ studyLeaves (trialOf load target band factor budget) f rs)
-  study-refused n is = (study-kept (studyAnswer (trialOf load target band factor budget) f rs) settled passes n (sym study-is ∙ is), study-left-is)
+  study-refused n is = (study-kept (studyCall (studyAnswer (trialOf load target band factor budget) f rs)) settled passes (refusal n) (ap studyCall (sym study-is ∙ is)), study-left-is)
 
 -- ---- a step, of a unit by its var request
 module _ (seconds : ℕ) (unit : ℤ → Unit) (var request : ℤ) (hv : mag var < 2 ^ 31) (hr : mag request < 2 ^ 31) (ans : Stepped)
@@ -138,31 +132,17 @@ module _ (seconds : ℕ) (unit : ℤ → Unit) (var request : ℤ) (hv : mag var
         loss-is = ap (λ (x : Stepped). heldAfter (stepCall x) (λ (q : Outcome). q .loss) loss) is;
       }
 
--- ---- what a file says: given, or kept
-module _ (a : HeadAnswer) (h : Head) (is : HeadSaid h ≡ a) where
-  pub head-zero : 0 ≡ numberOf (headCall a)
-  head-zero = ap (λ (x : HeadAnswer). numberOf (headCall x)) is
+-- ---- a call's answer: given, or kept
+module _ {A : Type 0} (c : Call A) (a : A) (is : Gave a ≡ c) where
+  pub call-zero : 0 ≡ numberOf c
+  call-zero = ap numberOf is
 
-  pub head-given : {B : Type 0} (value : Head → B) (held : B) → value h ≡ heldAfter (headCall a) value held
-  head-given value held = ap (λ (x : HeadAnswer). heldAfter (headCall x) value held) is
+  pub call-given : {B : Type 0} (value : A → B) (held : B) → value a ≡ heldAfter c value held
+  call-given value held = ap (λ (x : Call A). heldAfter x value held) is
 
-module _ (a : HeadAnswer) (n : ℕ) (is : HeadRefused n ≡ a) where
-  pub head-number : n ≡ numberOf (headCall a)
-  head-number = ap (λ (x : HeadAnswer). numberOf (headCall x)) is
+module _ {A : Type 0} (c : Call A) (r : Refusal) (is : Refused r ≡ c) where
+  pub call-number : r .number ≡ numberOf c
+  call-number = ap numberOf is
 
-  pub head-kept : {B : Type 0} (value : Head → B) (held : B) → held ≡ heldAfter (headCall a) value held
-  head-kept value held = ap (λ (x : HeadAnswer). heldAfter (headCall x) value held) is
-
-module _ (a : UnitAnswer) (u : Unit) (is : UnitSaid u ≡ a) where
-  pub unit-zero : 0 ≡ numberOf (unitCall a)
-  unit-zero = ap (λ (x : UnitAnswer). numberOf (unitCall x)) is
-
-  pub unit-given : {B : Type 0} (value : Unit → B) (held : B) → value u ≡ heldAfter (unitCall a) value held
-  unit-given value held = ap (λ (x : UnitAnswer). heldAfter (unitCall x) value held) is
-
-module _ (a : UnitAnswer) (n : ℕ) (is : UnitRefused n ≡ a) where
-  pub unit-number : n ≡ numberOf (unitCall a)
-  unit-number = ap (λ (x : UnitAnswer). numberOf (unitCall x)) is
-
-  pub unit-kept : {B : Type 0} (value : Unit → B) (held : B) → held ≡ heldAfter (unitCall a) value held
-  unit-kept value held = ap (λ (x : UnitAnswer). heldAfter (unitCall x) value held) is
+  pub call-kept : {B : Type 0} (value : A → B) (held : B) → held ≡ heldAfter c value held
+  call-kept value held = ap (λ (x : Call A). heldAfter x value held) is

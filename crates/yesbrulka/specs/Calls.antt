@@ -13,8 +13,6 @@ use Rattle.controller.specs.declared.PassAnswer.{PassAnswer}
 use Rattle.controller.specs.Answers.{passCall}
 use Rattle.settling.specs.declared.Trial.{Trial}
 use Rattle.settling.specs.declared.Studied.{Studied}
-use Rattle.settling.specs.declared.StudyAnswer.{StudyAnswer}
-use Rattle.settling.specs.Answers.{studyCall}
 use Rattle.storage.specs.declared.Outcome.{Outcome}
 use Rattle.storage.specs.declared.Stepped.{Stepped}
 use Rattle.storage.specs.Answers.{stepCall}
@@ -35,10 +33,10 @@ pub record PassSeen (a : PassAnswer) (number : ℕ) (need need′ : ℤ) (change
   pub changed-is : changed′ ≡ heldAfter (passCall a) (λ (p : Passed). flag (p .changed)) changed
 
 -- yb_settle and yb_study: the number, settled and passes
-pub record StudySeen (a : StudyAnswer) (number settled settled′ passes passes′ : ℕ) : Type 0 where
-  pub number-is : number ≡ numberOf (studyCall a)
-  pub settled-is : settled′ ≡ heldAfter (studyCall a) (λ (r : Studied). flag (r .settled)) settled
-  pub passes-is : passes′ ≡ heldAfter (studyCall a) (λ (r : Studied). r .passes) passes
+pub record StudySeen (c : Call Studied) (number settled settled′ passes passes′ : ℕ) : Type 0 where
+  pub number-is : number ≡ numberOf c
+  pub settled-is : settled′ ≡ heldAfter c (λ (r : Studied). flag (r .settled)) settled
+  pub passes-is : passes′ ≡ heldAfter c (λ (r : Studied). r .passes) passes
 
 -- a study's settings in mode 1, its load and its budget
 abbrev pub trialOf : ℤ → ℤ → ℕ → ℕ → ℕ → Trial
@@ -70,7 +68,7 @@ pub record StepSeen (a : Stepped) (number : ℕ) (watts watts′ vars vars′ : 
 
 -- yb_settings and yb_unit: what a file says, as a call's answer
 abbrev pub headSaid : List ℕ → Call Head
-headSaid file = headCall (headAnswer file)
+headSaid file = headCall file (headAnswer file)
 
 abbrev pub unitSaid : List ℕ → ℕ → Call Unit
-unitSaid file i = unitCall (unitAnswer file i)
+unitSaid file i = unitCall file (unitAnswer file i)

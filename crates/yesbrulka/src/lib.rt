@@ -8,13 +8,13 @@ ghost use Rattle.reading.specs.Conversion.{wattsOf, wattsCall};
 ghost use Rattle.unit.specs.declared.Unit.{Unit};
 ghost use Rattle.controller.specs.Ranges.{fleetOf};
 ghost use Rattle.controller.specs.Answers.{passAnswer, passLeaves};
-ghost use Rattle.settling.specs.Answers.{studyAnswer, studyLeaves};
+ghost use Rattle.settling.specs.Answers.{studyAnswer, studyLeaves, studyCall};
 ghost use Rattle.storage.specs.Step.{steppedOf};
 ghost use Rattle.site.specs.declared.Head.{Head};
 ghost use Rattle.stick.specs.Check.{checkOf};
 ghost use Rattle.parts.specs.Parts.{partStart, partSize};
 ghost use Rattle.season.specs.Answers.{roomOf, runAnswer, runLeaves};
-ghost use Rattle.ask.specs.Says.{unitsSaid, secondsSaid, fileStudy, fileStudyLeaves};
+ghost use Rattle.ask.specs.Says.{unitsSaid, secondsSaid, fileStudy, fileStudyLeaves, fileStudyCall};
 ghost use Rattle.yesbrulka.specs.Calls.{settingsOf, PassSeen, trialOf, StudySeen, unitOf, StepSeen, headSaid, unitSaid};
 use ask::HeadAnswer;
 use ask::UnitAnswer;
@@ -153,7 +153,7 @@ pub extern "C" fn yb_settle(
     settled: &mut u8,
     passes: &mut u32,
 ) -> u32
-    ensures { λ r. ⌜ StudySeen (studyAnswer (trialOf load target band factor budget) (fleetOf (now (rated .entry)) (now (reserve .entry)) (now (stored .entry)) (now (rating .entry)) (now (weight .entry))) (now (requests .entry))) r (now (settled .entry)) (now (settled .exit)) (now (passes .entry)) (now (passes .exit)) ⌝ }
+    ensures { λ r. ⌜ StudySeen (studyCall (studyAnswer (trialOf load target band factor budget) (fleetOf (now (rated .entry)) (now (reserve .entry)) (now (stored .entry)) (now (rating .entry)) (now (weight .entry))) (now (requests .entry)))) r (now (settled .entry)) (now (settled .exit)) (now (passes .entry)) (now (passes .exit)) ⌝ }
     ensures { λ _. ⌜ now (requests .exit) ≡ studyLeaves (trialOf load target band factor budget) (fleetOf (now (rated .entry)) (now (reserve .entry)) (now (stored .entry)) (now (rating .entry)) (now (weight .entry))) (now (requests .entry)) ⌝ }
 {
     let settings = Settings {
@@ -344,7 +344,7 @@ pub extern "C" fn yb_study(
     settled: &mut u8,
     passes: &mut u32,
 ) -> u32
-    ensures { λ r. ⌜ StudySeen (fileStudy (now (file .entry)) load budget (now (requests .entry))) r (now (settled .entry)) (now (settled .exit)) (now (passes .entry)) (now (passes .exit)) ⌝ }
+    ensures { λ r. ⌜ StudySeen (fileStudyCall (now (file .entry)) (fileStudy (now (file .entry)) load budget (now (requests .entry)))) r (now (settled .entry)) (now (settled .exit)) (now (passes .entry)) (now (passes .exit)) ⌝ }
     ensures { λ _. ⌜ now (requests .exit) ≡ fileStudyLeaves (now (file .entry)) load budget (now (requests .entry)) ⌝ }
 {
     match ask::study(file, load, budget, requests) {

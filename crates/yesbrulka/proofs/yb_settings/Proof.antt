@@ -1,11 +1,12 @@
 -- What the file says is stored, or the number of its refusal returned and nothing stored.
 use borrow.Author.Needs.{needs}
-use mathlib.Core.Path.{sym, _∙_}
+use mathlib.Core.Path.{sym, ap, _∙_}
 use mir.Syntax.{w32}
 use Rattle.whole.proofs.SignLaws.{read}
 use Rattle.site.specs.declared.Head.{Head}
-use Rattle.ask.specs.Says.{headAnswer}
-use Rattle.yesbrulka.proofs.CallLaws.{head-zero, head-given, head-number, head-kept}
+use Rattle.ask.specs.Says.{refusalOver, headCall}
+use Rattle.yesbrulka.specs.Calls.{headSaid}
+use Rattle.yesbrulka.proofs.CallLaws.{call-zero, call-given, call-number, call-kept}
 use Rattle.yesbrulka.proofs.yb_settings.Statement.{statement}
 use Rattle.yesbrulka.proofs.yb_settings.Tie as tie
 
@@ -27,17 +28,17 @@ returns c =
     let o = q .before .before in
     let a = o .before .before .args in
     let h = q .h .given .0 .0 in
-    let is = sym (q .h .given .1) ∙ o .head .ensures in (
-      head-zero (headAnswer (a .file .now)) h is,
+    let is = ap (headCall (a .file .now)) (sym (q .h .given .1) ∙ o .head .ensures) in (
+      call-zero (headSaid (a .file .now)) h is,
       (
-        head-given (headAnswer (a .file .now)) h is (λ (x : Head). x .settings .mode) (a .mode .now),
+        call-given (headSaid (a .file .now)) h is (λ (x : Head). x .settings .mode) (a .mode .now),
         (
-          read w32 (h .settings .target) (c .struct-told .given .1 .0 .1) ∙ head-given (headAnswer (a .file .now)) h is (λ (x : Head). x .settings .target) (a .target .now),
+          read w32 (h .settings .target) (c .struct-told .given .1 .0 .1) ∙ call-given (headSaid (a .file .now)) h is (λ (x : Head). x .settings .target) (a .target .now),
           (
-            head-given (headAnswer (a .file .now)) h is (λ (x : Head). x .settings .band) (a .band .now),
+            call-given (headSaid (a .file .now)) h is (λ (x : Head). x .settings .band) (a .band .now),
             (
-              head-given (headAnswer (a .file .now)) h is (λ (x : Head). x .settings .factor) (a .factor .now),
-              head-given (headAnswer (a .file .now)) h is (λ (x : Head). x .phase) (a .phase .now),
+              call-given (headSaid (a .file .now)) h is (λ (x : Head). x .settings .factor) (a .factor .now),
+              call-given (headSaid (a .file .now)) h is (λ (x : Head). x .phase) (a .phase .now),
             ),
           ),
         ),
@@ -49,17 +50,18 @@ returns-2 c =
     let q = c .before in
     let o = q .before .before in
     let a = o .before .before .args in
-    let is = sym (q .n .given .1) ∙ o .head .ensures in (
-      head-number (headAnswer (a .file .now)) (q .n .given .0 .0) is,
+    let r = refusalOver (a .file .now) (q .n .given .0 .0) in
+    let is = ap (headCall (a .file .now)) (sym (q .n .given .1) ∙ o .head .ensures) in (
+      call-number (headSaid (a .file .now)) r is,
       (
-        head-kept (headAnswer (a .file .now)) (q .n .given .0 .0) is (λ (x : Head). x .settings .mode) (a .mode .now),
+        call-kept (headSaid (a .file .now)) r is (λ (x : Head). x .settings .mode) (a .mode .now),
         (
-          head-kept (headAnswer (a .file .now)) (q .n .given .0 .0) is (λ (x : Head). x .settings .target) (a .target .now),
+          call-kept (headSaid (a .file .now)) r is (λ (x : Head). x .settings .target) (a .target .now),
           (
-            head-kept (headAnswer (a .file .now)) (q .n .given .0 .0) is (λ (x : Head). x .settings .band) (a .band .now),
+            call-kept (headSaid (a .file .now)) r is (λ (x : Head). x .settings .band) (a .band .now),
             (
-              head-kept (headAnswer (a .file .now)) (q .n .given .0 .0) is (λ (x : Head). x .settings .factor) (a .factor .now),
-              head-kept (headAnswer (a .file .now)) (q .n .given .0 .0) is (λ (x : Head). x .phase) (a .phase .now),
+              call-kept (headSaid (a .file .now)) r is (λ (x : Head). x .settings .factor) (a .factor .now),
+              call-kept (headSaid (a .file .now)) r is (λ (x : Head). x .phase) (a .phase .now),
             ),
           ),
         ),

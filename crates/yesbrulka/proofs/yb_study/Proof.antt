@@ -4,7 +4,7 @@ use mathlib.Core.Path.{_≡_, sym, ap, _∙_}
 use lib.IntN.{ℤ}
 use mir.Syntax.{w64}
 use Rattle.whole.proofs.SignLaws.{read}
-use Rattle.ask.specs.Says.{fileStudy, fileStudyLeaves}
+use Rattle.ask.specs.Says.{refusalOver, fileStudy, fileStudyLeaves, fileStudyCall}
 use Rattle.yesbrulka.proofs.CallLaws.{study-given, study-kept}
 use Rattle.yesbrulka.proofs.yb_study.Statement.{statement}
 use Rattle.yesbrulka.proofs.yb_study.Tie as tie
@@ -36,7 +36,8 @@ returns c =
     let l = read w64 (a .load) (s .fits .load .sfits) in
     let is : p .study .result ≡ fileStudy (a .file .now) (a .load) (a .budget) (a .requests .now) =
     p .study .ensures .0 ∙ ap (λ (z : ℤ). fileStudy (a .file .now) z (a .budget) (a .requests .now)) l in (
-      study-given (fileStudy (a .file .now) (a .load) (a .budget) (a .requests .now)) (a .settled .now) (a .passes .now) (q .found .given .0 .0) (sym is ∙ q .found .given .1),
+      study-given (fileStudyCall (a .file .now) (fileStudy (a .file .now) (a .load) (a .budget) (a .requests .now))) (a .settled .now) (a .passes .now) (q .found .given .0 .0)
+          (ap (fileStudyCall (a .file .now)) (sym is ∙ q .found .given .1)),
       p .study .ensures .1 ∙ ap (λ (z : ℤ). fileStudyLeaves (a .file .now) z (a .budget) (a .requests .now)) l,
     )
 
@@ -52,7 +53,8 @@ returns-2 c =
     let l = read w64 (a .load) (s .fits .load .sfits) in
     let is : p .study .result ≡ fileStudy (a .file .now) (a .load) (a .budget) (a .requests .now) =
     p .study .ensures .0 ∙ ap (λ (z : ℤ). fileStudy (a .file .now) z (a .budget) (a .requests .now)) l in (
-      study-kept (fileStudy (a .file .now) (a .load) (a .budget) (a .requests .now)) (a .settled .now) (a .passes .now) (q .n .given .0 .0) (sym is ∙ q .n .given .1),
+      study-kept (fileStudyCall (a .file .now) (fileStudy (a .file .now) (a .load) (a .budget) (a .requests .now))) (a .settled .now) (a .passes .now)
+          (refusalOver (a .file .now) (q .n .given .0 .0)) (ap (fileStudyCall (a .file .now)) (sym is ∙ q .n .given .1)),
       p .study .ensures .1 ∙ ap (λ (z : ℤ). fileStudyLeaves (a .file .now) z (a .budget) (a .requests .now)) l,
     )
 

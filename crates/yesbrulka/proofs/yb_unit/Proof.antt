@@ -1,11 +1,12 @@
 -- The unit that the file says is stored, or the number of the refusal returned and nothing stored.
 use borrow.Author.Needs.{needs}
-use mathlib.Core.Path.{sym, _∙_}
+use mathlib.Core.Path.{sym, ap, _∙_}
 use mir.Syntax.{w32}
 use Rattle.whole.proofs.SignLaws.{read}
 use Rattle.unit.specs.declared.Unit.{Unit}
-use Rattle.ask.specs.Says.{unitAnswer}
-use Rattle.yesbrulka.proofs.CallLaws.{unit-zero, unit-given, unit-number, unit-kept}
+use Rattle.ask.specs.Says.{refusalOver, unitCall}
+use Rattle.yesbrulka.specs.Calls.{unitSaid}
+use Rattle.yesbrulka.proofs.CallLaws.{call-zero, call-given, call-number, call-kept}
 use Rattle.yesbrulka.proofs.yb_unit.Statement.{statement}
 use Rattle.yesbrulka.proofs.yb_unit.Tie as tie
 
@@ -27,31 +28,31 @@ returns c =
     let o = q .before .before in
     let a = o .before .before .args in
     let u = q .u .given .0 .0 in
-    let is = sym (q .u .given .1) ∙ o .unit .ensures in (
-      unit-zero (unitAnswer (a .file .now) (a .unit)) u is,
+    let is = ap (unitCall (a .file .now)) (sym (q .u .given .1) ∙ o .unit .ensures) in (
+      call-zero (unitSaid (a .file .now) (a .unit)) u is,
       (
-        unit-given (unitAnswer (a .file .now) (a .unit)) u is (λ (x : Unit). x .rated) (a .rated .now),
+        call-given (unitSaid (a .file .now) (a .unit)) u is (λ (x : Unit). x .rated) (a .rated .now),
         (
-          unit-given (unitAnswer (a .file .now) (a .unit)) u is (λ (x : Unit). x .reserve) (a .reserve .now),
+          call-given (unitSaid (a .file .now) (a .unit)) u is (λ (x : Unit). x .reserve) (a .reserve .now),
           (
-            unit-given (unitAnswer (a .file .now) (a .unit)) u is (λ (x : Unit). x .stored) (a .stored .now),
+            call-given (unitSaid (a .file .now) (a .unit)) u is (λ (x : Unit). x .stored) (a .stored .now),
             (
-              unit-given (unitAnswer (a .file .now) (a .unit)) u is (λ (x : Unit). x .rating) (a .rating .now),
+              call-given (unitSaid (a .file .now) (a .unit)) u is (λ (x : Unit). x .rating) (a .rating .now),
               (
-                unit-given (unitAnswer (a .file .now) (a .unit)) u is (λ (x : Unit). x .kva) (a .kva .now),
+                call-given (unitSaid (a .file .now) (a .unit)) u is (λ (x : Unit). x .kva) (a .kva .now),
                 (
-                  unit-given (unitAnswer (a .file .now) (a .unit)) u is (λ (x : Unit). x .«idle_loss») (a .idle-loss .now),
+                  call-given (unitSaid (a .file .now) (a .unit)) u is (λ (x : Unit). x .«idle_loss») (a .idle-loss .now),
                   (
-                    read w32 (u .«var_request») (c .struct-told .given .1 .1 .1 .1 .1 .1 .0 .1) ∙ unit-given (unitAnswer (a .file .now) (a .unit)) u is (λ (x : Unit). x .«var_request») (a .var-request .now),
+                    read w32 (u .«var_request») (c .struct-told .given .1 .1 .1 .1 .1 .1 .0 .1) ∙ call-given (unitSaid (a .file .now) (a .unit)) u is (λ (x : Unit). x .«var_request») (a .var-request .now),
                     (
-                      unit-given (unitAnswer (a .file .now) (a .unit)) u is (λ (x : Unit). x .weight) (a .weight .now),
+                      call-given (unitSaid (a .file .now) (a .unit)) u is (λ (x : Unit). x .weight) (a .weight .now),
                       (
-                        unit-given (unitAnswer (a .file .now) (a .unit)) u is (λ (x : Unit). x .inverter) (a .inverter .now),
+                        call-given (unitSaid (a .file .now) (a .unit)) u is (λ (x : Unit). x .inverter) (a .inverter .now),
                         (
-                          unit-given (unitAnswer (a .file .now) (a .unit)) u is (λ (x : Unit). x .charge) (a .charge .now),
+                          call-given (unitSaid (a .file .now) (a .unit)) u is (λ (x : Unit). x .charge) (a .charge .now),
                           (
-                            unit-given (unitAnswer (a .file .now) (a .unit)) u is (λ (x : Unit). x .discharge) (a .discharge .now),
-                            unit-given (unitAnswer (a .file .now) (a .unit)) u is (λ (x : Unit). x .priority) (a .priority .now),
+                            call-given (unitSaid (a .file .now) (a .unit)) u is (λ (x : Unit). x .discharge) (a .discharge .now),
+                            call-given (unitSaid (a .file .now) (a .unit)) u is (λ (x : Unit). x .priority) (a .priority .now),
                           ),
                         ),
                       ),
@@ -70,31 +71,32 @@ returns-2 c =
     let q = c .before in
     let o = q .before .before in
     let a = o .before .before .args in
-    let is = sym (q .n .given .1) ∙ o .unit .ensures in (
-      unit-number (unitAnswer (a .file .now) (a .unit)) (q .n .given .0 .0) is,
+    let r = refusalOver (a .file .now) (q .n .given .0 .0) in
+    let is = ap (unitCall (a .file .now)) (sym (q .n .given .1) ∙ o .unit .ensures) in (
+      call-number (unitSaid (a .file .now) (a .unit)) r is,
       (
-        unit-kept (unitAnswer (a .file .now) (a .unit)) (q .n .given .0 .0) is (λ (x : Unit). x .rated) (a .rated .now),
+        call-kept (unitSaid (a .file .now) (a .unit)) r is (λ (x : Unit). x .rated) (a .rated .now),
         (
-          unit-kept (unitAnswer (a .file .now) (a .unit)) (q .n .given .0 .0) is (λ (x : Unit). x .reserve) (a .reserve .now),
+          call-kept (unitSaid (a .file .now) (a .unit)) r is (λ (x : Unit). x .reserve) (a .reserve .now),
           (
-            unit-kept (unitAnswer (a .file .now) (a .unit)) (q .n .given .0 .0) is (λ (x : Unit). x .stored) (a .stored .now),
+            call-kept (unitSaid (a .file .now) (a .unit)) r is (λ (x : Unit). x .stored) (a .stored .now),
             (
-              unit-kept (unitAnswer (a .file .now) (a .unit)) (q .n .given .0 .0) is (λ (x : Unit). x .rating) (a .rating .now),
+              call-kept (unitSaid (a .file .now) (a .unit)) r is (λ (x : Unit). x .rating) (a .rating .now),
               (
-                unit-kept (unitAnswer (a .file .now) (a .unit)) (q .n .given .0 .0) is (λ (x : Unit). x .kva) (a .kva .now),
+                call-kept (unitSaid (a .file .now) (a .unit)) r is (λ (x : Unit). x .kva) (a .kva .now),
                 (
-                  unit-kept (unitAnswer (a .file .now) (a .unit)) (q .n .given .0 .0) is (λ (x : Unit). x .«idle_loss») (a .idle-loss .now),
+                  call-kept (unitSaid (a .file .now) (a .unit)) r is (λ (x : Unit). x .«idle_loss») (a .idle-loss .now),
                   (
-                    unit-kept (unitAnswer (a .file .now) (a .unit)) (q .n .given .0 .0) is (λ (x : Unit). x .«var_request») (a .var-request .now),
+                    call-kept (unitSaid (a .file .now) (a .unit)) r is (λ (x : Unit). x .«var_request») (a .var-request .now),
                     (
-                      unit-kept (unitAnswer (a .file .now) (a .unit)) (q .n .given .0 .0) is (λ (x : Unit). x .weight) (a .weight .now),
+                      call-kept (unitSaid (a .file .now) (a .unit)) r is (λ (x : Unit). x .weight) (a .weight .now),
                       (
-                        unit-kept (unitAnswer (a .file .now) (a .unit)) (q .n .given .0 .0) is (λ (x : Unit). x .inverter) (a .inverter .now),
+                        call-kept (unitSaid (a .file .now) (a .unit)) r is (λ (x : Unit). x .inverter) (a .inverter .now),
                         (
-                          unit-kept (unitAnswer (a .file .now) (a .unit)) (q .n .given .0 .0) is (λ (x : Unit). x .charge) (a .charge .now),
+                          call-kept (unitSaid (a .file .now) (a .unit)) r is (λ (x : Unit). x .charge) (a .charge .now),
                           (
-                            unit-kept (unitAnswer (a .file .now) (a .unit)) (q .n .given .0 .0) is (λ (x : Unit). x .discharge) (a .discharge .now),
-                            unit-kept (unitAnswer (a .file .now) (a .unit)) (q .n .given .0 .0) is (λ (x : Unit). x .priority) (a .priority .now),
+                            call-kept (unitSaid (a .file .now) (a .unit)) r is (λ (x : Unit). x .discharge) (a .discharge .now),
+                            call-kept (unitSaid (a .file .now) (a .unit)) r is (λ (x : Unit). x .priority) (a .priority .now),
                           ),
                         ),
                       ),

@@ -1,4 +1,6 @@
 -- The part begins where the field's value does and has as many bytes as are there; both ends lie within the file.
+use mathlib.Core.Path.{ap}
+use Prim.Native.Nat.{ℕ}
 use native.Mathlib.Omega.{arith}
 use borrow.Author.Needs.{needs}
 use Rattle.parts.proofs.ReaderLaws.{part-within, part-bytes}
@@ -27,7 +29,11 @@ returns : tie.Need-returns
 returns c =
     let u = c .before in
     let a = u .before .before .before .args in
-    part-bytes (a .file .now) (a .place) (u .before .part-start .result) (u .part-size .result) (u .before .part-start .ensures) (u .part-size .ensures)
+    let e = u .before .part-start .ensures in
+    record {
+      bytes = part-bytes (a .file .now) (a .place) (u .before .part-start .result) (u .part-size .result) e (u .part-size .ensures);
+      lies = ap (λ (n : ℕ). (a .file .ptr .0, n)) (omega (arith, e));
+    }
 
 pub part-spec : {M : Type 1} → statement M
 part-spec = tie.close (tie.spec part-start-requires part-size-requires add-result sub-result part-result-start part-result-end returns)

@@ -1,0 +1,60 @@
+-- What holds of every run: the result's length and the measures by their own laws; the requests are 0 at first, and each step leaves them or passes over
+-- them, which makes none of both signs. Assumes nothing.
+use mathlib.Core.Path.{_≡_, refl, ap}
+use mathlib.Core.Bool.{Bool, _&&_}
+use mathlib.Core.List.{List, [], _∷_}
+use Prim.Native.Nat.{ℕ, zero, suc}
+use lib.IntN.{ℤ, pos}
+use lib.ListN.{length, getD, take, replicate}
+use lib.Signed.{ltZ}
+use Rattle.whole.proofs.OverLaws.{none-of}
+use Rattle.unit.specs.declared.Unit.{Unit}
+use Rattle.reading.specs.declared.Reading.{Reading}
+use Rattle.reading.specs.declared.Reading.the-variants.{Missing, Power}
+use Rattle.reading.specs.declared.Measure.{Measure}
+use Rattle.reading.specs.declared.Measure.the-variants.{Chosen, RefusedBy}
+use Rattle.reading.specs.Choice.{measureOf, measureCall}
+use Rattle.controller.specs.Ranges.{fleetFor, someAbove, someBelow}
+use Rattle.controller.specs.OneSign.{OneSign}
+use Rattle.controller.proofs.OneSign.{one-sign}
+use Rattle.site.specs.declared.Step.{Step}
+use Rattle.site.specs.Site.{Site}
+use Rattle.stick.specs.Site.{siteOf, stepsOf}
+use Rattle.stick.specs.Posts.{Accepted}
+use Rattle.fleet.specs.Step.{Standing, atFirst, passedOn, askedBy, after}
+use Rattle.season.specs.Holds.{standsAfter, RunLaw}
+use Rattle.season.proofs.AnswerLaws.{result-length}
+use Rattle.season.proofs.UsedLaws.{none-refused}
+
+zeros : (n i : ℕ) → getD (replicate n (pos 0)) i (pos 0) ≡ pos 0
+zeros zero i = refl
+zeros (suc n) zero = refl
+zeros (suc n) (suc i) = zeros n i
+
+first-one : (us : List Unit) → OneSign (atFirst us .requests)
+unfolding atFirst someAbove
+first-one us =
+    let rs = replicate (length us) (pos 0) in
+    ap (λ (b : Bool). b && someBelow rs)
+    (none-of (length rs) (λ (i : ℕ). ltZ (pos 0) (getD rs i (pos 0))) (λ i l. ap (ltZ (pos 0)) (zeros (length us) i)))
+
+asked-one : (site : Site) (stored : List ℕ) (rs : List ℤ) (r : Reading) → OneSign rs → OneSign (askedBy site stored rs r)
+unfolding askedBy
+asked-one site stored rs Missing h = h
+asked-one site stored rs (Power p) h = go (measureOf p (site .head .phase))
+  where
+    go : (m : Measure) → OneSign (passedOn site stored rs (measureCall m))
+    go (Chosen m) = one-sign (site .head .settings) m (fleetFor (site .units) stored) rs h
+    go (RefusedBy n) = h
+
+stands-one : (site : Site) (st : Standing) (ss : List Step) → OneSign (st .requests) → OneSign (standsAfter site st ss .requests)
+unfolding standsAfter after
+stands-one site st [] h = h
+stands-one site st (s ∷ ss) h = stands-one site (after site st s) ss (asked-one site (st .stored) (st .requests) (s .reading) h)
+
+pub run-law : (file : List ℕ) → Accepted file → RunLaw file
+run-law file a = record {
+  resultLength = result-length file;
+  noneRefused = none-refused file a;
+  oneSign = λ k. stands-one (siteOf file) (atFirst (siteOf file .units)) (take k (stepsOf file)) (first-one (siteOf file .units));
+}

@@ -1,0 +1,32 @@
+-- What holds of every run of an accepted file (rules O5, T5, M6 and P9). `run-law` proves it.
+use Prim.Native.Nat.{ℕ, _<_}
+use mathlib.Core.List.{List, [], _∷_}
+use mathlib.Core.Path.{_≡_}
+use lib.IntN.{ℤ}
+use lib.ListN.{length, getD, take}
+use Rattle.reading.specs.declared.Phases.{Phases}
+use Rattle.reading.specs.declared.Reading.the-variants.{Missing, Power}
+use Rattle.reading.specs.declared.Measure.the-variants.{Chosen}
+use Rattle.reading.specs.Choice.{measureOf}
+use Rattle.controller.specs.OneSign.{OneSign}
+use Rattle.site.specs.declared.Step.{Step}
+use Rattle.site.specs.Site.{Site, stepWith}
+use Rattle.stick.specs.Site.{siteOf, stepsOf}
+use Rattle.fleet.specs.Step.{Standing, atFirst, after}
+use Rattle.season.specs.Run.{resultOf}
+use Rattle.season.specs.Answers.{needed}
+
+-- what stands after these steps
+unfoldable pub standsAfter : Site → Standing → List Step → Standing
+unfolding after
+standsAfter site st [] = st
+standsAfter site st (s ∷ ss) = standsAfter site (after site st s) ss
+
+pub record RunLaw (file : List ℕ) : Type 0 where
+  -- the result has as many bytes as the room is asked for
+  pub resultLength : length (resultOf file) ≡ needed file
+  -- every power that the file has gives a measure
+  pub noneRefused : (k : ℕ) → k < length (stepsOf file) → (p : Phases) → getD (stepsOf file) k (stepWith Missing) .reading ≡ Power p
+      → (m : ℤ) × (measureOf p (siteOf file .head .phase) ≡ Chosen m)
+  -- after any number of steps the requests are not of both signs
+  pub oneSign : (k : ℕ) → OneSign (standsAfter (siteOf file) (atFirst (siteOf file .units)) (take k (stepsOf file)) .requests)
