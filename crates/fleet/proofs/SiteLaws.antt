@@ -16,17 +16,15 @@ use Rattle.unit.proofs.RowLaws.{units-count, units-at, length-map, column-at}
 use Rattle.site.specs.declared.Head.{Head}
 use Rattle.site.specs.Site.{Site, count, unitOf}
 use Rattle.site.specs.Ranges.{Sited}
+use Rattle.site.proofs.RangeLaws.{unit-ranged}
 use Rattle.fleet.specs.Step.{Standing, standing, atFirst}
 use Rattle.fleet.specs.Posts.{Held, siteBy}
 use Rattle.fleet.proofs.UnitLaws.{holding-ranged}
 
 -- ---- a unit of a site in its ranges
 module _ (site : Site) (h : Sited site) where
-  pub unit-ranged : (i : ℕ) → i < count site → Ranged (unitOf site i) (site .head .seconds)
-  unit-ranged i l = record { unit = h .units i l; seconds-in = h .seconds }
-
   pub held-ranged : (i s : ℕ) → i < count site → s ≤ unitOf site i .rated → Ranged (holding (unitOf site i) s) (site .head .seconds)
-  held-ranged i s l w = holding-ranged (unitOf site i) s (site .head .seconds) (unit-ranged i l) w
+  held-ranged i s l w = holding-ranged (unitOf site i) s (site .head .seconds) (unit-ranged site h i l) w
 
 -- ---- rows
 module _ (head : Head) (rows : List (List ℕ)) where

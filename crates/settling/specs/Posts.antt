@@ -22,6 +22,10 @@ pub record DoneStudy (s : Settings) (load : ℤ) (f : Fleet) (budget n : ℕ) (a
   pub settled : r .settled ≡ studyOf s load f budget n .settled
   pub passes : r .passes ≡ studyOf s load f budget n .changing
 
+-- that of a trial
+abbrev pub DoneTrial : Trial → Fleet → ℕ → List ℤ → Studied → Type 0
+DoneTrial q f n after r = DoneStudy (shaving (q .settings)) (q .load) f (q .budget) n after r
+
 -- the measure of a study, with its bound
 pub record Measured (load : ℤ) (rs : List ℤ) (m : ℤ) : Type 0 where
   pub is : m ≡ load -ℤ sumOfAll rs

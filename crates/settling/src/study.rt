@@ -5,7 +5,7 @@ ghost use lib.ListN.{length};
 ghost use Rattle.controller.specs.Ranges.{fleetOf};
 ghost use Rattle.controller.specs.Posts.{Sound, TotalsOf, fleetBy};
 ghost use Rattle.settling.specs.Study.{shaving, trialIn};
-ghost use Rattle.settling.specs.Posts.{DoneStudy, Measured, Trying};
+ghost use Rattle.settling.specs.Posts.{DoneTrial, Measured, Trying};
 ghost use Rattle.settling.specs.Answers.{studyAnswer, studyLeaves};
 use super::Studied;
 use super::StudyAnswer;
@@ -57,7 +57,7 @@ pub fn settle_within(
 ) -> Studied
     requires { ⌜ Trying q (fleetBy (now units) (now stored)) (length (now requests)) ⌝ }
     requires { ⌜ TotalsOf (now units) t ⌝ }
-    ensures { λ r. ⌜ DoneStudy (shaving (q .settings)) (q .load) (fleetBy (now (units .entry)) (now (stored .entry))) (q .budget) (length (now (requests .entry))) (now (requests .exit)) r ⌝ }
+    ensures { λ r. ⌜ DoneTrial q (fleetBy (now (units .entry)) (now (stored .entry))) (length (now (requests .entry))) (now (requests .exit)) r ⌝ }
 {
     let given = q.settings;
     let s = shaved(given);
@@ -95,7 +95,7 @@ fn settle_with(
 ) -> Studied
     requires { ⌜ Trying q (fleetOf (now rated) (now reserve) (now stored) (now rating) (now weight)) (length (now requests)) ⌝ }
     requires { ⌜ length (now units) ≡ length (now requests) ⌝ }
-    ensures { λ r. ⌜ DoneStudy (shaving (q .settings)) (q .load) (fleetOf (now (rated .entry)) (now (reserve .entry)) (now (stored .entry)) (now (rating .entry)) (now (weight .entry))) (q .budget) (length (now (requests .entry))) (now (requests .exit)) r ⌝ }
+    ensures { λ r. ⌜ DoneTrial q (fleetOf (now (rated .entry)) (now (reserve .entry)) (now (stored .entry)) (now (rating .entry)) (now (weight .entry))) (length (now (requests .entry))) (now (requests .exit)) r ⌝ }
 {
     controller::fill(rated, reserve, stored, rating, weight, units);
     let t = controller::summed(units);
@@ -113,7 +113,7 @@ fn settle_over(
     requests: &mut [i32],
 ) -> Studied
     requires { ⌜ Trying q (fleetOf (now rated) (now reserve) (now stored) (now rating) (now weight)) (length (now requests)) ⌝ }
-    ensures { λ r. ⌜ DoneStudy (shaving (q .settings)) (q .load) (fleetOf (now (rated .entry)) (now (reserve .entry)) (now (stored .entry)) (now (rating .entry)) (now (weight .entry))) (q .budget) (length (now (requests .entry))) (now (requests .exit)) r ⌝ }
+    ensures { λ r. ⌜ DoneTrial q (fleetOf (now (rated .entry)) (now (reserve .entry)) (now (stored .entry)) (now (rating .entry)) (now (weight .entry))) (length (now (requests .entry))) (now (requests .exit)) r ⌝ }
 {
     let n = requests.len();
     let mut units = [[0u64; 14]; 64];

@@ -1,1 +1,2 @@
 -- Laws about a site, for the proofs above.
+pub mod RangeLaws

@@ -5,10 +5,13 @@ use mathlib.Core.Bool.{Bool, cond}
 use mathlib.Core.List.{List}
 use mathlib.Core.Path.{_≡_}
 use lib.IntN.{ℤ}
+use denote.Ref.{RefT, now}
+use denote.Triple.Both.{Both}
 use Rattle.whole.specs.Call.{Call, numberOf, heldAfter}
 use Rattle.unit.specs.declared.Unit.{Unit}
 use Rattle.controller.specs.declared.Settings.{Settings}
 use Rattle.controller.specs.declared.Passed.{Passed}
+use Rattle.controller.specs.Ranges.{Fleet, fleetOf}
 use Rattle.controller.specs.declared.PassAnswer.{PassAnswer}
 use Rattle.controller.specs.Answers.{passCall}
 use Rattle.settling.specs.declared.Trial.{Trial}
@@ -26,17 +29,37 @@ flag b = cond b 1 0
 abbrev pub settingsOf : ℕ → ℤ → ℕ → ℕ → Settings
 settingsOf mode target band factor = record { mode = mode; target = target; band = band; factor = factor }
 
+-- what is lent to a call: a number or a list, at the call and after it
+abbrev pub Lent : Type 0 → Type 0
+Lent A = Both (RefT A) (RefT A)
+
+abbrev pub held : {A : Type 0} → Lent A → A
+held x = now (x .entry)
+
+abbrev pub left : {A : Type 0} → Lent A → A
+left x = now (x .exit)
+
+-- the fleet that five lent lists hold
+abbrev pub fleetLent : Lent (List ℕ) → Lent (List ℕ) → Lent (List ℕ) → Lent (List ℕ) → Lent (List ℕ) → Fleet
+fleetLent rated reserve stored rating weight = fleetOf (held rated) (held reserve) (held stored) (held rating) (held weight)
+
 -- yb_pass: the number, need and changed
 pub record PassSeen (a : PassAnswer) (number : ℕ) (need need′ : ℤ) (changed changed′ : ℕ) : Type 0 where
   pub number-is : number ≡ numberOf (passCall a)
   pub need-is : need′ ≡ heldAfter (passCall a) (λ (p : Passed). p .need) need
   pub changed-is : changed′ ≡ heldAfter (passCall a) (λ (p : Passed). flag (p .changed)) changed
 
+abbrev pub PassTold : PassAnswer → ℕ → Lent ℤ → Lent ℕ → Type 0
+PassTold a number need changed = PassSeen a number (held need) (left need) (held changed) (left changed)
+
 -- yb_settle and yb_study: the number, settled and passes
 pub record StudySeen (c : Call Studied) (number settled settled′ passes passes′ : ℕ) : Type 0 where
   pub number-is : number ≡ numberOf c
   pub settled-is : settled′ ≡ heldAfter c (λ (r : Studied). flag (r .settled)) settled
   pub passes-is : passes′ ≡ heldAfter c (λ (r : Studied). r .passes) passes
+
+abbrev pub StudyTold : Call Studied → ℕ → Lent ℕ → Lent ℕ → Type 0
+StudyTold c number settled passes = StudySeen c number (held settled) (left settled) (held passes) (left passes)
 
 -- a study's settings in mode 1, its load and its budget
 abbrev pub trialOf : ℤ → ℤ → ℕ → ℕ → ℕ → Trial
@@ -65,6 +88,10 @@ pub record StepSeen (a : Stepped) (number : ℕ) (watts watts′ vars vars′ : 
   pub vars-is : vars′ ≡ heldAfter (stepCall a) (λ (o : Outcome). o .vars) vars
   pub stored-is : stored′ ≡ heldAfter (stepCall a) (λ (o : Outcome). o .stored) stored
   pub loss-is : loss′ ≡ heldAfter (stepCall a) (λ (o : Outcome). o .loss) loss
+
+abbrev pub StepTold : Stepped → ℕ → Lent ℤ → Lent ℤ → Lent ℕ → Lent ℕ → Type 0
+StepTold a number watts vars stored loss =
+    StepSeen a number (held watts) (left watts) (held vars) (left vars) (held stored) (left stored) (held loss) (left loss)
 
 -- yb_settings and yb_unit: what a file says, as a call's answer
 abbrev pub headSaid : List ℕ → Call Head

@@ -6,7 +6,6 @@ ghost use lib.ListN.{length};
 ghost use Rattle.whole.specs.Call.{numberOf, heldAfter};
 ghost use Rattle.reading.specs.Conversion.{wattsOf, wattsCall};
 ghost use Rattle.unit.specs.declared.Unit.{Unit};
-ghost use Rattle.controller.specs.Ranges.{fleetOf};
 ghost use Rattle.controller.specs.Answers.{passAnswer, passLeaves};
 ghost use Rattle.settling.specs.Answers.{studyAnswer, studyLeaves, studyCall};
 ghost use Rattle.storage.specs.Step.{steppedOf};
@@ -15,7 +14,7 @@ ghost use Rattle.stick.specs.Check.{checkOf};
 ghost use Rattle.parts.specs.Parts.{partStart, partSize};
 ghost use Rattle.season.specs.Answers.{roomOf, runAnswer, runLeaves};
 ghost use Rattle.ask.specs.Says.{unitsSaid, secondsSaid, fileStudy, fileStudyLeaves, fileStudyCall};
-ghost use Rattle.yesbrulka.specs.Calls.{settingsOf, PassSeen, trialOf, StudySeen, unitOf, StepSeen, headSaid, unitSaid};
+ghost use Rattle.yesbrulka.specs.Calls.{held, left, fleetLent, settingsOf, PassTold, trialOf, StudyTold, unitOf, StepTold, headSaid, unitSaid};
 use ask::HeadAnswer;
 use ask::UnitAnswer;
 use controller::PassAnswer;
@@ -115,8 +114,8 @@ pub extern "C" fn yb_pass(
     need: &mut i64,
     changed: &mut u8,
 ) -> u32
-    ensures { λ r. ⌜ PassSeen (passAnswer (settingsOf mode target band factor) measure (fleetOf (now (rated .entry)) (now (reserve .entry)) (now (stored .entry)) (now (rating .entry)) (now (weight .entry))) (now (requests .entry))) r (now (need .entry)) (now (need .exit)) (now (changed .entry)) (now (changed .exit)) ⌝ }
-    ensures { λ _. ⌜ now (requests .exit) ≡ passLeaves (settingsOf mode target band factor) measure (fleetOf (now (rated .entry)) (now (reserve .entry)) (now (stored .entry)) (now (rating .entry)) (now (weight .entry))) (now (requests .entry)) ⌝ }
+    ensures { λ r. ⌜ PassTold (passAnswer (settingsOf mode target band factor) measure (fleetLent rated reserve stored rating weight) (held requests)) r need changed ⌝ }
+    ensures { λ _. ⌜ left requests ≡ passLeaves (settingsOf mode target band factor) measure (fleetLent rated reserve stored rating weight) (held requests) ⌝ }
 {
     let s = Settings {
         mode,
@@ -153,8 +152,8 @@ pub extern "C" fn yb_settle(
     settled: &mut u8,
     passes: &mut u32,
 ) -> u32
-    ensures { λ r. ⌜ StudySeen (studyCall (studyAnswer (trialOf load target band factor budget) (fleetOf (now (rated .entry)) (now (reserve .entry)) (now (stored .entry)) (now (rating .entry)) (now (weight .entry))) (now (requests .entry)))) r (now (settled .entry)) (now (settled .exit)) (now (passes .entry)) (now (passes .exit)) ⌝ }
-    ensures { λ _. ⌜ now (requests .exit) ≡ studyLeaves (trialOf load target band factor budget) (fleetOf (now (rated .entry)) (now (reserve .entry)) (now (stored .entry)) (now (rating .entry)) (now (weight .entry))) (now (requests .entry)) ⌝ }
+    ensures { λ r. ⌜ StudyTold (studyCall (studyAnswer (trialOf load target band factor budget) (fleetLent rated reserve stored rating weight) (held requests))) r settled passes ⌝ }
+    ensures { λ _. ⌜ left requests ≡ studyLeaves (trialOf load target band factor budget) (fleetLent rated reserve stored rating weight) (held requests) ⌝ }
 {
     let settings = Settings {
         mode: 1,
@@ -200,7 +199,7 @@ pub extern "C" fn yb_step(
     stored_after: &mut u64,
     loss: &mut u64,
 ) -> u32
-    ensures { λ r. ⌜ StepSeen (steppedOf (unitOf rated reserve stored rating kva «idle_loss» «var_request» weight inverter charge discharge priority) seconds request) r (now (watts .entry)) (now (watts .exit)) (now (vars .entry)) (now (vars .exit)) (now («stored_after» .entry)) (now («stored_after» .exit)) (now (loss .entry)) (now (loss .exit)) ⌝ }
+    ensures { λ r. ⌜ StepTold (steppedOf (unitOf rated reserve stored rating kva «idle_loss» «var_request» weight inverter charge discharge priority) seconds request) r watts vars «stored_after» loss ⌝ }
 {
     let u = Unit {
         rated,
@@ -344,7 +343,7 @@ pub extern "C" fn yb_study(
     settled: &mut u8,
     passes: &mut u32,
 ) -> u32
-    ensures { λ r. ⌜ StudySeen (fileStudyCall (now (file .entry)) (fileStudy (now (file .entry)) load budget (now (requests .entry)))) r (now (settled .entry)) (now (settled .exit)) (now (passes .entry)) (now (passes .exit)) ⌝ }
+    ensures { λ r. ⌜ StudyTold (fileStudyCall (held file) (fileStudy (held file) load budget (held requests))) r settled passes ⌝ }
     ensures { λ _. ⌜ now (requests .exit) ≡ fileStudyLeaves (now (file .entry)) load budget (now (requests .entry)) ⌝ }
 {
     match ask::study(file, load, budget, requests) {

@@ -13,7 +13,8 @@ use Rattle.unit.specs.declared.Unit.{Unit}
 use Rattle.unit.specs.Ranges.{Ranged}
 use Rattle.site.specs.Site.{count}
 use Rattle.fleet.specs.Posts.{siteIn}
-use Rattle.fleet.proofs.SiteLaws.{unit-ranged, rows-count, row-unit}
+use Rattle.site.proofs.RangeLaws.{unit-ranged}
+use Rattle.fleet.proofs.SiteLaws.{rows-count, row-unit}
 use Rattle.fleet.proofs.StepLaws.{Giving, none-given, room-length, stored-length, next-within, one-more, given-is, all-stored, all-laid}
 use Rattle.fleet.proofs.steps.give_all.Statement.{statement}
 use Rattle.fleet.proofs.steps.give_all.Tie as tie
