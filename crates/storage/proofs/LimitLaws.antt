@@ -12,14 +12,14 @@ use mir.Syntax.{w32}
 use mir.Val.{toZ, ofZ}
 use borrow.Author.Tests.{leb-true, le-leb, eq-eqb, ne-eqb}
 use Rattle.whole.proofs.Choice.{by-test}
-use Rattle.whole.proofs.LargestLaws.{largest-le, largest-tops, largest-passes, largest-upto}
+use Rattle.whole.proofs.LargestLaws.{largest-le, largest-tops, largest-passes, largest-upto, leg-le}
 use Rattle.whole.proofs.SignLaws.{read}
 use Rattle.whole.specs.Largest.{legOf}
 use Rattle.whole.specs.Signed.{negative, signed}
 use Rattle.unit.proofs.RangeLaws.{Bounds}
 use Rattle.storage.proofs.EnergyLaws.{removed-test, added-test, added-none, drawn-none, drawable-most}
 use Rattle.unit.specs.declared.Unit.{Unit}
-use Rattle.storage.specs.Step.{heldSize, varsOf, removedBy, addedBy, deliverable, takeable}
+use Rattle.storage.specs.Step.{limitedVars, heldSize, varsOf, removedBy, addedBy, deliverable, takeable}
 
 -- ---- the held request
 module _ (u : Unit) (request : ℤ) where
@@ -43,12 +43,16 @@ module _ (u : Unit) (request : ℤ) where
       (λ t. omega arith)
       (λ t. omega arith)
 
+-- ---- a leg is at most S, so where it limits, v's size and the var request's are one
+leg-limits : (u : Unit) (y : ℕ) → min (natAbs (u .«var_request»)) (legOf (u .kva) y) ≡ min (limitedVars u) (legOf (u .kva) y)
+leg-limits u y = let l : legOf (u .kva) y ≤ u .kva = leg-le (u .kva) y in omega arith
+
 -- ---- the vars, from the sign and the sizes that the code has
 pub vars-are : (u : Unit) (watts : ℤ) → mag (u .«var_request») < 2 ^ 31 → mag watts < 2 ^ 31 → (below : Bool) (size side q : ℕ)
     → below ≡ negative (toZ w32 (ofZ w32 (u .«var_request»))) → size ≡ natAbs (toZ w32 (ofZ w32 (u .«var_request»)))
     → side ≡ natAbs (toZ w32 (ofZ w32 watts)) → q ≡ min size (legOf (u .kva) side) → signed below q ≡ varsOf u watts
 unfolding varsOf
-vars-are u watts hv hw below size side q eb es ed eq = cc (read w32 (u .«var_request») hv, read w32 watts hw)
+vars-are u watts hv hw below size side q eb es ed eq = cc (read w32 (u .«var_request») hv, read w32 watts hw, leg-limits u (natAbs watts))
 
 -- ---- the energy limits
 pub deliverable-most : (u : Unit) (s p : ℕ) → deliverable u s p ≤ p

@@ -20,7 +20,7 @@ use Rattle.storage.specs.declared.Flow.{Flow}
 use Rattle.storage.specs.declared.Flow.the-variants.{Out, In, Idle}
 use Rattle.unit.specs.Ranges.{idleDraw}
 use Rattle.storage.specs.Relied.{Conserved}
-use Rattle.storage.specs.Step.{heldSize, removedBy, addedBy, takeable, charged, flowOf, gridWatts, storedOf, lossOf, varsOf, outcomeOf}
+use Rattle.storage.specs.Step.{limitedVars, heldSize, removedBy, addedBy, takeable, charged, flowOf, gridWatts, storedOf, lossOf, varsOf, outcomeOf}
 
 -- ---- the vars leave the watts in the circle
 pub vars-in-circle : (u : Unit) (watts : ℤ) → natAbs watts ≤ u .kva
@@ -28,8 +28,8 @@ pub vars-in-circle : (u : Unit) (watts : ℤ) → natAbs watts ≤ u .kva
 unfolding varsOf
 vars-in-circle u watts h =
     let leg = legOf (u .kva) (natAbs watts) in
-    let q = min (natAbs (u .«var_request»)) leg in
-    let v : natAbs (varsOf u watts) ≤ leg = le-trans (le-of-eq (size-signed (negative (u .«var_request»)) q)) (min-le-right (natAbs (u .«var_request»)) leg) in
+    let q = min (limitedVars u) leg in
+    let v : natAbs (varsOf u watts) ≤ leg = le-trans (le-of-eq (size-signed (negative (u .«var_request»)) q)) (min-le-right (limitedVars u) leg) in
     let s : natAbs (varsOf u watts) * natAbs (varsOf u watts) ≤ leg * leg = square-le v in
     let c : leg * leg + natAbs watts * natAbs watts ≤ u .kva * u .kva = leg-in (u .kva) (natAbs watts) h in
     omega arith

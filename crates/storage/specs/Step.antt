@@ -22,12 +22,16 @@ directLoss u = u .«idle_loss»
 abbrev pub varLimit : Unit → ℕ
 varLimit u = u .kva
 
--- U3: the request that a unit holds is at most S in size; under var priority also at most the leg beside its limited var request
+-- the size of v, the var request brought down to that limit
+abbrev pub limitedVars : Unit → ℕ
+limitedVars u = min (natAbs (u .«var_request»)) (varLimit u)
+
+-- U3: the request that a unit holds is at most S in size; under var priority also at most the leg beside v
 unfoldable pub heldSize : Unit → ℤ → ℕ
 unfolding legOf
 heldSize u request =
     let p = min (natAbs request) (u .kva) in
-    cond (eqb (u .priority) 1) (min p (legOf (u .kva) (min (natAbs (u .«var_request»)) (varLimit u)))) p
+    cond (eqb (u .priority) 1) (min p (legOf (u .kva) (limitedVars u))) p
 
 -- U4: the joules that delivering p watts removes from the store
 unfoldable pub removedBy : Unit → ℕ → ℕ → ℕ
@@ -87,10 +91,10 @@ lossOf u seconds (Out x) = removedBy u seconds x - x * seconds
 lossOf u seconds (In x) = x * seconds - addedBy u seconds x
 lossOf u seconds Idle = idleDraw u * seconds
 
--- U12: last the vars, with the var request's sign, and the smaller of its size and the leg beside the watts
+-- U12: last the vars, with the var request's sign, and the smaller of v's size and the leg beside the watts
 unfoldable pub varsOf : Unit → ℤ → ℤ
 unfolding legOf
-varsOf u watts = signed (negative (u .«var_request»)) (min (natAbs (u .«var_request»)) (legOf (u .kva) (natAbs watts)))
+varsOf u watts = signed (negative (u .«var_request»)) (min (limitedVars u) (legOf (u .kva) (natAbs watts)))
 
 -- what a step gives, by what flows
 unfoldable pub outcomeOf : Unit → ℕ → Flow → Outcome
