@@ -18,7 +18,7 @@ use Rattle.controller.specs.declared.Asked.{Asked}
 use Rattle.controller.specs.declared.Passed.{Passed}
 use Rattle.controller.specs.declared.Totals.{Totals}
 use Rattle.controller.specs.Ranges.{Fleet, someAbove, someBelow}
-use Rattle.controller.specs.Pass.{total, charges, plainNeed, sumOfAll, needOf, rests, spent, inBand, allInBand, unitAfter, requestAfter, passOf, differ, changedOf}
+use Rattle.controller.specs.Pass.{total, charges, plainNeed, sumOfAll, needOf, rests, unable, spent, inBand, allInBand, unitAfter, requestAfter, passOf, differ, changedOf}
 use Rattle.controller.specs.Posts.{AskedOf, SameLengths, TotalsOf, Sharing, Sound, DonePass, fleetBy, columnBy, needFrom, restsBy, spentBy, unitsAfter}
 use Rattle.controller.proofs.DifferLaws.{same-same}
 use Rattle.controller.proofs.RuleLaws.{back64, read-sized, need-size, rests-is, band-is}
@@ -115,11 +115,9 @@ module _ (s : Settings) (m : ℤ) (f : Fleet) (rs : List ℤ) (sound : Sound s m
       spent-agrees = ee ∙ agree (t .rated) (t .reserve) (length (f .stored)) (et .rated) (et .reserve) (sound .lengths .stored)
         where
           agree : (x y z : ℕ) → x ≡ total (length rs) (f .rated) → y ≡ total (length rs) (f .reserve) → z ≡ length rs
-              → cond (eqb (s .mode) 3) (eqb (total z (f .stored)) x) (leb (total z (f .stored)) y)
-              ≡ cond (charges (s .mode)) (eqb (total (length rs) (f .stored)) (total (length rs) (f .rated))) (leb (total (length rs) (f .stored)) (total (length rs) (f .reserve)))
-          agree x y z ex ey ez =
-              ap₂ (λ (u v : ℕ). cond (eqb (s .mode) 3) (eqb (total v (f .stored)) u) (leb (total v (f .stored)) y)) ex ez
-              ∙ ap (λ (w : ℕ). cond (eqb (s .mode) 3) (eqb (total (length rs) (f .stored)) (total (length rs) (f .rated))) (leb (total (length rs) (f .stored)) w)) ey
+              → unable (charges (s .mode)) x y (total z (f .stored))
+              ≡ unable (charges (s .mode)) (total (length rs) (f .rated)) (total (length rs) (f .reserve)) (total (length rs) (f .stored))
+          agree x y z ex ey ez = cc
 
       -- ---- rule 4
       pub done-clear : empty ≡ true → (after : List ℤ) (changed : Bool) → after ≡ each (λ (i : ℕ) (r : ℤ). pos 0) rs → changed ≡ changedOf rs after

@@ -21,7 +21,7 @@ use Rattle.whole.proofs.QuotientLaws.{cut-size}
 use Rattle.whole.proofs.SignLaws.{read, size-sum, size-product, size-fits, signed-fits, wide-is, wide-size, plus-fits, plus-is, minus-fits, minus-is, times-fits, times-is}
 use Rattle.controller.specs.declared.Settings.{Settings}
 use Rattle.controller.specs.declared.Asked.{Asked}
-use Rattle.controller.specs.Pass.{total, charges, ownState, plainNeed, noCall, rests, inBand, allInBand, shareOf, limited, withMode, unitAfter}
+use Rattle.controller.specs.Pass.{total, charges, ownState, plainNeed, noCall, rests, unable, inBand, allInBand, shareOf, limited, withMode, unitAfter}
 use Rattle.controller.specs.Posts.{needFrom, spentBy}
 
 abbrev pub back32 : ℤ → ℤ
@@ -297,19 +297,20 @@ module _ (charging : Bool) (R : ℕ) (request share : ℤ) (hR : R ≤ 100000000
         read w32 r h ∙ e ∙ ap (λ (b : Bool). signed b R) neg-is
         ∙ sym (kept t ∙ limited-large R (request +ℤ share) (subst (λ (n : ℕ). R < n) size-is l))
 
--- ---- rule 4
-module _ (charging : Bool) (rated reserve : ℕ) (stored : List ℕ) (held : ℕ) (eh : held ≡ total (length stored) stored) where
-  pub full-is : charging ≡ true → eqb held rated ≡ spentBy charging rated reserve stored
-  unfolding spentBy
-  full-is e =
-      ap (λ (h : ℕ). eqb h rated) eh
-      ∙ sym (ap (λ (t : Bool). cond t (eqb (total (length stored) stored) rated) (leb (total (length stored) stored) reserve)) e)
+-- ---- rules 4 and 6: what is unable
+module _ (charging : Bool) (rated reserve stored : ℕ) where
+  pub full-is : charging ≡ true → eqb stored rated ≡ unable charging rated reserve stored
+  unfolding unable
+  full-is e = sym (ap (λ (t : Bool). cond t (eqb stored rated) (leb stored reserve)) e)
 
-  pub empty-is : charging ≡ false → leb held reserve ≡ spentBy charging rated reserve stored
-  unfolding spentBy
-  empty-is e =
-      ap (λ (h : ℕ). leb h reserve) eh
-      ∙ sym (ap (λ (t : Bool). cond t (eqb (total (length stored) stored) rated) (leb (total (length stored) stored) reserve)) e)
+  pub empty-is : charging ≡ false → leb stored reserve ≡ unable charging rated reserve stored
+  unfolding unable
+  empty-is e = sym (ap (λ (t : Bool). cond t (eqb stored rated) (leb stored reserve)) e)
+
+pub spent-is : (charging : Bool) (rated reserve : ℕ) (stored : List ℕ) (held : ℕ) → held ≡ total (length stored) stored
+    → unable charging rated reserve held ≡ spentBy charging rated reserve stored
+unfolding spentBy
+spent-is charging rated reserve stored held e = ap (unable charging rated reserve) e
 
 -- ---- rules 3 and 5: all units share one need, so one test stands for all
 and-self : (b : Bool) → (b && b) ≡ b

@@ -55,10 +55,14 @@ unfolding someAbove someBelow allOf
 rests s need rs =
     not (ownState (charges (s .mode)) rs) && allOf (length rs) (λ (i : ℕ). noCall (charges (s .mode)) (ownNeed s need i))
 
--- P4: where the total store is at most the total reserve (charging: is the total rated energy), all requests become 0
+-- nothing to give: at or below the reserve; charging, no room: full. P4 asks it of the fleet's sums, P6 of a unit
+unfoldable pub unable : Bool → ℕ → ℕ → ℕ → Bool
+unable charging rated reserve stored = cond charging (eqb stored rated) (leb stored reserve)
+
+-- P4: where the fleet is so in total, all requests become 0
 unfoldable pub spent : Bool → ℕ → Fleet → Bool
-unfolding sumOf
-spent charging n f = cond charging (eqb (total n (f .stored)) (total n (f .rated))) (leb (total n (f .stored)) (total n (f .reserve)))
+unfolding sumOf unable
+spent charging n f = unable charging (total n (f .rated)) (total n (f .reserve)) (total n (f .stored))
 
 -- P5: otherwise nothing changes where every unit is within the band: twice the size of its own need is at most the band
 unfoldable pub inBand : ℕ → ℤ → Bool

@@ -6,7 +6,6 @@ use mathlib.Core.Path.{_≡_}
 use lib.IntN.{ℤ, pos, natAbs, _+ℤ_}
 use lib.ListN.{length, getD}
 use lib.Signed.{ltZ}
-use lib.Dec.{leb, eqb}
 use Rattle.whole.specs.Over.{sumOf}
 use Rattle.unit.specs.declared.Unit.{Unit}
 use Rattle.unit.specs.Rows.{unitBy, unitsBy}
@@ -15,7 +14,7 @@ use Rattle.controller.specs.declared.Passed.{Passed}
 use Rattle.controller.specs.declared.Totals.{Totals}
 use Rattle.controller.specs.declared.Settings.{Settings}
 use Rattle.controller.specs.Ranges.{Fleet, fleetFor, someAbove, someBelow}
-use Rattle.controller.specs.Pass.{total, charges, plainNeed, sumOfAll, needOf, noCall, unitAfter, passOf, changedOf}
+use Rattle.controller.specs.Pass.{total, charges, plainNeed, sumOfAll, needOf, noCall, unable, unitAfter, passOf, changedOf}
 
 -- ---- the fleet as the code has it: rows of units, and what each holds now
 abbrev pub fleetBy : List (List ℕ) → List ℕ → Fleet
@@ -75,9 +74,8 @@ restsBy charging need a = not (cond charging (a .below) (a .above)) && noCall ch
 
 -- P4
 unfoldable pub spentBy : Bool → ℕ → ℕ → List ℕ → Bool
-unfolding sumOf
-spentBy charging rated reserve stored =
-    cond charging (eqb (total (length stored) stored) rated) (leb (total (length stored) stored) reserve)
+unfolding sumOf unable
+spentBy charging rated reserve stored = unable charging rated reserve (total (length stored) stored)
 
 -- energies that can be added up: at most 64, each at most 10^13 J
 pub record Addable (xs : List ℕ) : Type 0 where

@@ -2,7 +2,7 @@ ghost use mathlib.Core.Path.{_≡_};
 ghost use Prim.Native.Nat.{_≤_};
 ghost use mathlib.Core.Bool.{cond};
 ghost use lib.IntN.{natAbs, _+ℤ_};
-ghost use Rattle.controller.specs.Pass.{plainNeed, noCall, inBand, shareOf, limited, withMode};
+ghost use Rattle.controller.specs.Pass.{plainNeed, noCall, unable, inBand, shareOf, limited, withMode};
 ghost use Rattle.controller.specs.Posts.{needFrom, restsBy, spentBy, Addable};
 use super::Asked;
 use super::Settings;
@@ -69,16 +69,20 @@ pub fn rests(charging: bool, need: i64, a: Asked) -> bool
     !in_own_state(charging, a) & no_call(charging, need)
 }
 
-// P4: nothing left above the reserves, or, charging, no room.
+// Nothing above the reserve, or, charging, no room.
+pub fn unable(charging: bool, rated: u64, reserve: u64, stored: u64) -> bool
+    ensures { λ r. ⌜ r ≡ unable charging rated reserve stored ⌝ }
+{
+    if charging { stored == rated } else { stored <= reserve }
+}
+
+// P4: so it is with the whole fleet.
 pub fn is_spent(charging: bool, rated: u64, reserve: u64, stored: &[u64]) -> bool
     requires { ⌜ Addable (now stored) ⌝ }
     ensures { λ r. ⌜ r ≡ spentBy charging rated reserve (now (stored .entry)) ⌝ }
 {
     let held = sums::energy(stored);
-    if charging {
-        return held == rated;
-    }
-    held <= reserve
+    unable(charging, rated, reserve, held)
 }
 
 // P5: twice the need's size is within the band.
