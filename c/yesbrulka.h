@@ -172,7 +172,8 @@ uint32_t yb_watts(double kw, int32_t *watts);
 ** rating in size, and no two are of different signs.
 **
 ** Stores the new requests over the old ones, in *need the need in W that the pass found, and in *changed 1
-** if a request is another than before, else 0.
+** if a request is another than before, else 0. Where the need is shared, a unit that cannot help gets 0: in
+** modes 1 and 2 one at or below its reserve, in mode 3 a full one. Its weight counts all the same.
 **
 ** Returns 0, or the first of these that holds:
 **    10  the lists are not of one length, or it is 0 or above 64

@@ -61,15 +61,40 @@ static void test_pass_figures(void)
     check_pass(&n, &one, 0, 100, 1, (int32_t[]){0});
 }
 
+/* Seven units, of which the fifth is at its reserve or below it, full, or one joule beside. */
+static void test_units_that_cannot_help(void)
+{
+    static const uint64_t fifth[] = {0, 99, 100, 101, 999, 1000};
+    for (size_t j = 0; j < sizeof fifth / sizeof fifth[0]; j++) {
+        struct numbers n = plain;
+        struct lists seven = fleet_of(7);
+        int32_t asked[7];
+        seven.stored[5] = fifth[j];
+        for (int i = 0; i < 7; i++) {
+            seven.requests[i + 1] = 500;
+            asked[i] = i == 4 && fifth[j] <= 100 ? 0 : 450;
+        }
+        n.measure = -350;
+        check_pass(&n, &seven, 0, -350, 1, asked);
+        n.mode = 3;
+        n.measure = 350;
+        for (int i = 0; i < 7; i++) {
+            seven.requests[i + 1] = -500;
+            asked[i] = i == 4 && fifth[j] == 1000 ? 0 : -450;
+        }
+        check_pass(&n, &seven, 0, 350, 1, asked);
+    }
+}
+
 /* The whole fleet with everything as large as it can be. */
 static void test_largest_fleet(void)
 {
     struct lists fleet = fleet_of(64);
-    int32_t all_rated[64], none[64], shares[64];
+    int32_t all_rated[64], none[64], shares[64], last[64];
     struct numbers n = {3, 100000000, 200000000, 1000, -300000000, 10000};
     for (int i = 0; i < 64; i++) {
         fleet.rated[i + 1] = UINT64_C(10000000000000);
-        fleet.reserve[i + 1] = UINT64_C(10000000000000) - (i == 63);
+        fleet.reserve[i + 1] = UINT64_C(10000000000000) - 2;
         fleet.stored[i + 1] = UINT64_C(10000000000000);
         fleet.rating[i + 1] = 100000000;
         fleet.weight[i + 1] = 10000;
@@ -77,11 +102,12 @@ static void test_largest_fleet(void)
         all_rated[i] = -100000000;
         none[i] = 0;
         shares[i] = -6250000;
+        last[i] = i == 63 ? 100000000 - 6250000 : 0;
     }
     /* Full to the last joule, and not. */
     check_pass(&n, &fleet, 0, -400000000, 1, none);
-    fleet.stored[64]--;
-    fleet.reserve[64]--;
+    for (int i = 1; i <= 64; i++)
+        fleet.stored[i]--;
     check_pass(&n, &fleet, 0, -400000000, 0, all_rated);
     memset(&fleet.requests[1], 0, sizeof none);
     check_pass(&n, &fleet, 0, -400000000, 1, shares);
@@ -101,10 +127,14 @@ static void test_largest_fleet(void)
     }
     memcpy(&fleet.requests[1], all_rated, sizeof all_rated);
     check_pass(&n, &fleet, 0, -400000000, 1, shares);
-    /* Down to the last joule of the reserve. */
-    fleet.reserve[64]++;
+    /* Down to the last joule of the reserve, and one unit that has one more. */
+    for (int i = 1; i <= 64; i++)
+        fleet.reserve[i]++;
     check_pass(&n, &fleet, 0, -400000000, 1, none);
     fleet.reserve[64]--;
+    check_pass(&n, &fleet, 0, -400000000, 1, last);
+    for (int i = 1; i < 64; i++)
+        fleet.reserve[i]--;
     n.mode = 3;
     n.target = -100000000;
     n.measure = 300000000;
@@ -119,6 +149,7 @@ static void test_largest_fleet(void)
 
 const struct test pass_tests[] = {
     {"yb_pass: the document's figures B1 to B5", test_pass_figures},
+    {"yb_pass: units that are empty or full", test_units_that_cannot_help},
     {"yb_pass, yb_settle: the largest fleet", test_largest_fleet},
     {NULL, NULL},
 };

@@ -64,6 +64,16 @@ impl Fleet {
         })
     }
 
+    /// The unit cannot help in a pass that discharges, being at or below its reserve, or that charges, being
+    /// full.
+    pub fn idles(&self, unit: usize, pass: State) -> bool {
+        match pass {
+            State::Idle => false,
+            State::Discharging => self.stored[unit] <= self.reserve[unit],
+            State::Charging => self.stored[unit] == self.rated[unit],
+        }
+    }
+
     /// No request is beyond its unit's rating in size, and no two are of different signs.
     fn takes(&self, requests: &[i32]) -> bool {
         let beyond = requests.iter().zip(&self.rating).any(|(r, &rating)| r.unsigned_abs() > rating);
@@ -156,10 +166,15 @@ fn rules(settings: &Settings, measure: i64, fleet: &Fleet, requests: &[i32]) -> 
         return (need, 5, requests.to_vec());
     }
 
-    // 6. The shares.
+    // 6. The shares. Every weight counts, and a battery that has nothing to give, or nowhere to put it, is
+    // asked for nothing.
     let weights: u64 = fleet.weight.iter().map(|&weight| u64::from(weight)).sum();
     let mut new = Vec::new();
     for (i, &request) in requests.iter().enumerate() {
+        if fleet.idles(i, own) {
+            new.push(0);
+            continue;
+        }
         let portion = need * i64::from(fleet.weight[i]) * i64::from(settings.factor);
         let share = quotient_cut(portion, weights * 1_000);
         let rating = i64::from(fleet.rating[i]);
@@ -329,6 +344,94 @@ mod tests {
         fleet.stored = vec![1_000, 999];
         let passed = pass(&settings(3, 0, 20, 1_000), -1, &fleet, &mut requests).unwrap();
         assert_eq!(passed.rule, 5);
+    }
+
+    /// Seven units, of which one is at its reserve (full, where they charge): all seven share, six are asked.
+    #[test]
+    fn a_depleted_unit_counts_and_is_not_asked() {
+        let answers: [(i64, [i32; 7]); 4] = [
+            (707, [601, 601, 601, 601, 0, 601, 601]),
+            (-350, [450, 450, 450, 450, 0, 450, 450]),
+            (-3_499, [1, 1, 1, 1, 0, 1, 1]),
+            (-3_500, [0; 7]),
+        ];
+        for (need, asked) in answers {
+            let mut fleet = half_full(&[1_000; 7], &[1; 7]);
+            fleet.stored[4] = 100;
+            let mut requests = [500; 7];
+            let passed = pass(&settings(1, 0, 0, 1_000), need, &fleet, &mut requests).unwrap();
+            assert_eq!((passed.need, passed.rule, requests), (need, 6, asked));
+            fleet.stored[4] = 1_000;
+            let mut requests = [-500; 7];
+            let passed = pass(&settings(3, 0, 0, 1_000), -need, &fleet, &mut requests).unwrap();
+            assert_eq!((passed.need, passed.rule, requests), (-need, 6, asked.map(|r| -r)));
+        }
+    }
+
+    /// Where the pass ends before the shares, a depleted unit keeps what it was asked for.
+    #[test]
+    fn a_depleted_unit_is_let_go_by_the_shares_alone() {
+        let mut fleet = half_full(&[1_000; 2], &[1; 2]);
+        fleet.stored[0] = 99;
+        let mut requests = [30, 40];
+        let passed = pass(&settings(1, 0, 20, 1_000), 10, &fleet, &mut requests).unwrap();
+        assert_eq!((passed, requests), (Passed { need: 10, changed: false, rule: 5 }, [30, 40]));
+        let mut requests = [-30, -40];
+        let passed = pass(&settings(1, 0, 0, 1_000), 70, &fleet, &mut requests).unwrap();
+        assert_eq!((passed, requests), (Passed { need: 0, changed: false, rule: 3 }, [-30, -40]));
+        let passed = pass(&settings(1, 0, 0, 1_000), 200, &fleet, &mut requests).unwrap();
+        assert_eq!((passed, requests), (Passed { need: 130, changed: true, rule: 6 }, [0, 25]));
+    }
+
+    /// The settling law, sentence by sentence, over what the reference's passes leave.
+    #[test]
+    fn the_settling_law() {
+        let mut draw = Draw::from_seed(54);
+        let (mut depleted, mut settled) = (0, 0);
+        for _ in 0..3_000 {
+            let call = fleets::study_call(6, 60, &mut draw);
+            let fleet = &call.fleet;
+            let above = |i: usize| fleet.stored[i] > fleet.reserve[i];
+            let total = |list: &[u64]| list.iter().sum::<u64>();
+            let target = i64::from(call.target);
+            if total(&fleet.stored) <= total(&fleet.reserve) || call.load <= target {
+                continue;
+            }
+            let weights: i64 = fleet.weight.iter().map(|&weight| i64::from(weight)).sum();
+            let ratings: i64 =
+                (0..fleet.rating.len()).filter(|&i| above(i)).map(|i| i64::from(fleet.rating[i])).sum();
+            let mut requests = vec![0; fleet.rating.len()];
+            let mut changing = 0;
+            for _ in 0..call.budget {
+                let before = requests.clone();
+                let gap = call.load - before.iter().map(|&r| i64::from(r)).sum::<i64>() - target;
+                assert!(gap >= 0);
+                let settings = settings(1, call.target, call.band, call.factor);
+                let passed = pass(&settings, gap + target, fleet, &mut requests).unwrap();
+                changing += i64::from(passed.changed);
+                assert!(changing <= call.load - target && changing <= ratings);
+                for i in 0..requests.len() {
+                    assert!(before[i] <= requests[i] && i64::from(requests[i]) <= i64::from(fleet.rating[i]));
+                    if !above(i) {
+                        depleted += 1;
+                        assert_eq!(requests[i], 0);
+                        continue;
+                    }
+                    let below = requests[i] < fleet.rating[i] as i32;
+                    for j in (0..requests.len()).filter(|&j| above(j) && fleet.weight[j] <= fleet.weight[i]) {
+                        assert!(!below || requests[j] <= requests[i]);
+                    }
+                    let share = i128::from(gap) * i128::from(fleet.weight[i]) * i128::from(call.factor);
+                    let done = 2 * gap <= call.band.into() || !below || share < i128::from(weights) * 1_000;
+                    assert!(passed.changed || done);
+                }
+                if !passed.changed {
+                    settled += 1;
+                    break;
+                }
+            }
+        }
+        assert!(depleted > 1_000 && settled > 500, "{depleted} depleted, {settled} settled");
     }
 
     fn refused_pass(mut call: PassCall) -> Option<u32> {

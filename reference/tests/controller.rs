@@ -194,7 +194,7 @@ fn compare_studies(calls: impl IntoIterator<Item = StudyCall>) -> BTreeMap<(u32,
 
 #[test]
 fn passes_and_studies_of_the_documents_figures() {
-    let answers: [(i64, u8, &[i32]); 13] = [
+    let answers: [(i64, u8, &[i32]); 16] = [
         (100, 1, &[33, 33, 33]),
         (-100, 1, &[-33, -33, -33]),
         (100, 1, &[66, 33]),
@@ -208,6 +208,9 @@ fn passes_and_studies_of_the_documents_figures() {
         (25, 1, &[100, 187]),
         (13, 1, &[100, 193]),
         (7, 0, &[100, 193]),
+        (-350, 1, &[450, 450, 450, 450, 0, 450, 450]),
+        (707, 1, &[601, 601, 601, 601, 0, 601, 601]),
+        (-707, 1, &[-601, -601, -601, -601, 0, -601, -601]),
     ];
     let calls = fleets::figure_passes();
     assert_eq!(calls.len(), answers.len());
@@ -244,6 +247,43 @@ fn passes_over_fleets_of_a_few_units() {
     let mut draw = Draw::from_seed(201);
     let met = compare_passes((0..300_000).map(|_| fleets::pass_call(5, &mut draw)));
     each_rule_decides(&met, 700);
+}
+
+/// Units at their reserves and rated energies and one joule beside them, in every mode and state: how often
+/// the shares met each, and that those which cannot help get 0.
+#[test]
+fn passes_over_units_beside_their_reserves_and_rated_energies() {
+    let mut draw = Draw::from_seed(212);
+    let mut near = BTreeMap::new();
+    let calls: Vec<PassCall> = (0..220_000)
+        .map(|round| fleets::beside_call(if round % 16 == 0 { 64 } else { 6 }, &mut draw))
+        .collect();
+    for call in &calls {
+        let (left, rule) = expected_pass(call);
+        if rule != 6 {
+            continue;
+        }
+        let mode = call.settings.mode;
+        for (unit, request) in left.requests.iter().enumerate() {
+            let Some((end, by)) = fleets::beside(&call.fleet, unit) else { continue };
+            let helpless = if mode == 3 { (end, by) == ("rated", 0) } else { end == "reserve" && by <= 0 };
+            assert!(!helpless || *request == 0);
+            let asked = *request != 0;
+            let state = call.requests.iter().map(|request| request.signum()).find(|&sign| sign != 0);
+            *near.entry((mode, state.unwrap_or(0), end, by, asked)).or_insert(0u32) += 1;
+        }
+    }
+    for mode in 1..=3 {
+        for state in [-1, 0, 1] {
+            for (end, by) in [("reserve", -1), ("reserve", 0), ("reserve", 1), ("rated", -1), ("rated", 0)] {
+                let helpless =
+                    if mode == 3 { (end, by) == ("rated", 0) } else { end == "reserve" && by <= 0 };
+                let count = near.get(&(mode, state, end, by, !helpless)).copied().unwrap_or(0);
+                assert!(count > 1_000, "mode {mode}, sign {state}, {end} {by}: {count}");
+            }
+        }
+    }
+    each_rule_decides(&compare_passes(calls), 100);
 }
 
 #[test]

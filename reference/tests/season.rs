@@ -67,7 +67,14 @@ impl Met {
                 }
                 None => self.note_if(step.records.iter().any(|r| r.request != 0), "requests stood"),
             }
+            let charges = run.site.settings.mode == 3;
             for (i, (unit, record)) in run.site.units.iter().zip(&step.records).enumerate() {
+                if step.passed.is_some_and(|passed| passed.rule == 6) {
+                    let helpless = if charges { stored[i] == unit.rated } else { stored[i] <= unit.reserve };
+                    assert!(!helpless || record.request == 0);
+                    self.note_if(helpless && charges, "full and not asked");
+                    self.note_if(helpless && !charges, "empty and not asked");
+                }
                 let before = if k == 0 { 0 } else { steps[k - 1].records[i].request };
                 self.note_if(record.request.unsigned_abs() < before.unsigned_abs(), "a request taken back");
                 self.unit_step(unit, stored[i], record);
@@ -99,7 +106,7 @@ impl Met {
             self.note_if(!still && given == size, "gave it all");
             self.note_if(!still && given < size, "ran empty");
             self.note_if(still && stored >= unit.reserve, "was empty");
-            self.note_if(stored < unit.reserve, "was below its reserve");
+            assert!(stored >= unit.reserve, "no run asks a unit below its reserve");
         }
         if request < 0 && size > 0 {
             self.note_if(!still && given == size, "took it all");
@@ -323,7 +330,8 @@ fn runs_of_every_fleet_size() {
     met.more_than(10, "units", 1..=64);
     met.more_than(200, "number", [0, 11]);
     met.all_of(100, &["no steps", "an exact room", "a longer room", "a room one short"]);
-    met.all_of(500, &["ran empty", "was empty", "ran full", "was full"]);
+    met.all_of(500, &["ran empty", "was empty", "ran full", "empty and not asked", "full and not asked"]);
+    met.all_of(50, &["was full"]);
 }
 
 /// A few units and a few steps, in every mode and phase choice.
@@ -348,8 +356,12 @@ fn many_small_runs() {
     met.all_of(1_000, &["requests stood", "a request taken back"]);
     met.all_of(200, &["an exhausted fleet stopped"]);
     met.all_of(1_000, &["a request at its rating", "a request beyond S", "watts cut by vars", "vars cut"]);
-    met.all_of(1_000, &["vars below zero", "gave it all", "ran empty", "was empty", "was below its reserve"]);
-    met.all_of(500, &["took it all", "ran full", "was full", "had too little room", "neither gave nor took"]);
+    met.all_of(1_000, &["vars below zero", "gave it all", "ran empty", "was empty", "empty and not asked"]);
+    met.all_of(
+        500,
+        &["took it all", "ran full", "full and not asked", "had too little room", "neither gave nor took"],
+    );
+    met.all_of(100, &["was full"]);
 }
 
 /// Days of quarter hours and the like, over which a store goes from one end to the other.
@@ -363,7 +375,8 @@ fn runs_of_some_length() {
     }
     let met = runs.end(400);
     met.all_of(100, &["ran empty", "ran full"]);
-    met.all_of(2_000, &["was empty", "was full", "requests stood"]);
+    met.all_of(2_000, &["was empty", "empty and not asked", "full and not asked", "requests stood"]);
+    met.all_of(20, &["was full"]);
     met.all_of(20, &["an exhausted fleet stopped"]);
 }
 
@@ -439,7 +452,8 @@ fn runs_at_the_ends_of_the_ranges() {
     }
     let met = runs.end(5_000);
     met.more_than(500, "rule", 3..=6);
-    met.all_of(100, &["ran empty", "was empty", "ran full", "was full", "was below its reserve"]);
+    met.all_of(100, &["ran empty", "was empty", "ran full", "empty and not asked", "full and not asked"]);
+    met.all_of(30, &["was full"]);
 }
 
 /// A refused file leaves the room as it was, however long that is.

@@ -422,7 +422,7 @@ fn files_cut_and_changed_at_every_byte() {
         }
     }
     for units in [1, 1, 1, 2, 3] {
-        let file = sticks::file(&sticks::run(units, 2, &mut draw));
+        let file = sticks::file(&sticks::run(units, 4, &mut draw));
         for place in 0..file.len() {
             let any = 1 + draw.below(255) as u8;
             for change in (0..8).map(|bit| 1 << bit).chain([0xFF, any]) {

@@ -244,7 +244,7 @@ fn studies_with_a_load_or_a_budget_at_an_end_or_beside_it() {
     let met = studies.end(300, 300 * 23);
     met.more_than(60, "mode", 1..=3);
     met.more_than(1_000, "number", [0, 5]);
-    met.more_than(500, "settled", 0..=1);
+    met.more_than(300, "settled", 0..=1);
 }
 
 /// The list's length is refused before the load and the budget are looked at.

@@ -17,11 +17,18 @@ use Rattle.unit.specs.Rows.{rowOf, unitBy}
 use Rattle.unit.proofs.RowLaws.{column-at, column-count}
 use Rattle.controller.specs.Ranges.{Fleet, fleetOf}
 use Rattle.controller.specs.Pass.{total}
-use Rattle.controller.specs.Posts.{SameLengths, MemberRow, TotalsOf, Addable, fleetBy, columnBy}
+use Rattle.controller.specs.Posts.{SameLengths, MemberRow, TotalsOf, Addable, fleetBy, columnBy, nextBy, sharedBy}
 
 -- past its end a column has 0
 pub column-is : (value : Unit → ℕ) → value (unitBy []) ≡ 0 → (rows : List (List ℕ)) (i : ℕ) → getD (columnBy value rows) i 0 ≡ value (unitBy (getD rows i []))
 column-is value none rows i = ap (getD (columnBy value rows) i) (sym none) ∙ column-at value rows i
+
+-- a unit's next request is that of its row
+pub next-at : (charging : Bool) (factor : ℕ) (need : ℤ) (weights : ℕ) (rows : List (List ℕ)) (stored : List ℕ) (i : ℕ) (r : ℤ)
+    → nextBy charging factor need weights (unitBy (getD rows i [])) (getD stored i 0) r ≡ sharedBy charging factor need weights (fleetBy rows stored) i r
+unfolding nextBy unitBy
+next-at charging factor need weights rows stored i r =
+    rw (column-is (λ (u : Unit). u .rated) refl rows i, column-is (λ (u : Unit). u .reserve) refl rows i, column-is (λ (u : Unit). u .rating) refl rows i, column-is (λ (u : Unit). u .weight) refl rows i)
 
 -- a column that has a list's values is that list
 pub column-list : (value : Unit → ℕ) → value (unitBy []) ≡ 0 → (rows : List (List ℕ)) (l : List ℕ) → length l ≡ length rows

@@ -13,7 +13,7 @@ use Rattle.whole.proofs.OverLaws.{none-of, each-length, each-at}
 use Rattle.controller.specs.declared.Settings.{Settings}
 use Rattle.controller.specs.Ranges.{Fleet, someAbove, someBelow}
 use Rattle.controller.specs.OneSign.{OneSign, OneSignLaw}
-use Rattle.controller.specs.Pass.{total, charges, needOf, rests, spent, allInBand, shareOf, limited, withMode, requestAfter, passOf}
+use Rattle.controller.specs.Pass.{total, charges, needOf, rests, spent, allInBand, shareOf, limited, withMode, unableAt, requestAfter, passOf}
 
 left-none : (a b : Bool) → a ≡ false → (a && b) ≡ false
 left-none a b e = ap (λ (x : Bool). x && b) e
@@ -47,9 +47,14 @@ not-below : (z : ℤ) → ltZ (withMode false z) (pos 0) ≡ false
 unfolding withMode
 not-below z = by-test (λ (x : ℤ). ltZ x (pos 0) ≡ false) (ltZ z (pos 0)) (pos 0) z (λ t. refl) (λ t. t)
 
+-- 0, or a number of which the same holds
+or-none : (P : ℤ → Type 0) (b : Bool) (z : ℤ) → P (pos 0) → P z → P (cond b (pos 0) z)
+or-none P b z x y = by-test P b (pos 0) z (λ t. x) (λ t. y)
+
 -- what rule 6 makes of the requests
 mode-rules : (s : Settings) (n : ℕ) (f : Fleet) (need : ℤ) (i : ℕ) (r : ℤ)
-    → requestAfter s n f need i r ≡ withMode (charges (s .mode)) (limited (getD (f .rating) i 0) (r +ℤ shareOf (s .factor) need (getD (f .weight) i 0) (total n (f .weight))))
+    → requestAfter s n f need i r
+    ≡ cond (unableAt (charges (s .mode)) f i) (pos 0) (withMode (charges (s .mode)) (limited (getD (f .rating) i 0) (r +ℤ shareOf (s .factor) need (getD (f .weight) i 0) (total n (f .weight)))))
 unfolding requestAfter
 mode-rules s n f need i r = refl
 
@@ -58,12 +63,14 @@ shared s n f need rs true e =
     none-above (requestAfter s n f need) rs
     (λ i r.
     let z = limited (getD (f .rating) i 0) (r +ℤ shareOf (s .factor) need (getD (f .weight) i 0) (total n (f .weight))) in
-    ap (ltZ (pos 0)) (mode-rules s n f need i r ∙ ap (λ (b : Bool). withMode b z) e) ∙ not-above z)
+    ap (ltZ (pos 0)) (mode-rules s n f need i r)
+    ∙ or-none (λ (x : ℤ). ltZ (pos 0) x ≡ false) (unableAt (charges (s .mode)) f i) (withMode (charges (s .mode)) z) refl (ap (λ (b : Bool). ltZ (pos 0) (withMode b z)) e ∙ not-above z))
 shared s n f need rs false e =
     none-below (requestAfter s n f need) rs
     (λ i r.
     let z = limited (getD (f .rating) i 0) (r +ℤ shareOf (s .factor) need (getD (f .weight) i 0) (total n (f .weight))) in
-    ap (λ (x : ℤ). ltZ x (pos 0)) (mode-rules s n f need i r ∙ ap (λ (b : Bool). withMode b z) e) ∙ not-below z)
+    ap (λ (x : ℤ). ltZ x (pos 0)) (mode-rules s n f need i r)
+    ∙ or-none (λ (x : ℤ). ltZ x (pos 0) ≡ false) (unableAt (charges (s .mode)) f i) (withMode (charges (s .mode)) z) refl (ap (λ (b : Bool). ltZ (withMode b z) (pos 0)) e ∙ not-below z))
 
 pub one-sign : OneSignLaw
 unfolding passOf

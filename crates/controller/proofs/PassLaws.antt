@@ -18,8 +18,8 @@ use Rattle.controller.specs.declared.Asked.{Asked}
 use Rattle.controller.specs.declared.Passed.{Passed}
 use Rattle.controller.specs.declared.Totals.{Totals}
 use Rattle.controller.specs.Ranges.{Fleet, someAbove, someBelow}
-use Rattle.controller.specs.Pass.{total, charges, plainNeed, sumOfAll, needOf, rests, unable, spent, inBand, allInBand, unitAfter, requestAfter, passOf, differ, changedOf}
-use Rattle.controller.specs.Posts.{AskedOf, SameLengths, TotalsOf, Sharing, Sound, DonePass, fleetBy, columnBy, needFrom, restsBy, spentBy, unitsAfter}
+use Rattle.controller.specs.Pass.{total, charges, plainNeed, sumOfAll, needOf, rests, unable, spent, inBand, allInBand, requestAfter, passOf, differ, changedOf}
+use Rattle.controller.specs.Posts.{AskedOf, SameLengths, TotalsOf, Sharing, Sound, DonePass, fleetBy, columnBy, needFrom, restsBy, spentBy, sharedBy}
 use Rattle.controller.proofs.DifferLaws.{same-same}
 use Rattle.controller.proofs.RuleLaws.{back64, read-sized, need-size, rests-is, band-is}
 
@@ -144,14 +144,13 @@ module _ (s : Settings) (m : ℤ) (f : Fleet) (rs : List ℤ) (sound : Sound s m
         }
 
         -- ---- rule 6
-        shared-is : each (unitsAfter (eqb (s .mode) 3) (s .factor) (back64 need) (t .weight) (f .rating) (f .weight)) rs ≡ each (requestAfter s (length rs) f (needOf s m rs)) rs
+        shared-is : each (sharedBy (eqb (s .mode) 3) (s .factor) (back64 need) (t .weight) f) rs ≡ each (requestAfter s (length rs) f (needOf s m rs)) rs
         unfolding requestAfter
         shared-is =
-            ap₂ (λ (z : ℤ) (w : ℕ). each (λ (i : ℕ) (r : ℤ). unitAfter (eqb (s .mode) 3) (s .factor) z w (getD (f .rating) i 0) (getD (f .weight) i 0) r) rs)
-            both (et .weight)
+            ap₂ (λ (z : ℤ) (w : ℕ). each (sharedBy (eqb (s .mode) 3) (s .factor) z w f) rs) both (et .weight)
 
         pub done-shares : close ≡ false → (after : List ℤ) (changed : Bool)
-            → after ≡ each (unitsAfter (eqb (s .mode) 3) (s .factor) (back64 need) (t .weight) (f .rating) (f .weight)) rs → changed ≡ changedOf rs after
+            → after ≡ each (sharedBy (eqb (s .mode) 3) (s .factor) (back64 need) (t .weight) f) rs → changed ≡ changedOf rs after
             → DonePass s m f rs after (record { need = back64 need; changed = changed })
         done-shares t after changed e h = record {
           requests = e ∙ shared-is ∙ sym (goes-on ∙ ap (λ (b : Bool). cond b rs (each (requestAfter s (length rs) f (needOf s m rs)) rs)) t);
@@ -161,7 +160,7 @@ module _ (s : Settings) (m : ℤ) (f : Fleet) (rs : List ℤ) (sound : Sound s m
 
 -- what rule 6 asks for
 pub sharing : (s : Settings) (m : ℤ) (f : Fleet) (n : ℕ) → Sound s m f n → (t : Totals) → TotalsFor f n t → (need : ℤ) → natAbs need ≤ 400000000000
-    → Sharing (s .factor) need (t .weight) (f .rating) (f .weight) n
+    → Sharing (s .factor) need (t .weight) f n
 sharing s m f n sound t et need h = record {
   need-small = h;
   factor-small = sound .factor-small;
@@ -169,8 +168,7 @@ sharing s m f n sound t et need h = record {
       let sum : total n (f .weight) ≤ n * 10000 = sum-upto n 10000 (λ (i : ℕ). getD (f .weight) i 0) (λ i l. sound .weight-small i) in
       let few : n ≤ 64 = sound .few in
       omega (arith, et .weight);
-  ratings = sound .lengths .rating;
-  weighings = sound .lengths .weight;
+  lengths = sound .lengths;
   few = sound .few;
   rating-small = sound .rating-small;
   weight-small = sound .weight-small;

@@ -22,7 +22,8 @@ use Rattle.whole.proofs.SignLaws.{read, size-sum, size-product, size-fits, sign
 use Rattle.controller.specs.declared.Settings.{Settings}
 use Rattle.controller.specs.declared.Asked.{Asked}
 use Rattle.controller.specs.Pass.{total, charges, ownState, plainNeed, noCall, rests, unable, inBand, allInBand, shareOf, limited, withMode, unitAfter}
-use Rattle.controller.specs.Posts.{needFrom, spentBy}
+use Rattle.unit.specs.declared.Unit.{Unit}
+use Rattle.controller.specs.Posts.{needFrom, spentBy, nextBy}
 
 abbrev pub back32 : ℤ → ℤ
 back32 z = toZ w32 (ofZ w32 z)
@@ -341,3 +342,13 @@ unfolding unitAfter
 unit-is charging factor need all R weight old part r ho hp hr ep er =
     read w32 r hr ∙ er
     ∙ ap₂ (λ (x y : ℤ). withMode charging (limited R (x +ℤ y))) (read w32 old ho) (read w64 part hp ∙ ep)
+
+-- and of the whole unit
+module _ (charging : Bool) (factor : ℕ) (need : ℤ) (weights : ℕ) (u : Unit) (held : ℕ) (old : ℤ) where
+  pub next-none : unable charging (u .rated) (u .reserve) held ≡ true → pos 0 ≡ nextBy charging factor need weights u held old
+  unfolding nextBy
+  next-none e = sym (ap (λ (t : Bool). cond t (pos 0) (unitAfter charging factor need weights (u .rating) (u .weight) old)) e)
+
+  pub next-some : unable charging (u .rated) (u .reserve) held ≡ false → unitAfter charging factor need weights (u .rating) (u .weight) old ≡ nextBy charging factor need weights u held old
+  unfolding nextBy
+  next-some e = sym (ap (λ (t : Bool). cond t (pos 0) (unitAfter charging factor need weights (u .rating) (u .weight) old)) e)

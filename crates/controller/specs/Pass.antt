@@ -89,10 +89,15 @@ unfoldable pub unitAfter : Bool → ℕ → ℤ → ℕ → ℕ → ℕ → ℤ 
 unfolding shareOf limited withMode
 unitAfter charging factor need weights rating weight request = withMode charging (limited rating (request +ℤ shareOf factor need weight weights))
 
+-- a unit with nothing to give, charging a full one, gets 0; its weight stays in the sum
+abbrev pub unableAt : Bool → Fleet → ℕ → Bool
+unableAt charging f i = unable charging (getD (f .rated) i 0) (getD (f .reserve) i 0) (getD (f .stored) i 0)
+
 unfoldable pub requestAfter : Settings → ℕ → Fleet → ℤ → ℕ → ℤ → ℤ
-unfolding unitAfter sumOf
+unfolding unable unitAfter sumOf
 requestAfter s n f need i request =
-    unitAfter (charges (s .mode)) (s .factor) (ownNeed s need i) (total n (f .weight)) (getD (f .rating) i 0) (getD (f .weight) i 0) request
+    cond (unableAt (charges (s .mode)) f i) (pos 0)
+    (unitAfter (charges (s .mode)) (s .factor) (ownNeed s need i) (total n (f .weight)) (getD (f .rating) i 0) (getD (f .weight) i 0) request)
 
 -- the requests after a pass
 unfoldable pub passOf : Settings → ℤ → Fleet → List ℤ → List ℤ

@@ -14,7 +14,7 @@ use Rattle.controller.specs.declared.Passed.{Passed}
 use Rattle.controller.specs.declared.Totals.{Totals}
 use Rattle.controller.specs.declared.Settings.{Settings}
 use Rattle.controller.specs.Ranges.{Fleet, fleetFor, someAbove, someBelow}
-use Rattle.controller.specs.Pass.{total, charges, plainNeed, sumOfAll, needOf, noCall, unable, unitAfter, passOf, changedOf}
+use Rattle.controller.specs.Pass.{total, charges, plainNeed, sumOfAll, needOf, noCall, unable, unableAt, unitAfter, passOf, changedOf}
 
 -- ---- the fleet as the code has it: rows of units, and what each holds now
 abbrev pub fleetBy : List (List ℕ) → List ℕ → Fleet
@@ -87,25 +87,34 @@ pub record Energies (a b c : List ℕ) : Type 0 where
   pub reserve : Addable b
   pub stored : Addable c
 
--- P6 at unit i, over the lists of ratings and weights and the sum of all weights
-abbrev pub unitsAfter : Bool → ℕ → ℤ → ℕ → List ℕ → List ℕ → ℕ → ℤ → ℤ
-unitsAfter charging factor need weights rating weight i r = unitAfter charging factor need weights (getD rating i 0) (getD weight i 0) r
+-- P6 of a unit that holds so much, with the sum of all weights
+unfoldable pub nextBy : Bool → ℕ → ℤ → ℕ → Unit → ℕ → ℤ → ℤ
+unfolding unable unitAfter
+nextBy charging factor need weights u held r =
+    cond (unable charging (u .rated) (u .reserve) held) (pos 0) (unitAfter charging factor need weights (u .rating) (u .weight) r)
 
--- the same over rows
-abbrev pub sharedBy : Bool → ℕ → ℤ → ℕ → List (List ℕ) → ℕ → ℤ → ℤ
-sharedBy charging factor need weights rows =
-    unitsAfter charging factor need weights (columnBy (λ (u : Unit). u .rating) rows) (columnBy (λ (u : Unit). u .weight) rows)
+-- at unit i of a fleet
+abbrev pub sharedBy : Bool → ℕ → ℤ → ℕ → Fleet → ℕ → ℤ → ℤ
+sharedBy charging factor need weights f i r =
+    cond (unableAt charging f i) (pos 0) (unitAfter charging factor need weights (getD (f .rating) i 0) (getD (f .weight) i 0) r)
 
 -- what P6 may count on: a need, a factor, a sum of weights, ratings and weights in bounds, and lists of one length, at most 64
-pub record Sharing (factor : ℕ) (need : ℤ) (weights : ℕ) (rating weight : List ℕ) (n : ℕ) : Type 0 where
+pub record Sharing (factor : ℕ) (need : ℤ) (weights : ℕ) (f : Fleet) (n : ℕ) : Type 0 where
   pub need-small : natAbs need ≤ 400000000000
   pub factor-small : factor ≤ 1000
   pub weights-small : weights ≤ 640000
-  pub ratings : length rating ≡ n
-  pub weighings : length weight ≡ n
+  pub lengths : SameLengths f n
   pub few : n ≤ 64
-  pub rating-small : (i : ℕ) → getD rating i 0 ≤ 100000000
-  pub weight-small : (i : ℕ) → getD weight i 0 ≤ 10000
+  pub rating-small : (i : ℕ) → getD (f .rating) i 0 ≤ 100000000
+  pub weight-small : (i : ℕ) → getD (f .weight) i 0 ≤ 10000
+
+-- and of one unit
+pub record Sharable (factor : ℕ) (need : ℤ) (weights : ℕ) (u : Unit) : Type 0 where
+  pub need-small : natAbs need ≤ 400000000000
+  pub factor-small : factor ≤ 1000
+  pub weights-small : weights ≤ 640000
+  pub rating-small : u .rating ≤ 100000000
+  pub weight-small : u .weight ≤ 10000
 
 -- what a pass may count on: lists of one length, 1 to 64, and values whose sums and products stay well within 64 bits. The ranges give it, and the
 -- measure of a study too

@@ -45,7 +45,7 @@ pub fn pass_within(
             changed: false,
         };
     }
-    let changed = shares::share_all(charging, s.factor, need, t.weight, units, requests);
+    let changed = shares::share_all(charging, s.factor, need, t.weight, units, stored, requests);
     Passed { need, changed }
 }
 

@@ -73,7 +73,11 @@ pub fn rests(charging: bool, need: i64, a: Asked) -> bool
 pub fn unable(charging: bool, rated: u64, reserve: u64, stored: u64) -> bool
     ensures { λ r. ⌜ r ≡ unable charging rated reserve stored ⌝ }
 {
-    if charging { stored == rated } else { stored <= reserve }
+    if charging {
+        stored == rated
+    } else {
+        stored <= reserve
+    }
 }
 
 // P4: so it is with the whole fleet.

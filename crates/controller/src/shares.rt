@@ -4,8 +4,11 @@ ghost use lib.IntN.{ℤ, pos};
 ghost use lib.ListN.{length};
 ghost use Rattle.whole.specs.Over.{each};
 ghost use Rattle.controller.specs.Pass.{changedOf};
-ghost use Rattle.unit.specs.declared.Unit.{Unit};
-ghost use Rattle.controller.specs.Posts.{Sharing, columnBy, sharedBy};
+ghost use mathlib.Core.List.{[]};
+ghost use Prim.Native.Nat.{_<_};
+ghost use lib.ListN.{getD};
+ghost use Rattle.unit.specs.Rows.{unitBy};
+ghost use Rattle.controller.specs.Posts.{Sharing, Sharable, fleetBy, nextBy, sharedBy};
 use super::rules;
 
 // P4: every request becomes 0. Whether one changed.
@@ -23,25 +26,53 @@ pub fn clear(requests: &mut [i32]) -> bool
     changed
 }
 
-// P6: each unit's request and share. Whether a request changed.
+// P6 for the unit of row i, which holds so much: 0 if it has nothing to give or no room, else its
+// request and its share.
+fn next_request(
+    charging: bool,
+    factor: u16,
+    need: i64,
+    weights: u64,
+    units: &[[u64; 14]],
+    i: usize,
+    held: u64,
+    request: i32,
+) -> i32
+    requires { ⌜ i < length (now units) ⌝ }
+    requires { ⌜ Sharable factor need weights (unitBy (getD (now units) i [])) ⌝ }
+    ensures { λ r. ⌜ r ≡ nextBy charging factor need weights (unitBy (getD (now (units .entry)) i [])) held request ⌝ }
+{
+    if rules::unable(
+        charging,
+        unit::rated_of(units, i),
+        unit::reserve_of(units, i),
+        held,
+    ) {
+        return 0;
+    }
+    let part = rules::share(factor, need, unit::weight_of(units, i), weights);
+    rules::request_after(charging, unit::rating_of(units, i), request, part)
+}
+
+// P6: each unit's request. Whether one changed.
 pub fn share_all(
     charging: bool,
     factor: u16,
     need: i64,
     weights: u64,
     units: &[[u64; 14]],
+    stored: &[u64],
     requests: &mut [i32],
 ) -> bool
-    requires { ⌜ Sharing factor need weights (columnBy (λ (u : Unit). u .rating) (now units)) (columnBy (λ (u : Unit). u .weight) (now units)) (length (now requests)) ⌝ }
-    ensures { λ _. ⌜ now (requests .exit) ≡ each (sharedBy charging factor need weights (now (units .entry))) (now (requests .entry)) ⌝ }
+    requires { ⌜ Sharing factor need weights (fleetBy (now units) (now stored)) (length (now requests)) ⌝ }
+    ensures { λ _. ⌜ now (requests .exit) ≡ each (sharedBy charging factor need weights (fleetBy (now (units .entry)) (now (stored .entry)))) (now (requests .entry)) ⌝ }
     ensures { λ r. ⌜ r ≡ changedOf (now (requests .entry)) (now (requests .exit)) ⌝ }
 {
     let mut changed = false;
     let mut i = 0;
     while i < requests.len() {
         let old = requests[i];
-        let part = rules::share(factor, need, unit::weight_of(units, i), weights);
-        let next = rules::request_after(charging, unit::rating_of(units, i), old, part);
+        let next = next_request(charging, factor, need, weights, units, i, stored[i], old);
         changed = changed | (old != next);
         requests[i] = next;
         i += 1;

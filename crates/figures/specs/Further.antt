@@ -2,8 +2,9 @@
 -- exchanged. Each is by the rules that it names.
 use mathlib.Core.List.{List, [], _∷_, _++_}
 use Prim.Native.Nat.{ℕ, _+_}
-use lib.IntN.{pos, negℤ}
+use lib.IntN.{ℤ, pos, negℤ}
 use lib.ListN.{replicate}
+use Rattle.controller.specs.Ranges.{Fleet, fleetOf}
 use Rattle.octets.specs.BigEndian.{bytesOf}
 use Rattle.unit.specs.declared.Unit.{Unit}
 use Rattle.figures.specs.Rows.{Row, row, values, refused, refusedAt, measures, pass, study, step, field, check, run, bytes, set, unit}
@@ -16,6 +17,13 @@ small priority = unit 500000 5 0 (pos 4) 10000 9000 8000 priority
 -- a unit that idles, with a var request beyond S
 abbrev pub idling : Unit
 idling = unit 2000 1000 10 (negℤ (pos 2000)) 9000 8000 7000 0
+
+-- seven units like those of the table, of weight 1, the fifth of which holds so much; and a list of six numbers and the fifth's
+abbrev pub seven : ℕ → Fleet
+seven fifth = fleetOf (replicate 7 10000000) (replicate 7 1000000) (replicate 4 5000000 ++ fifth ∷ replicate 2 5000000) (replicate 7 1000000) (replicate 7 1)
+
+abbrev pub sixOf : ℤ → ℤ → List ℤ
+sixOf others fifth = replicate 4 others ++ fifth ∷ replicate 2 others
 
 -- ---- files: a fleet of one unit and its settings, 76 bytes; a missing reading; a power of a quiet NaN; an end field
 unfoldable pub opening : List ℕ
@@ -50,6 +58,16 @@ further =
     row (pass (set 1 (pos 300) 20 1000) (pos 100) single (pos 0 ∷ [])) (values (negℤ (pos 200) ∷ pos 0 ∷ pos 0 ∷ []))
     ∷ row (pass (set 2 (pos 300) 20 1000) (pos 100) single (pos 0 ∷ [])) (values (pos 400 ∷ pos 1 ∷ pos 400 ∷ []))
     ∷ row (pass (set 3 (pos 300) 20 1000) (pos 100) single (pos 0 ∷ [])) (values (negℤ (pos 200) ∷ pos 1 ∷ negℤ (pos 200) ∷ []))
+    -- P6: seven units, of which the fifth is at its reserve, or full: all seven share, six are asked; a joule more, or less, and it is asked too
+    ∷ row (pass (set 1 (pos 1000) 20 1000) (pos 650) (seven 1000000) (replicate 7 (pos 500))) (values (negℤ (pos 350) ∷ pos 1 ∷ sixOf (pos 450) (pos 0)))
+    ∷ row (pass (set 2 (pos 1000) 20 1000) (negℤ (pos 293)) (seven 999999) (replicate 7 (pos 500))) (values (pos 707 ∷ pos 1 ∷ sixOf (pos 601) (pos 0)))
+    ∷ row (pass (set 1 (pos 1000) 20 1000) (pos 1707) (seven 1000001) (replicate 7 (pos 500))) (values (pos 707 ∷ pos 1 ∷ sixOf (pos 601) (pos 601)))
+    ∷ row (pass (set 3 (pos 1000) 20 1000) (pos 293) (seven 10000000) (replicate 7 (negℤ (pos 500)))) (values (negℤ (pos 707) ∷ pos 1 ∷ sixOf (negℤ (pos 601)) (pos 0)))
+    ∷ row (pass (set 3 (pos 1000) 20 1000) (pos 293) (seven 9999999) (replicate 7 (negℤ (pos 500)))) (values (negℤ (pos 707) ∷ pos 1 ∷ sixOf (negℤ (pos 601)) (negℤ (pos 601))))
+    -- P5 comes first: within the band the fifth keeps what it was asked
+    ∷ row (pass (set 1 (pos 1000) 20 1000) (pos 1010) (seven 0) (replicate 7 (pos 500))) (values (pos 10 ∷ pos 0 ∷ replicate 7 (pos 500)))
+    -- S16: in a study the fifth stays at 0
+    ∷ row (study (record { settings = set 1 (pos 700) 20 1000; load = pos 1000; budget = 10 }) (seven 1000000) (replicate 7 (pos 5))) (values (pos 1 ∷ pos 3 ∷ sixOf (pos 49) (pos 0)))
     -- M6 to M8: the phase choices 0 to 6 among 1, 2 and -4 kW, and among 2, -4 and 1 kW; and with a NaN that is not chosen
     ∷ row (measures (0 ∷ 1 ∷ 2 ∷ 3 ∷ 4 ∷ 5 ∷ 6 ∷ []) 0x3ff0_0000_0000_0000 0x4000_0000_0000_0000 0xc010_0000_0000_0000)
     (values (negℤ (pos 1000) ∷ []) ++ values (pos 1000 ∷ []) ++ values (pos 2000 ∷ []) ++ values (negℤ (pos 4000) ∷ []) ++ values (pos 2000 ∷ []) ++ values (negℤ (pos 4000) ∷ []) ++ refused 5)

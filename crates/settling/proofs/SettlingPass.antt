@@ -23,7 +23,7 @@ use Rattle.controller.specs.Ranges.{Fleet, someAbove, someBelow}
 use Rattle.controller.specs.Pass.{total, charges, sumOfAll, plainNeed, needOf, rests, spent, inBand, allInBand, requestAfter}
 use Rattle.controller.proofs.RuleLaws.{rests-is, band-is}
 use Rattle.settling.specs.Study.{studyPass}
-use Rattle.settling.specs.Settling.{Premises}
+use Rattle.settling.specs.Settling.{Premises, ratingAbove}
 
 -- the n requests are q, none below 0
 pub record Requests (n : ℕ) (rs : List ℤ) (q : ℕ → ℕ) : Type 0 where
@@ -67,6 +67,15 @@ one-rests mode above low other x e h = simp e (go above h)
 one-keeps : (mode u : ℕ) → mode ≡ 1 → cond (cond (eqb mode 3) (ltb 0 u) (ltb u 0)) (pos 0) (pos u) ≡ pos u
 one-keeps mode u e = simp (e, leb·suc-zero u)
 
+-- a unit is asked for 0, or as far as R goes
+one-unable : (mode : ℕ) (full empty : Bool) (u : ℕ → ℕ) (R : ℕ) → mode ≡ 1 → u 0 ≡ 0
+    → cond (cond (eqb mode 3) full empty) (pos 0) (cond (cond (eqb mode 3) (ltb 0 (u R)) (ltb (u R) 0)) (pos 0) (pos (u R))) ≡ pos (u (cond empty 0 R))
+one-unable mode full empty u R e z = ap (λ (t : ℤ). cond (cond (eqb mode 3) full empty) (pos 0) t) (one-keeps mode (u R) e) ∙ simp e (go empty)
+  where
+    go : (empty : Bool) → cond empty (pos 0) (pos (u R)) ≡ pos (u (cond empty 0 R))
+    go true = ap pos (sym z)
+    go false = refl
+
 -- rules 3 and 4 do not stop the pass
 goes-on : (a b : Bool) (rs x y : List ℤ) → a ≡ false → b ≡ false → cond a rs (cond b x y) ≡ y
 goes-on a b rs x y p q = simp (p, q)
@@ -88,19 +97,25 @@ module _ (s : Settings) (load : ℤ) (f : Fleet) (n : ℕ) (p : Premises s load 
   gap = natAbs (load -ℤ s .target)
 
   abbrev pub stepOf : (ℕ → ℕ) → ℕ → ℕ
-  stepOf = step n gap (s .band) (s .factor) (λ (i : ℕ). getD (f .rating) i 0) (λ (i : ℕ). getD (f .weight) i 0)
+  stepOf = step n gap (s .band) (s .factor) (ratingAbove s load f n) (λ (i : ℕ). getD (f .weight) i 0)
 
   -- there is a unit, since there is a store
   some : 1 ≤ n
   some = some-units n (λ (i : ℕ). getD (f .reserve) i 0) (λ (i : ℕ). getD (f .stored) i 0) (p .storeAboveReserve)
 
-  -- request a of unit i with its share of x, up to its rating
-  abbrev afterShare : ℕ → ℕ → ℕ → ℕ
-  afterShare x a i = min (a + x * getD (f .weight) i 0 * s .factor / (total n (f .weight) * 1000)) (getD (f .rating) i 0)
+  -- request a of unit i with its share of x, up to R
+  abbrev withShare : ℕ → ℕ → ℕ → ℕ → ℕ
+  withShare R x a i = min (a + x * getD (f .weight) i 0 * s .factor / (total n (f .weight) * 1000)) R
 
+  abbrev afterShare : ℕ → ℕ → ℕ → ℕ
+  afterShare x a i = withShare (ratingAbove s load f n i) x a i
+
+  -- a unit that is not above its reserve goes as one with a rating of 0
   request-is : (x a i : ℕ) → requestAfter s n f (pos x) i (pos a) ≡ pos (afterShare x a i)
   unfolding requestAfter
-  request-is x a i = one-keeps (s .mode) (afterShare x a i) (p .peakShaving)
+  request-is x a i =
+      one-unable (s .mode) (eqb (getD (f .stored) i 0) (getD (f .rated) i 0)) (leb (getD (f .stored) i 0) (getD (f .reserve) i 0)) (λ (R : ℕ). withShare R x a i) (getD (f .rating) i 0) (p .peakShaving)
+      (omega arith)
 
   -- the measure is above the target by what is missing
   pub measure-is : (x : ℕ) → x ≤ gap → (load -ℤ pos x) -ℤ s .target ≡ pos (gap - x)

@@ -2,17 +2,17 @@
 -- A pass that changes a request raises the sum by a watt or more, so the passes that do number at most the sum, which is within the gap and
 -- within the ratings. One that changes none leaves every step without effect: the band, a rating, or a share under one watt. Assumes nothing.
 use mathlib.Core.Path.{_≡_, refl, sym, ap, _∙_, subst, subst⁻¹}
-use mathlib.Core.Bool.{Bool, true, false}
+use mathlib.Core.Bool.{Bool, true, false, cond}
 use mathlib.Core.List.{List}
 use mathlib.Core.Logic.{_⊎_, inl, inr}
 use Prim.Native.Nat.{ℕ, zero, suc, _+_, _-_, _*_, _≤_, _<_, zero-le}
 use native.Mathlib.Nat.{le-refl, le-trans, lt-irrefl}
 use native.Mathlib.Omega.{arith}
-use lib.Dec.{le→leb, ltb→lt}
+use lib.Dec.{leb, le→leb, ltb→lt}
 use lib.IntN.{ℤ, pos, natAbs, _-ℤ_}
 use lib.ListN.{length, getD, length-replicate, getD-replicate}
 use lib.Signed.{_≤ℤ_, _<ℤ_}
-use borrow.Author.Tests.{le-leb}
+use borrow.Author.Tests.{le-leb, lt-leb}
 use Rattle.whole.specs.Over.{sumOf}
 use Rattle.whole.proofs.Choice.{by-test, passed-failed}
 use Rattle.settling.proofs.SumLaws.{sum-le, sum-lt}
@@ -25,7 +25,7 @@ use Rattle.controller.specs.declared.Settings.{Settings}
 use Rattle.controller.specs.Ranges.{Fleet}
 use Rattle.controller.specs.Pass.{differ}
 use Rattle.settling.specs.Study.{studyPass}
-use Rattle.settling.specs.Settling.{Premises, SettlingLaw, requestsAt, requestAt, measureAt, gapAt, changes, changing}
+use Rattle.settling.specs.Settling.{Premises, SettlingLaw, Above, ratingAbove, requestsAt, requestAt, measureAt, gapAt, changes, changing}
 
 -- ---- order of signed numbers that are no less than 0
 pos-le : (a b : ℤ) (x y : ℕ) → a ≡ pos x → b ≡ pos y → x ≤ y → a ≤ℤ b
@@ -50,8 +50,21 @@ module _ (s : Settings) (load : ℤ) (f : Fleet) (n : ℕ) (p : Premises s load 
   abbrev D : ℕ
   D = gap s load f n p
 
+  -- as far as a unit can be asked: its rating, or 0
   abbrev R : ℕ → ℕ
-  R i = getD (f .rating) i 0
+  R = ratingAbove s load f n
+
+  abbrev rating : ℕ → ℕ
+  rating i = getD (f .rating) i 0
+
+  R-above : (i : ℕ) → Above s load f n i → R i ≡ rating i
+  R-above i a = ap (λ (b : Bool). cond b 0 (rating i)) (lt-leb (getD (f .stored) i 0) (getD (f .reserve) i 0) (a .1))
+
+  R-below : (i : ℕ) → getD (f .stored) i 0 ≤ getD (f .reserve) i 0 → R i ≡ 0
+  R-below i h = ap (λ (b : Bool). cond b 0 (rating i)) (le-leb (getD (f .stored) i 0) (getD (f .reserve) i 0) h)
+
+  R-most : (i : ℕ) → R i ≤ rating i
+  R-most i = by-test (λ (x : ℕ). x ≤ rating i) (leb (getD (f .stored) i 0) (getD (f .reserve) i 0)) 0 (rating i) (λ t. zero-le) (λ t. le-refl (rating i))
 
   abbrev w : ℕ → ℕ
   w i = getD (f .weight) i 0
@@ -135,21 +148,21 @@ module _ (s : Settings) (load : ℤ) (f : Fleet) (n : ℕ) (p : Premises s load 
 
   settled-state : (k : ℕ) → changes s load f n k ≡ false
       → (2 * gapAt s load f n k ≤ s .band)
-      ⊎ ((i : ℕ) → i < n → (requestAt s load f n k i ≡ pos (R i)) ⊎ (gapAt s load f n k * w i * s .factor < sumOf n w * 1000))
+      ⊎ ((i : ℕ) → Above s load f n i → (requestAt s load f n k i ≡ pos (rating i)) ⊎ (gapAt s load f n k * w i * s .factor < sumOf n w * 1000))
   settled-state k e = rw (gap-is k) (go (settled-step n D (s .band) (s .factor) R w weighty (carried k) (kept k) (without-effect k e)))
     where
       missing : ℕ
       missing = D - sumOf n (carried k)
 
-      unit : (i : ℕ) → i < n → (carried k i ≡ R i) ⊎ (missing * w i * s .factor < sumOf n w * 1000)
-          → (requestAt s load f n k i ≡ pos (R i)) ⊎ (missing * w i * s .factor < sumOf n w * 1000)
-      unit i l (inl full) = inl (request-is k i l ∙ ap pos full)
-      unit i l (inr small) = inr small
+      unit : (i : ℕ) → Above s load f n i → (carried k i ≡ R i) ⊎ (missing * w i * s .factor < sumOf n w * 1000)
+          → (requestAt s load f n k i ≡ pos (rating i)) ⊎ (missing * w i * s .factor < sumOf n w * 1000)
+      unit i a (inl full) = inl (request-is k i (a .0) ∙ ap pos (full ∙ R-above i a))
+      unit i a (inr small) = inr small
 
       go : (2 * missing ≤ s .band) ⊎ ((i : ℕ) → i < n → (carried k i ≡ R i) ⊎ (missing * w i * s .factor < sumOf n w * 1000))
-          → (2 * missing ≤ s .band) ⊎ ((i : ℕ) → i < n → (requestAt s load f n k i ≡ pos (R i)) ⊎ (missing * w i * s .factor < sumOf n w * 1000))
+          → (2 * missing ≤ s .band) ⊎ ((i : ℕ) → Above s load f n i → (requestAt s load f n k i ≡ pos (rating i)) ⊎ (missing * w i * s .factor < sumOf n w * 1000))
       go (inl near) = inl near
-      go (inr each) = inr (λ i l. unit i l (each i l))
+      go (inr each) = inr (λ i a. unit i a (each i (a .0)))
 
   law : SettlingLaw s load f n
   law =
@@ -158,15 +171,19 @@ module _ (s : Settings) (load : ℤ) (f : Fleet) (n : ℕ) (p : Premises s load 
         noRequestFalls = λ k i l.
             pos-le (requestAt s load f n k i) (requestAt s load f n (suc k) i) (carried k i) (carried (suc k) i)
             (request-is k i l) (request-is (suc k) i l) (rises k i l);
-        noneExceeds = λ k i l. pos-le (requestAt s load f n k i) (pos (R i)) (carried k i) (R i) (request-is k i l) refl (kept k .rated i l);
-        carriesNoLess = λ k i j l m h r.
+        noneExceeds = λ k i l. pos-le (requestAt s load f n k i) (pos (rating i)) (carried k i) (rating i) (request-is k i l) refl (le-trans (kept k .rated i l) (R-most i));
+        carriesNoLess = λ k i j a b h r.
             pos-le (requestAt s load f n k j) (requestAt s load f n k i) (carried k j) (carried k i)
-            (request-is k j m) (request-is k i l)
-            (kept k .ahead i j l m h (pos-lt (requestAt s load f n k i) (carried k i) (R i) (request-is k i l) r));
+            (request-is k j (b .0)) (request-is k i (a .0))
+            (kept k .ahead i j (a .0) (b .0) h (subst⁻¹ (λ (x : ℕ). carried k i < x) (R-above i a) (pos-lt (requestAt s load f n k i) (carried k i) (rating i) (request-is k i (a .0)) r)));
         changingWithinGap = λ k. le-trans (changing-le k) (kept k .within);
         changingWithinRatings = λ k. le-trans (changing-le k) (sum-le n (carried k) R (kept k .rated));
         settledForGood = still-after s load f n;
         settledState = settled-state;
+        othersStay = λ k i l h.
+            let most : carried k i ≤ R i = kept k .rated i l in
+            let none : carried k i ≡ 0 = omega (arith, R-below i h) in
+            request-is k i l ∙ ap pos none;
       }
 
 pub settling : (s : Settings) (load : ℤ) (f : Fleet) (n : ℕ) → Premises s load f n → SettlingLaw s load f n

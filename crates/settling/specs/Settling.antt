@@ -1,10 +1,12 @@
 -- The settling law (rules S7 to S15). A peak-shaving fleet of n units, requests all zero at first, total store above total reserve, a fixed load above
--- the target, each pass on a measure of the load less the sum of requests, no time passing.
+-- the target, each pass on a measure of the load less the sum of requests, no time passing. The law is about the units above their reserves; the others
+-- stay at 0.
 use Prim.Native.Nat.{ℕ, suc, _*_, _≤_, _<_}
 use mathlib.Core.Bool.{Bool, true, false, cond}
 use mathlib.Core.List.{List}
 use mathlib.Core.Logic.{_⊎_}
 use mathlib.Core.Path.{_≡_}
+use lib.Dec.{leb}
 use lib.IntN.{ℤ, pos, natAbs, _-ℤ_}
 use lib.ListN.{getD, replicate}
 use lib.Signed.{_≤ℤ_, _<ℤ_}
@@ -50,9 +52,18 @@ module _ (s : Settings) (load : ℤ) (f : Fleet) (n : ℕ) where
   unfolding changes sumOf
   changing k = sumOf k (λ (j : ℕ). cond (changes j) 1 0)
 
-  -- unit i's rating and weight
+  -- unit i is above its reserve
+  abbrev pub Above : ℕ → Type 0
+  Above i = (i < n) × (getD (f .reserve) i 0 < getD (f .stored) i 0)
+
+  -- unit i's rating, and 0 for it where it is not above its reserve
   abbrev pub ratingOf : ℕ → ℕ
   ratingOf i = getD (f .rating) i 0
+
+  abbrev pub ratingAbove : ℕ → ℕ
+  ratingAbove i = cond (leb (getD (f .stored) i 0) (getD (f .reserve) i 0)) 0 (ratingOf i)
+
+  -- its weight
 
   abbrev pub weightOf : ℕ → ℕ
   weightOf i = getD (f .weight) i 0
@@ -64,19 +75,21 @@ pub record SettlingLaw (s : Settings) (load : ℤ) (f : Fleet) (n : ℕ) : Type 
   -- S9: no request falls, none exceeds its rating
   pub noRequestFalls : (k i : ℕ) → i < n → requestAt s load f n k i ≤ℤ requestAt s load f n (suc k) i
   pub noneExceeds : (k i : ℕ) → i < n → requestAt s load f n k i ≤ℤ pos (ratingOf s load f n i)
-  -- S10: a unit below its rating carries no less than any unit of equal or smaller weight
-  pub carriesNoLess : (k i j : ℕ) → i < n → j < n → weightOf s load f n j ≤ weightOf s load f n i
+  -- S10: of the units above their reserves, one below its rating carries no less than any of equal or smaller weight
+  pub carriesNoLess : (k i j : ℕ) → Above s load f n i → Above s load f n j → weightOf s load f n j ≤ weightOf s load f n i
       → requestAt s load f n k i <ℤ pos (ratingOf s load f n i) → requestAt s load f n k j ≤ℤ requestAt s load f n k i
-  -- S11, S12: the passes that change a request are at most the watts from target to load, and at most the sum of the ratings
+  -- S11, S12: the passes that change a request are at most the watts from target to load, and at most the sum of the ratings of the units above their reserves
   pub changingWithinGap : (k : ℕ) → changing s load f n k ≤ natAbs (load -ℤ s .target)
-  pub changingWithinRatings : (k : ℕ) → changing s load f n k ≤ total n (f .rating)
+  pub changingWithinRatings : (k : ℕ) → changing s load f n k ≤ sumOf n (ratingAbove s load f n)
   -- S13: after one pass that changes none, none ever does
   pub settledForGood : (k m : ℕ) → k ≤ m → changes s load f n k ≡ false → changes s load f n m ≡ false
-  -- S14: and then the measure is within half the band of the target, or each unit is at its rating or has a share under one watt
+  -- S14: and then the measure is within half the band of the target, or each unit above its reserve is at its rating or has a share under one watt
   pub settledState : (k : ℕ) → changes s load f n k ≡ false
       → (2 * gapAt s load f n k ≤ s .band)
-      ⊎ ((i : ℕ) → i < n → (requestAt s load f n k i ≡ pos (ratingOf s load f n i))
+      ⊎ ((i : ℕ) → Above s load f n i → (requestAt s load f n k i ≡ pos (ratingOf s load f n i))
       ⊎ (gapAt s load f n k * weightOf s load f n i * s .factor < total n (f .weight) * 1000))
+  -- S16: a unit at or below its reserve stays at 0
+  pub othersStay : (k i : ℕ) → i < n → getD (f .stored) i 0 ≤ getD (f .reserve) i 0 → requestAt s load f n k i ≡ pos 0
 
 -- S15: a study with any budget is such passes, stopped at the first that changes none or at its budget: so the law is the study's too
 pub record StudyLaw (s : Settings) (load : ℤ) (f : Fleet) (budget n : ℕ) : Type 0 where

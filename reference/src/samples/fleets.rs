@@ -38,7 +38,7 @@ pub fn half_full(rating: &[u32], weight: &[u16]) -> Fleet {
     }
 }
 
-/// The passes of the document's figures B1 to B5 and C1, in that order.
+/// The passes of the document's figures B1 to B5 and C1, in that order, and then three with a unit that cannot help.
 pub fn figure_passes() -> Vec<PassCall> {
     let pass = |mode, target, band, factor, measure, fleet: &Fleet, requests: &[i32]| PassCall {
         settings: Settings { mode, target, band, factor },
@@ -50,6 +50,11 @@ pub fn figure_passes() -> Vec<PassCall> {
     let two = half_full(&[1_000; 2], &[2, 1]);
     let one = half_full(&[1_000], &[1]);
     let unlike = half_full(&[100, 1_000], &[1, 1]);
+    // Seven units, of which the fifth is at its reserve, or full.
+    let mut seven = half_full(&[1_000; 7], &[1; 7]);
+    seven.stored[4] = 100;
+    let mut full = seven.clone();
+    full.stored[4] = 1_000;
     vec![
         pass(1, 0, 0, 1_000, 100, &three, &[0; 3]),
         pass(3, 0, 0, 1_000, -100, &three, &[0; 3]),
@@ -64,6 +69,9 @@ pub fn figure_passes() -> Vec<PassCall> {
         pass(1, 700, 20, 1_000, 725, &unlike, &[100, 175]),
         pass(1, 700, 20, 1_000, 713, &unlike, &[100, 187]),
         pass(1, 700, 20, 1_000, 707, &unlike, &[100, 193]),
+        pass(1, 0, 0, 1_000, -350, &seven, &[500; 7]),
+        pass(2, 0, 0, 1_000, 707, &seven, &[500; 7]),
+        pass(3, 0, 0, 1_000, -707, &full, &[-500; 7]),
     ]
 }
 
@@ -310,7 +318,8 @@ fn size(most: usize, draw: &mut Draw) -> usize {
 }
 
 /// How full a fleet is, as a pass meets it.
-const ANY_FILL: [Fill; 11] = [
+const ANY_FILL: [Fill; 12] = [
+    Fill::Beside,
     Fill::Any,
     Fill::Above,
     Fill::Above,
@@ -325,7 +334,9 @@ const ANY_FILL: [Fill; 11] = [
 ];
 
 /// How full a fleet is, as a study meets it; one at its reserve has little to show.
-const STUDY_FILL: [Fill; 8] = [
+const STUDY_FILL: [Fill; 10] = [
+    Fill::Beside,
+    Fill::Beside,
     Fill::Any,
     Fill::Above,
     Fill::Above,
@@ -348,6 +359,18 @@ enum Fill {
     Full,
     OneShort,
     Empty,
+    /// Each unit at its reserve or at its rated energy, one joule beside one of them, or between.
+    Beside,
+}
+
+/// Where a unit stands to its reserve and its rated energy, if it is near one of them: the store less it.
+pub fn beside(fleet: &Fleet, unit: usize) -> Option<(&'static str, i64)> {
+    let (stored, rated, reserve) = (fleet.stored[unit], fleet.rated[unit], fleet.reserve[unit]);
+    let near = |name, end: u64| {
+        let by = stored as i64 - end as i64;
+        (by.abs() <= 1).then_some((name, by))
+    };
+    near("reserve", reserve).or(near("rated", rated))
 }
 
 fn fleet(units: usize, fills: &[Fill], draw: &mut Draw) -> Fleet {
@@ -412,6 +435,16 @@ fn fill_up(fleet: &mut Fleet, fill: Fill, draw: &mut Draw) {
             fleet.stored[draw.below(units as u64) as usize] -= 1;
         }
         Fill::Empty => fleet.stored = vec![0; units],
+        Fill::Beside => {
+            for unit in 0..units {
+                let rated = fleet.rated[unit].max(10);
+                let reserve = fleet.reserve[unit].clamp(2, rated - 4);
+                let between = draw.within(reserve + 1, rated);
+                let near = [reserve - 1, reserve, reserve + 1, rated - 1, rated, between];
+                (fleet.rated[unit], fleet.reserve[unit]) = (rated, reserve);
+                fleet.stored.push(draw.one_of(&near));
+            }
+        }
     }
 }
 
@@ -456,7 +489,16 @@ fn need_of(mode: u8, fleet_power: i64, draw: &mut Draw) -> i64 {
 
 /// A call of a pass that is not to be refused, over a fleet of at most `most` units.
 pub fn pass_call(most: usize, draw: &mut Draw) -> PassCall {
-    let fleet = fleet(size(most, draw), &ANY_FILL, draw);
+    pass_filled(most, &ANY_FILL, draw)
+}
+
+/// The same, over units that are at their reserves and rated energies or beside them.
+pub fn beside_call(most: usize, draw: &mut Draw) -> PassCall {
+    pass_filled(most, &[Fill::Beside], draw)
+}
+
+fn pass_filled(most: usize, fills: &[Fill], draw: &mut Draw) -> PassCall {
+    let fleet = fleet(size(most, draw), fills, draw);
     let requests = requests_of(&fleet, draw.one_of(&[0, 1, -1]), draw);
     let fleet_power: i64 = requests.iter().map(|&request| i64::from(request)).sum();
     let mode = 1 + draw.below(3) as u8;

@@ -113,7 +113,7 @@ returns-4 c =
     let s = a .before .before .before in
     let f = fleetBy (s .args .units .now) (s .args .stored .now) in
     let rs = s .args .requests .now in
-    done-shares (s .args .s) (s .args .measure) f rs (s .pre .0) (a .asked .result) (a .asked .ensures) (n .need .result) (n .need .ensures) (s .args .t) (sums s) (r .rests .result) (r .rests .ensures) (e .before .if1 .left) (e .is-spent .result) (e .is-spent .ensures) (o .if2 .left) (b .in-band .result) (b .in-band .ensures) (l .if3 .left) (k .share-all .last .1 .1 .1 .1 .1 .0) (k .share-all .result) (k .share-all .ensures .0) (k .share-all .ensures .1)
+    done-shares (s .args .s) (s .args .measure) f rs (s .pre .0) (a .asked .result) (a .asked .ensures) (n .need .result) (n .need .ensures) (s .args .t) (sums s) (r .rests .result) (r .rests .ensures) (e .before .if1 .left) (e .is-spent .result) (e .is-spent .ensures) (o .if2 .left) (b .in-band .result) (b .in-band .ensures) (l .if3 .left) (k .share-all .last .1 .1 .1 .1 .1 .1 .0) (k .share-all .result) (k .share-all .ensures .0) (k .share-all .ensures .1)
 
 pub pass-within-spec : {M : Type 1} → statement M
 pass-within-spec =
