@@ -1,5 +1,5 @@
 -- What limits a step, by the definitions: the held request is at most what is asked and at most S, and both energy limits are quotients. Assumes nothing.
-use mathlib.Core.Path.{_≡_, sym, ap, _∙_}
+use mathlib.Core.Path.{_≡_, sym, ap, ap₂, _∙_}
 use mathlib.Core.Logic.{_⊎_, inl, inr}
 use mathlib.Core.Bool.{Bool}
 use Prim.Native.Nat.{ℕ, _+_, _-_, _*_, _/_, _≤_, _<_, _^_, min}
@@ -12,10 +12,11 @@ use mir.Syntax.{w32}
 use mir.Val.{toZ, ofZ}
 use borrow.Author.Tests.{leb-true, le-leb, eq-eqb, ne-eqb}
 use Rattle.whole.proofs.Choice.{by-test}
-use Rattle.whole.proofs.LargestLaws.{largest-le, largest-tops, largest-passes, largest-upto, leg-le}
+use Rattle.whole.proofs.LargestLaws.{largest-le, largest-tops, largest-passes, largest-upto}
+use Rattle.whole.proofs.CircleLaws.{watts-most}
 use Rattle.whole.proofs.SignLaws.{read}
-use Rattle.whole.specs.Largest.{legOf}
-use Rattle.whole.specs.Signed.{negative, signed}
+use Rattle.whole.specs.Circle.{wattsIn, varsIn}
+use Rattle.whole.specs.Signed.{negative}
 use Rattle.unit.proofs.RangeLaws.{Bounds}
 use Rattle.storage.proofs.EnergyLaws.{removed-test, added-test, added-none, drawn-none, drawable-most}
 use Rattle.unit.specs.declared.Unit.{Unit}
@@ -23,36 +24,25 @@ use Rattle.storage.specs.Step.{limitedVars, heldSize, varsOf, removedBy,
 
 -- ---- the held request
 module _ (u : Unit) (request : ℤ) where
-  pub held-beside : u .priority ≡ 1
-      → min (min (natAbs request) (u .kva)) (legOf (u .kva) (min (natAbs (u .«var_request»)) (u .kva))) ≡ heldSize u request
+  -- from what the code has
+  pub held-is : mag request < 2 ^ 31 → (v size n : ℕ) → v ≡ limitedVars u → size ≡ natAbs (toZ w32 (ofZ w32 request)) → n ≡ wattsIn (u .kva) (u .priority) v size
+      → n ≡ heldSize u request
   unfolding heldSize
-  held-beside e = simp (eq-eqb (u .priority) 1 e)
-
-  pub held-first : (u .priority ≡ 1 → ⊥) → min (natAbs request) (u .kva) ≡ heldSize u request
-  unfolding heldSize
-  held-first e = simp (ne-eqb (u .priority) 1 e)
+  held-is h v size n ev es en = en ∙ ap₂ (wattsIn (u .kva) (u .priority)) ev (es ∙ ap natAbs (read w32 request h))
 
   pub held-read : (n : ℕ) → mag request < 2 ^ 31 → n ≡ heldSize u (toZ w32 (ofZ w32 request)) → n ≡ heldSize u request
   held-read n h e = e ∙ ap (heldSize u) (read w32 request h)
 
   pub held-most : (heldSize u request ≤ natAbs request) × (heldSize u request ≤ u .kva)
   unfolding heldSize
-  held-most =
-      let p = min (natAbs request) (u .kva) in
-      by-test (λ (n : ℕ). (n ≤ natAbs request) × (n ≤ u .kva)) (eqb (u .priority) 1) (min p (legOf (u .kva) (min (natAbs (u .«var_request»)) (u .kva)))) p
-      (λ t. omega arith)
-      (λ t. omega arith)
+  held-most = watts-most (u .kva) (u .priority) (limitedVars u) (natAbs request)
 
--- ---- a leg is at most S, so where it limits, v's size and the var request's are one
-leg-limits : (u : Unit) (y : ℕ) → min (natAbs (u .«var_request»)) (legOf (u .kva) y) ≡ min (limitedVars u) (legOf (u .kva) y)
-leg-limits u y = let l : legOf (u .kva) y ≤ u .kva = leg-le (u .kva) y in omega arith
-
--- ---- the vars, from the sign and the sizes that the code has
-pub vars-are : (u : Unit) (watts : ℤ) → mag (u .«var_request») < 2 ^ 31 → mag watts < 2 ^ 31 → (below : Bool) (size side q : ℕ)
-    → below ≡ negative (toZ w32 (ofZ w32 (u .«var_request»))) → size ≡ natAbs (toZ w32 (ofZ w32 (u .«var_request»)))
-    → side ≡ natAbs (toZ w32 (ofZ w32 watts)) → q ≡ min size (legOf (u .kva) side) → signed below q ≡ varsOf u watts
+-- ---- the vars, from what the code has
+pub vars-are : (u : Unit) (watts : ℤ) → mag (u .«var_request») < 2 ^ 31 → mag watts < 2 ^ 31 → (below : Bool) (v side : ℕ) (vars : ℤ)
+    → below ≡ negative (toZ w32 (ofZ w32 (u .«var_request»))) → v ≡ limitedVars u → side ≡ natAbs (toZ w32 (ofZ w32 watts))
+    → vars ≡ varsIn (u .kva) below v side → vars ≡ varsOf u watts
 unfolding varsOf
-vars-are u watts hv hw below size side q eb es ed eq = cc (read w32 (u .«var_request») hv, read w32 watts hw, leg-limits u (natAbs watts))
+vars-are u watts hv hw below v side vars eb ev es e = cc (read w32 (u .«var_request») hv, read w32 watts hw)
 
 -- ---- the energy limits
 pub deliverable-most : (u : Unit) (s p : ℕ) → deliverable u s p ≤ p

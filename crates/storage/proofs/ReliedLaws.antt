@@ -3,15 +3,14 @@
 use mathlib.Core.Path.{_≡_, refl, subst⁻¹}
 use mathlib.Core.Bool.{Bool, true, false, cond}
 use mathlib.Core.Logic.{_⊎_, inl, inr}
-use Prim.Native.Nat.{ℕ, zero, suc, _+_, _*_, _≤_, min}
-use native.Mathlib.Nat.{le-trans, le-of-eq, min-le-right}
+use Prim.Native.Nat.{ℕ, zero, suc, _+_, _*_, _≤_}
+use native.Mathlib.Nat.{le-trans, le-of-eq}
 use native.Mathlib.Omega.{arith}
 use lib.Dec.{le→leb, eqb}
 use lib.IntN.{ℤ, pos, negsuc, negℤ, natAbs}
 use lib.Signed.{_≤ℤ_}
-use Rattle.whole.proofs.LargestLaws.{square-le, leg-in}
-use Rattle.whole.proofs.SignLaws.{size-signed, size-neg}
-use Rattle.whole.specs.Largest.{legOf}
+use Rattle.whole.proofs.CircleLaws.{in-circle}
+use Rattle.whole.proofs.SignLaws.{size-neg}
 use Rattle.whole.specs.Signed.{negative}
 use Rattle.unit.proofs.RangeLaws.{Bounds}
 use Rattle.storage.proofs.StepLaws.{Able, removal-covers, addition-covered}
@@ -26,13 +25,7 @@ use Rattle.storage.specs.Step.{limitedVars, heldSize, removedBy, addedBy
 pub vars-in-circle : (u : Unit) (watts : ℤ) → natAbs watts ≤ u .kva
     → natAbs watts * natAbs watts + natAbs (varsOf u watts) * natAbs (varsOf u watts) ≤ u .kva * u .kva
 unfolding varsOf
-vars-in-circle u watts h =
-    let leg = legOf (u .kva) (natAbs watts) in
-    let q = min (limitedVars u) leg in
-    let v : natAbs (varsOf u watts) ≤ leg = le-trans (le-of-eq (size-signed (negative (u .«var_request»)) q)) (min-le-right (limitedVars u) leg) in
-    let s : natAbs (varsOf u watts) * natAbs (varsOf u watts) ≤ leg * leg = square-le v in
-    let c : leg * leg + natAbs watts * natAbs watts ≤ u .kva * u .kva = leg-in (u .kva) (natAbs watts) h in
-    omega arith
+vars-in-circle u watts h = in-circle (u .kva) (negative (u .«var_request»)) (limitedVars u) (natAbs watts) h
 
 -- ---- charging and idling both draw from the grid. A draw of d watts: its size, that it is below whatever is asked, and that energy is conserved
 -- where what is stored and lost is what was stored and drawn; each also where d is 0

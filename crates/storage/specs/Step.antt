@@ -3,9 +3,10 @@ use Prim.Native.Nat.{ℕ, zero, suc, _+_, _-_, _*_, _/_, min}
 use mathlib.Core.Bool.{cond}
 use lib.Dec.{leb, ltb, eqb}
 use lib.IntN.{ℤ, pos, negℤ, natAbs}
-use Rattle.whole.specs.Largest.{largest, legOf}
+use Rattle.whole.specs.Circle.{wattsIn, varsIn}
+use Rattle.whole.specs.Largest.{largest}
 use Rattle.whole.specs.Quotient.{ceil}
-use Rattle.whole.specs.Signed.{negative, signed}
+use Rattle.whole.specs.Signed.{negative}
 use Rattle.unit.specs.declared.Unit.{Unit}
 use Rattle.storage.specs.declared.Flow.{Flow}
 use Rattle.storage.specs.declared.Flow.the-variants.{Out, In, Idle}
@@ -28,10 +29,8 @@ limitedVars u = min (natAbs (u .«var_request»)) (varLimit u)
 
 -- U3: the request that a unit holds is at most S in size; under var priority also at most the leg beside v
 unfoldable pub heldSize : Unit → ℤ → ℕ
-unfolding legOf
-heldSize u request =
-    let p = min (natAbs request) (u .kva) in
-    cond (eqb (u .priority) 1) (min p (legOf (u .kva) (limitedVars u))) p
+unfolding wattsIn
+heldSize u request = wattsIn (u .kva) (u .priority) (limitedVars u) (natAbs request)
 
 -- U4: the joules that delivering p watts removes from the store
 unfoldable pub removedBy : Unit → ℕ → ℕ → ℕ
@@ -93,8 +92,8 @@ lossOf u seconds Idle = idleDraw u * seconds
 
 -- U12: last the vars, with the var request's sign, and the smaller of v's size and the leg beside the watts
 unfoldable pub varsOf : Unit → ℤ → ℤ
-unfolding legOf
-varsOf u watts = signed (negative (u .«var_request»)) (min (limitedVars u) (legOf (u .kva) (natAbs watts)))
+unfolding varsIn
+varsOf u watts = varsIn (u .kva) (negative (u .«var_request»)) (limitedVars u) (natAbs watts)
 
 -- what a step gives, by what flows
 unfoldable pub outcomeOf : Unit → ℕ → Flow → Outcome

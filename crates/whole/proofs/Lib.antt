@@ -3,4 +3,5 @@ pub mod Choice
 pub mod SignLaws
 pub mod QuotientLaws
 pub mod LargestLaws
+pub mod CircleLaws
 pub mod OverLaws

@@ -4,4 +4,5 @@ pub mod Call
 pub mod Quotient
 pub mod Signed
 pub mod Largest
+pub mod Circle
 pub mod Over

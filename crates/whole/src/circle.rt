@@ -1,6 +1,10 @@
 ghost use mathlib.Core.Path.{_≡_};
 ghost use Prim.Native.Nat.{min};
+ghost use Prim.Native.Nat.{_≤_};
 ghost use Rattle.whole.specs.Largest.{legOf};
+ghost use Rattle.whole.specs.Circle.{wattsIn, varsIn};
+use super::order;
+use super::sign;
 
 // The largest whole x with x * x + y * y <= s * s, by bisection; 0 where y is above s.
 pub fn leg(s: u32, y: u32) -> u32
@@ -39,4 +43,24 @@ pub fn beside(s: u32, y: u32, x: u32) -> u32
     }
     let most = leg(s, y);
     if x <= most { x } else { most }
+}
+
+// The watts of an inverter with radius s: what is asked, at most s and, where vars come first, at
+// most what they leave of the circle.
+pub fn watts_in(s: u32, priority: u8, v: u32, asked: u32) -> u32
+    ensures { λ r. ⌜ r ≡ wattsIn s priority v asked ⌝ }
+{
+    let p = order::least32(asked, s);
+    if priority == 1 {
+        return beside(s, v, p);
+    }
+    p
+}
+
+// The vars beside its watts, v at most and with their sign.
+pub fn vars_in(s: u32, below: bool, v: u32, watts: u32) -> i32
+    requires { ⌜ v ≤ 100000000 ⌝ }
+    ensures { λ r. ⌜ r ≡ varsIn s below v watts ⌝ }
+{
+    sign::signed32(below, beside(s, watts, v))
 }

@@ -7,6 +7,8 @@ mod sign;
 
 pub use circle::beside;
 pub use circle::leg;
+pub use circle::vars_in;
+pub use circle::watts_in;
 pub use order::least32;
 pub use order::least64;
 pub use quotients::ceil;

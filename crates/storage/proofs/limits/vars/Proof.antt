@@ -1,54 +1,35 @@
--- The sign of the request is put on the smaller of its size and the leg beside the watts. It is no larger than the request, so it fits.
+-- The circle's vars, of the limited var request beside the size of the watts.
 use borrow.Author.Needs.{needs}
 use mathlib.Core.Path.{_∙_}
-use native.Mathlib.Omega.{arith}
 use mir.Syntax.{w32}
-use Rattle.whole.proofs.SignLaws.{read, signed-fits, sized}
+use Rattle.whole.proofs.SignLaws.{read}
 use Rattle.storage.proofs.LimitLaws.{vars-are}
 use Rattle.storage.proofs.limits.vars.Statement.{statement}
 use Rattle.storage.proofs.limits.vars.Tie as tie
 
-size32-requires : tie.Need-size32-requires
-size32-requires c κs = search needs
-
-size32-requires-2 : tie.Need-size32-requires-2
-size32-requires-2 c κs = search needs
-
-beside-requires : tie.Need-beside-requires
-beside-requires c κs = search needs
-
 below-zero32-requires : tie.Need-below-zero32-requires
 below-zero32-requires c κs = search needs
 
-signed32-requires : tie.Need-signed32-requires
-signed32-requires c κs =
-    let q = c .before .before .beside in
-    let e = c .before .before .before .before in
-    let t = e .before in
-    let size = sized (t .before .args .u .«var_request») (e .size32 .result) (t .struct-told .given .1 .1 .1 .1 .1 .1 .0 .1) (e .size32 .ensures) in
-    let few = t .before .pre in
-    let least = q .ensures in
-    signed-fits w32 (c .below-zero32 .result) (q .result) (omega arith)
+limited-requires : tie.Need-limited-requires
+limited-requires c κs = search needs
+
+size32-requires : tie.Need-size32-requires
+size32-requires c κs = search needs
+
+vars-in-requires : tie.Need-vars-in-requires
+vars-in-requires c κs = search needs
 
 returns : tie.Need-returns
 returns c =
-    let below = c .before .below-zero32 in
-    let q = c .before .before .before .beside in
-    let side = c .before .before .before .before .size322 in
-    let e = c .before .before .before .before .before in
-    let t = e .before in
-    let x = t .before .args in
-    read w32 (c .signed32 .result) (c .signed32 .ok) ∙ c .signed32 .ensures
-    ∙ vars-are (x .u) (x .watts) (t .struct-told .given .1 .1 .1 .1 .1 .1 .0 .1) (t .before .fits .watts .sfits) (below .result) (e .size32 .result) (side .result) (q .result)
-    (below .ensures) (e .size32 .ensures) (side .ensures) (q .ensures)
+    let z = c .before in
+    let v = z .before in
+    let b = v .before in
+    let t = b .before in
+    let s = t .before in
+    let x = s .args in
+    read w32 (c .vars-in .result) (c .vars-in .ok)
+    ∙ vars-are (x .u) (x .watts) (t .struct-told .given .1 .1 .1 .1 .1 .1 .0 .1) (s .fits .watts .sfits) (b .below-zero32 .result) (v .limited .result) (z .size32 .result) (c .vars-in .result)
+    (b .below-zero32 .ensures) (v .limited .ensures) (z .size32 .ensures) (c .vars-in .ensures)
 
 pub vars-spec : {M : Type 1} → statement M
-vars-spec =
-    tie.close
-    (tie.spec
-    size32-requires
-    size32-requires-2
-    beside-requires
-    below-zero32-requires
-    signed32-requires
-    returns)
+vars-spec = tie.close (tie.spec below-zero32-requires limited-requires size32-requires vars-in-requires returns)
