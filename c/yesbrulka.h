@@ -34,7 +34,7 @@ enum {
     YB_WRONG_LENGTH = 3, /* the length is not the tag's */
     YB_OUT_OF_ORDER = 4, /* the field may not come at this point */
     YB_OUT_OF_RANGE = 5, /* a value is outside its range */
-    YB_NOT_USABLE = 6, /* a reading does not convert to watts */
+    YB_NOT_USABLE = 6, /* a reading does not convert to watts, or a weather does not convert to thousandths */
     YB_WRONG_COUNT = 7, /* the end field counts other steps than there are */
     YB_END_MISSING = 8, /* the bytes stop between two fields, before the end field */
     YB_AFTER_END = 9, /* there are bytes after the end field */
@@ -59,8 +59,13 @@ enum {
 /* What a unit gives first where its kVA rating does not hold both. */
 enum { YB_WATTS_FIRST = 0, YB_VARS_FIRST = 1 };
 
-/* The most that there can be of units in a fleet, and of steps and bytes in a file. A fleet has at least one unit. */
-enum { YB_MOST_UNITS = 64, YB_MOST_STEPS = 65535, YB_MOST_FILE_BYTES = 2097152 };
+/* The most that there can be of units in a fleet, of inverters on a site, and of steps and bytes in a file. A fleet has
+** at least one unit; a site may have no inverter.
+*/
+enum { YB_MOST_UNITS = 64, YB_MOST_INVERTERS = 64, YB_MOST_STEPS = 65535, YB_MOST_FILE_BYTES = 2097152 };
+
+/* The points of a curve. */
+enum { YB_LEAST_POINTS = 2, YB_MOST_POINTS = 16 };
 
 /* The ranges of the values: each goes up to its most, and from where it is said; one with a sign from minus its most.
 ** Ratings in W and VA, var requests, targets, phase powers and the load of a study have one most. Reserve and stored
@@ -110,8 +115,8 @@ uint64_t yb_value_len(const uint8_t *file, size_t file_len, uint64_t place);
 
 /* Ask what a complete file says.
 **
-** yb_units returns the number of its units, 1 to 64, and yb_seconds the length of its steps, 1 to 86,400. Of a file
-** that is not complete both return 0.
+** yb_units returns the number of its units, 1 to 64, yb_inverters that of its inverters, 0 to 64, and yb_seconds the
+** length of its steps, 1 to 86,400. Of a file that is not complete all three return 0.
 **
 ** yb_settings stores the settings of the file: mode, target and band in W, factor in thousandths, and the phase
 ** choice. Returns 0, or the number of yb_check. The five are written only when 0 is returned.
@@ -126,6 +131,7 @@ uint64_t yb_value_len(const uint8_t *file, size_t file_len, uint64_t place);
 ** The twelve are written only when 0 is returned.
 */
 uint32_t yb_units(const uint8_t *file, size_t file_len);
+uint32_t yb_inverters(const uint8_t *file, size_t file_len);
 uint32_t yb_seconds(const uint8_t *file, size_t file_len);
 uint32_t yb_settings(const uint8_t *file, size_t file_len, uint8_t *mode, int32_t *target, uint32_t *band,
     uint16_t *factor, uint8_t *phase);
@@ -133,15 +139,19 @@ uint32_t yb_unit(const uint8_t *file, size_t file_len, uint32_t unit, uint64_t *
     uint64_t *stored, uint32_t *rating, uint32_t *kva, uint32_t *idle_loss, int32_t *var_request, uint16_t *weight,
     uint16_t *inverter, uint16_t *charge, uint16_t *discharge, uint8_t *priority);
 
-/* Run a file: take its readings in turn, each one pass of the controller (none where the reading is missing) and
-** one step of every unit, and write the result file.
+/* Run a file: take its steps in turn, each one pass of the controller (none where the reading is missing), one step of
+** every unit and one of every inverter, and write the result file.
 **
-** yb_run_room returns the bytes that the result needs, 40 x units x steps + 7, or 0 for a file that is not complete.
+** yb_run_room returns the bytes that the result needs, (40 x units + 29 x inverters) x steps + 7, or 0 for a file that
+** is not complete.
 **
 ** yb_run writes the result at the start of the room; the bytes of the room past it stay as they are. For each step
-** and in it for each unit there are 40 bytes: tag 0x11, length 37 (two bytes), step from 0 (four), unit from 0
-** (one), request in W (four, signed), delivered kW (eight, a double), vars (four, signed), stored J (eight), loss J
-** (eight). Then come the seven of the end: tag 0x1F, length 4, number of steps (four). All numbers are big-endian.
+** and in it for each unit there are 40 bytes: tag 0x11, length 37 (two bytes), step from 0 (four), unit from 0 (one),
+** request in W (four, signed), delivered kW (eight, a double), vars (four, signed), stored J (eight), loss J (eight).
+** Behind those of a step's units there are 29 bytes for each inverter: tag 0x12, length 26, step from 0 (four),
+** inverter from 0 (one), 1 if it is on, else 0 (one), delivered kW (eight, a double), vars (four, signed), DC power
+** in W (eight). Last come the seven of the end: tag 0x1F, length 4, number of steps (four). All numbers are
+** big-endian.
 **
 ** Returns 0, or the first of these that holds:
 **     the number of yb_check, whose place and steps are the check's
@@ -242,6 +252,38 @@ uint32_t yb_step(uint32_t seconds, uint64_t rated, uint64_t reserve, uint64_t st
     uint32_t rating, uint32_t kva, uint32_t idle_loss, int32_t var_request, uint16_t weight,
     uint16_t inverter, uint16_t charge, uint16_t discharge, uint8_t priority, int32_t request,
     int32_t *watts, int32_t *vars, uint64_t *stored_after, uint64_t *loss);
+
+/* Take one solar inverter through one step, in a weather.
+**
+** array is the rated power of its array, 1 to 100,000,000 W; kva is 1 to 100,000,000 VA; cut_in is 0 to 10,000 parts
+** in 10,000 of kva, cut_out 0 to cut_in, limit 0 to 10,000 parts in 10,000 of array; var_request is -100,000,000 to
+** 100,000,000 var; priority is 0 for watts, 1 for vars. on is 1 if the inverter was on before the step, 0 if it was
+** off.
+**
+** Each curve is a list of x and a list of y with an element for each of its 2 to 16 points; every x is larger than
+** the one before it. The warm curve gives the array's factor, 0 to 20,000 parts in 10,000, over the temperature,
+** -100,000,000 to 100,000,000 thousandths of a degree C; the eff curve gives the efficiency, 0 to 10,000 parts in
+** 10,000, over DC power per kva, 0 to 100,000,000 thousandths. Between two points a curve goes straight, and beyond
+** its ends it holds the end value.
+**
+** irradiance in kW/m2 and temperature in degrees C each become the whole number of thousandths nearest to them, as
+** yb_watts makes watts of kW: irradiance 0 to 100,000,000 of them, temperature -100,000,000 to 100,000,000.
+**
+** Stores in *on_after whether the inverter is on, 1 or 0, in *watts and *vars what it gives, and in *dc the DC power
+** of its array in W. It turns on where *dc is above cut_in, off where it is below cut_out, and else stays as it was;
+** one that is off gives 0 W and 0 var. *watts is 0 or more, and no more than *dc, than the limit and than kva.
+**
+** Returns 0, or the first of these that holds:
+**    10  the two lists of a curve are not of one length, or it is below 2 or above 16
+**     5  a value is outside its range, on among them, or the x of a curve do not rise
+**     6  irradiance or temperature is a NaN or an infinity, or in thousandths outside its range; an irradiance less
+**        than half a thousandth below 0 is 0, and is taken
+** The four are written only when 0 is returned.
+*/
+uint32_t yb_solar(uint32_t array, uint32_t kva, uint16_t cut_in, uint16_t cut_out, uint16_t limit, int32_t var_request,
+    uint8_t priority, const int32_t *warm_x, size_t warm_x_len, const int32_t *warm_y, size_t warm_y_len,
+    const int32_t *eff_x, size_t eff_x_len, const int32_t *eff_y, size_t eff_y_len, double irradiance,
+    double temperature, uint8_t on, uint8_t *on_after, int32_t *watts, int32_t *vars, uint64_t *dc);
 
 #ifdef __cplusplus
 }

@@ -2,14 +2,16 @@
 ** and shows how the check's time grows with the file.
 **
 ** Every file is made here. Those of the check have 64 units. With 65,535 steps of 27 bytes such a file has 1,772,804
-** bytes and is the largest complete file there is; the smaller ones have an eighth, a quarter and half of its steps.
-** The last file is the largest complete one with other bytes after it, up to the limit of 2,097,152: it takes the
-** same work and is refused where it should have ended.
+** bytes and is the largest complete file without weather; the smaller ones have an eighth, a quarter and half of its
+** steps. The last file is the largest one with other bytes after it, up to the limit of 2,097,152: it takes the same
+** work and is refused where it should have ended.
 **
 ** Those of the run have a year of hours, for 1, 8 and 64 units, once for a fleet that gives at the load's peaks and
 ** once for one that takes in its valleys. Each reading changes the requests, but for some within the band and for one
 ** in fifty that is missing; units of all kinds are among them, and part of them are empty or full before the year is
-** over. The runs include the check of the file.
+** over. Then the same for fleets of 8 and 64 units with as many inverters, with curves of 4 and of 16 points, in a sun
+** that brings them on and off every day; the weather of one hour in forty is missing. The runs include the check of the
+** file.
 **
 ** Exit status 0 if both checks gave the right number, place and steps for each file and both runs the same result, 1
 ** if one did not, 2 if there is no clock or the lines cannot be written. The times do not matter for it.
@@ -24,11 +26,12 @@
 
 #include "yesbrulka.h"
 
-/* A year of hours, and a record of its result. */
+/* A year of hours, and a record of its result for a unit and for an inverter. */
 #define YEAR 8760
 #define HOUR 3600
 #define RECORD 40
-#define MOST_ROOM (RECORD * YB_MOST_UNITS * YEAR + 7)
+#define SOLAR 29
+#define MOST_ROOM ((RECORD * YB_MOST_UNITS + SOLAR * YB_MOST_INVERTERS) * YEAR + 7)
 
 /* The complete files, each but the last with half of the next one's steps. */
 #define COMPLETE 4
@@ -66,6 +69,12 @@ struct row {
 
 static uint8_t file[YB_MOST_FILE_BYTES];
 static size_t file_len;
+
+/* The bytes of a step in a result. */
+static size_t step_bytes(int units, int inverters)
+{
+    return RECORD * (size_t)units + SOLAR * (size_t)inverters;
+}
 
 /* The room that is lent to a run, and the result that the archive left in it. */
 static uint8_t room[MOST_ROOM], kept[MOST_ROOM];
@@ -208,6 +217,55 @@ static void put_year_unit(int i, int mode)
     put(i % 4 == 2, 1); /* priority */
 }
 
+/* A curve whose x and y change by the same from each point to the next. */
+static void put_curve(int points, int32_t x, int32_t x_step, int32_t y, int32_t y_step)
+{
+    put_head(0x07, 129);
+    put((uint64_t)points, 1);
+    for (int point = 0; point < 16; point++) {
+        int there = point < points;
+        put(there ? (uint32_t)(x + point * x_step) : 0, 4);
+        put(there ? (uint32_t)(y + point * y_step) : 0, 4);
+    }
+}
+
+/* Inverter i of a year's site: no two neighbours are alike in power, limit, vars, priority or curves. */
+static void put_year_inverter(int i)
+{
+    uint32_t array = 9000 + 700 * (uint32_t)(i % 5);
+    uint32_t kva = array * (uint32_t)(80 + 5 * (i % 6)) / 100;
+    /* None, some, or so many that the circle cuts them. */
+    int32_t vars = i % 3 == 0 ? 0 : i % 3 == 1 ? (int32_t)kva / 3 : -(int32_t)kva * 9 / 10;
+    put_head(0x06, 19);
+    put(array, 4); /* array power, kVA */
+    put(kva, 4);
+    put(150 + 50 * (uint64_t)(i % 4), 2); /* cut-in, cut-out, limit */
+    put(100, 2);
+    put(i % 4 == 3 ? 7000 : 10000, 2);
+    put((uint32_t)vars, 4); /* var request, priority */
+    put(i % 4 == 2, 1);
+    if (i % 2 == 0) {
+        put_curve(4, 0, 30000, 11000, -1200);
+        put_curve(4, 100, 300, 8600, 350);
+    } else {
+        put_curve(16, -15000, 6000, 11600, -240);
+        put_curve(16, 20, 70, 8000, 110);
+    }
+}
+
+/* The sun at an hour, in W/m2 less what clouds take, and the panels' temperature. */
+static void put_hours_weather(uint32_t step, uint64_t *state)
+{
+    static const int32_t sun[24] = {0, 0, 0, 0, 0, 20, 110, 250, 430, 610, 770, 890, 950, 940, 870, 740, 570, 380, 190,
+        50, 5, 0, 0, 0};
+    if (draw(state, 40) == 0)
+        return;
+    int32_t watts = sun[step % 24] * (int32_t)(30 + draw(state, 71)) / 100;
+    put_head(0x08, 16);
+    put_kw(watts);
+    put_kw(8000 + 40 * watts + (int32_t)draw(state, 9001));
+}
+
 /* What a farm draws at an hour, in watts for each unit of the fleet, and anything up to a kW less or more. */
 static void put_hour(uint32_t step, int units, uint64_t *state)
 {
@@ -224,20 +282,27 @@ static void put_hour(uint32_t step, int units, uint64_t *state)
     put_kw(watts - watts * 2 / 5 - watts / 3);
 }
 
-/* Makes the file of a year in mode 1, which gives at the peaks, or 3, which takes in the valleys. */
-static void make_year(int units, int mode)
+/* Makes the file of a year in mode 1, which gives at the peaks, or 3, which takes in the valleys. Without inverters
+** there is no weather.
+*/
+static void make_year(int units, int inverters, int mode)
 {
-    uint64_t state = 2;
+    uint64_t state = 2, sky = 3;
     uint32_t each = (uint32_t)units;
     file_len = 0;
     put_fleet(units, HOUR);
     for (int i = 0; i < units; i++)
         put_year_unit(i, mode);
     put_settings(mode, (mode == 3 ? 3200 : 4800) * each, 300 * each, 400);
-    for (uint32_t step = 0; step < YEAR; step++)
+    for (int i = 0; i < inverters; i++)
+        put_year_inverter(i);
+    for (uint32_t step = 0; step < YEAR; step++) {
+        if (inverters != 0)
+            put_hours_weather(step, &sky);
         put_hour(step, units, &state);
+    }
     put_end(YEAR);
-    room_len = RECORD * (size_t)units * YEAR + 7;
+    room_len = step_bytes(units, inverters) * YEAR + 7;
 }
 
 /* 1 if an answer is the right one, else 0 and a line that says what it is. */
@@ -383,7 +448,7 @@ static void show_growth(const struct row *rows, int count)
 }
 
 /* 1 if both runs are accepted and leave the same bytes, else 0 and a line that says what they did. */
-static int same_result(int units, int mode)
+static int same_result(int units, int inverters, int mode)
 {
     memset(room, 0, room_len);
     uint32_t archive = yb_run(file, file_len, room, room_len);
@@ -395,8 +460,9 @@ static int same_result(int units, int mode)
         at++;
     if (archive == 0 && reference == 0 && at == room_len)
         return 1;
-    printf("WRONG: the run of %d units in mode %d: the archive's number is %" PRIu32 ", the reference's %" PRIu32
-        ", and the results are alike up to byte %zu of %zu\n", units, mode, archive, reference, at, room_len);
+    printf("WRONG: the run of %d units and %d inverters in mode %d: the archive's number is %" PRIu32
+        ", the reference's %" PRIu32 ", and the results are alike up to byte %zu of %zu\n",
+        units, inverters, mode, archive, reference, at, room_len);
     return 0;
 }
 
@@ -413,28 +479,33 @@ static int asked_in(const uint8_t *record)
     return (record[8] | record[9] | record[10] | record[11]) != 0;
 }
 
-/* Of all records of the result after the first step's, the parts in a hundred where the unit was asked, and where its
-** store moved: what the year was like.
+/* Of all records of units after the first step's, the parts in a hundred where the unit was asked, and where its store
+** moved, and of all records of inverters those where it was on: what the year was like.
 */
-static void show_year(int units)
+static void show_year(int units, int inverters)
 {
-    size_t first = RECORD * (size_t)units, asked = 0, moved = 0, all = (size_t)units * (YEAR - 1);
-    for (const uint8_t *record = kept + first; record < kept + room_len - 7; record += RECORD) {
-        asked += (size_t)asked_in(record);
-        moved += stored_in(record) != stored_in(record - first);
+    size_t step = step_bytes(units, inverters), asked = 0, moved = 0, on = 0;
+    size_t all = (size_t)units * (YEAR - 1), solar = (size_t)inverters * (YEAR - 1);
+    for (const uint8_t *at = kept + step; at < kept + room_len - 7; at += step) {
+        for (const uint8_t *record = at; record < at + RECORD * units; record += RECORD) {
+            asked += (size_t)asked_in(record);
+            moved += stored_in(record) != stored_in(record - step);
+        }
+        for (const uint8_t *record = at + RECORD * units; record < at + step; record += SOLAR)
+            on += record[8];
     }
-    printf("  %5zu  %5zu", 100 * asked / all, 100 * moved / all);
+    printf("  %5zu  %5zu  %3zu", 100 * asked / all, 100 * moved / all, solar == 0 ? 0 : 100 * on / solar);
 }
 
-static int show_run(int units, int mode)
+static int show_run(int units, int inverters, int mode)
 {
-    make_year(units, mode);
-    if (!same_result(units, mode))
+    make_year(units, inverters, mode);
+    if (!same_result(units, inverters, mode))
         return 0;
     struct pair pair = measure(time_run, time_ref_run);
-    double steps = (double)units * YEAR;
-    printf("%5d  %4d", units, mode);
-    show_year(units);
+    double steps = (double)(units + inverters) * YEAR;
+    printf("%5d  %9d  %4d", units, inverters, mode);
+    show_year(units, inverters);
     printf("  |  %8.1f  %9.1f  %7.4f", pair.archive.median / steps, pair.reference.median / steps, pair.ratio);
     printf("  |  %8.1f  %9.1f  %7.4f\n", pair.archive.least / steps, pair.reference.least / steps,
         pair.archive.least / pair.reference.least);
@@ -442,23 +513,26 @@ static int show_run(int units, int mode)
     return 1;
 }
 
-/* The runs of a year for each fleet. */
+/* The runs of a year for each fleet, without inverters and with them. */
 static int show_runs(void)
 {
-    static const int fleets[] = {1, 8, 64};
+    static const int fleets[] = {1, 8, 64}, roofs[] = {8, 64};
     int right = 1;
-    printf("\nThe run of %d steps: ns for each step of a unit, the check of the file included, of %d rounds.\n",
-        YEAR, ROUNDS);
+    printf("\nThe run of %d steps: ns for each step of a unit or an inverter, the check of the file included, of %d "
+        "rounds.\n", YEAR, ROUNDS);
     printf("The ratio under median is the median of the rounds' own; asked and moved are the parts in a hundred of\n"
-        "the year in which a unit was asked for power, and in which its store moved.\n\n");
-    printf("%25s  |  %-28s  |  least\n", "", "median");
-    printf("%5s  %4s  %5s  %5s", "units", "mode", "asked", "moved");
+        "the year in which a unit was asked for power, and in which its store moved; on, those in which an inverter\n"
+        "was on.\n\n");
+    printf("%41s  |  %-28s  |  least\n", "", "median");
+    printf("%5s  %9s  %4s  %5s  %5s  %3s", "units", "inverters", "mode", "asked", "moved", "on");
     for (int i = 0; i < 2; i++)
         printf("  |  %8s  %9s  %7s", "archive", "reference", "ratio");
     printf("\n");
     for (size_t i = 0; i < sizeof fleets / sizeof fleets[0]; i++)
         for (int mode = 1; mode <= 3; mode += 2)
-            right &= show_run(fleets[i], mode);
+            right &= show_run(fleets[i], 0, mode);
+    for (size_t i = 0; i < sizeof roofs / sizeof roofs[0]; i++)
+        right &= show_run(roofs[i], roofs[i], 1);
     return right;
 }
 
@@ -472,8 +546,8 @@ int main(void)
     right &= show(make_overlong(), &overlong);
     if (right) {
         show_growth(rows, COMPLETE);
-        printf("\nThe file of %" PRIu64 " bytes is the largest complete one; the last is the same with other bytes\n"
-            "after it.\n", overlong.right.place);
+        printf("\nThe file of %" PRIu64 " bytes is the largest complete one without weather; the last is the same\n"
+            "with other bytes after it.\n", overlong.right.place);
     }
     right &= show_runs();
     printf("\nThe reference here is ordinary Rust written to be quick (reference/bench/src/tight.rs, run.rs).\n");

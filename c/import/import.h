@@ -14,8 +14,8 @@
 /* What came of a command, which is its exit status. */
 enum { COMPLETE = 0, REFUSED = 1, FAILED = 2 };
 
-/* A file as it was read, and the check's answer. The units, 1 to 64, are those of a file that was asked for as a
-** complete one.
+/* A file as it was read, and the check's answer. The units, 1 to 64, and the inverters, 0 to 64, are those of a file
+** that was asked for as a complete one.
 */
 struct stick {
     const char *name;
@@ -23,7 +23,7 @@ struct stick {
     size_t len;
     uint32_t number, steps;
     uint64_t place;
-    unsigned units;
+    unsigned units, inverters;
 };
 
 /* The settings of a complete stick, and one of its units. */
@@ -47,7 +47,7 @@ struct unit {
 struct run {
     uint8_t *bytes;
     size_t len;
-    unsigned units;
+    unsigned units, inverters;
     uint32_t steps;
 };
 
@@ -63,6 +63,12 @@ int fault(const char *name);
 /* Read and check a file. Gives what came of it; where it FAILED, that is told. */
 int ask(struct stick *stick, const char *name);
 
+/* A field's tag and the two bytes of its length are its header. Give the length that a field says, at a place where
+** its header is there.
+*/
+enum { HEADER = 3 };
+unsigned said_length(const struct stick *stick, uint64_t place);
+
 /* Print a file's line and, of a refused one, what to do about it; and with show the refused field's bytes. */
 void print_answer(const struct stick *stick, int show);
 
@@ -74,6 +80,12 @@ int ask_complete(struct stick *stick, const char *name, const char *not_done);
 */
 int ask_settings(struct settings *settings, const struct stick *stick);
 int ask_unit(struct unit *unit, const struct stick *stick, unsigned which);
+
+/* import_advice.c */
+
+/* What a refused file's line calls its refusal; and the line below it, which says what happened and what to do. */
+const char *refusal_name(const struct stick *stick);
+void print_advice(const struct stick *stick);
 
 /* import_run.c */
 

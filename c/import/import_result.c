@@ -15,21 +15,36 @@ static const struct part {
     {0, "tag"}, {RECORD_LENGTH, "length"}, {RECORD_STEP, "step"}, {RECORD_UNIT, "unit"}, {RECORD_REQUEST, "request"},
     {RECORD_KW, "delivered kW"}, {RECORD_VARS, "vars"}, {RECORD_STORED, "stored energy"}, {RECORD_LOSS, "loss"},
     {RECORD_BYTES, NULL},
+}, solar_parts[] = {
+    {0, "tag"}, {SOLAR_LENGTH, "length"}, {SOLAR_STEP, "step"}, {SOLAR_INVERTER, "inverter"}, {SOLAR_ON, "on"},
+    {SOLAR_KW, "delivered kW"}, {SOLAR_VARS, "vars"}, {SOLAR_DC, "DC power"}, {SOLAR_BYTES, NULL},
 }, end_parts[] = {
     {0, "tag"}, {RESULT_END_LENGTH, "length"}, {RESULT_END_STEPS, "number of steps"}, {RESULT_END_BYTES, NULL},
 };
 
+size_t step_bytes(const struct run *run)
+{
+    return (size_t)RECORD_BYTES * run->units + (size_t)SOLAR_BYTES * run->inverters;
+}
+
+static const char *part_name(const struct part *part, size_t byte)
+{
+    while (part[1].name != NULL && part[1].from <= byte)
+        part++;
+    return part->name;
+}
+
 /* Which part of the result a byte belongs to. */
 static void print_part(const struct run *run, size_t place)
 {
-    size_t record = place / RECORD_BYTES, records = (size_t)run->units * run->steps;
-    const struct part *part = record < records ? record_parts : end_parts;
-    while (part[1].name != NULL && part[1].from <= place % RECORD_BYTES)
-        part++;
-    if (record < records)
-        printf("step %zu, unit %zu, %s", record / run->units, record % run->units, part->name);
+    size_t step = place / step_bytes(run), units = (size_t)RECORD_BYTES * run->units, byte = place % step_bytes(run);
+    if (step >= run->steps)
+        printf("the end's %s", part_name(end_parts, byte));
+    else if (byte < units)
+        printf("step %zu, unit %zu, %s", step, byte / RECORD_BYTES, part_name(record_parts, byte % RECORD_BYTES));
     else
-        printf("the end's %s", part->name);
+        printf("step %zu, inverter %zu, %s", step, (byte - units) / SOLAR_BYTES,
+            part_name(solar_parts, (byte - units) % SOLAR_BYTES));
 }
 
 /* Where a result file and the run differ first: the place, and the file's byte there, or EOF where it ends. A result
@@ -99,12 +114,38 @@ static double double_at(const uint8_t *bytes)
     return number;
 }
 
-/* Whether every power of the run can be shown; they always can. */
-static int has_powers(const struct run *run)
+static const uint8_t *unit_bytes(const struct run *run, uint32_t step, unsigned unit)
+{
+    return run->bytes + step_bytes(run) * step + (size_t)RECORD_BYTES * unit;
+}
+
+static const uint8_t *inverter_bytes(const struct run *run, uint32_t step, unsigned inverter)
+{
+    return unit_bytes(run, step, run->units) + (size_t)SOLAR_BYTES * inverter;
+}
+
+/* Whether every power of a step can be shown, and no inverter gives more than its array. */
+static int has_powers(const struct run *run, uint32_t step)
 {
     int32_t watts;
-    for (size_t at = 0; at + RECORD_BYTES <= run->len; at += RECORD_BYTES)
-        if (yb_watts(double_at(run->bytes + at + RECORD_KW), &watts) != 0)
+    for (unsigned unit = 0; unit < run->units; unit++)
+        if (yb_watts(double_at(unit_bytes(run, step, unit) + RECORD_KW), &watts) != 0)
+            return 0;
+    for (unsigned i = 0; i < run->inverters; i++) {
+        const uint8_t *at = inverter_bytes(run, step, i);
+        if (yb_watts(double_at(at + SOLAR_KW), &watts) != 0)
+            return 0;
+        if (watts < 0 || (uint64_t)watts > number_at(at + SOLAR_DC, 8))
+            return 0;
+    }
+    return 1;
+}
+
+/* The same of all steps; it always is so. */
+static int can_be_shown(const struct run *run)
+{
+    for (uint32_t step = 0; step < run->steps; step++)
+        if (!has_powers(run, step))
             return 0;
     return 1;
 }
@@ -122,7 +163,7 @@ int open_result(struct stick *stick, struct run *run, const char *file, const ch
         outcome = failed(result, "cannot be read: ", why);
     else if (found.place != run->len || found.byte != EOF)
         outcome = other_result(&found, run, file, result);
-    else if (!has_powers(run))
+    else if (!can_be_shown(run))
         outcome = fault(file);
     if (outcome != COMPLETE)
         free(run->bytes);
@@ -132,7 +173,7 @@ int open_result(struct stick *stick, struct run *run, const char *file, const ch
 /* The kW are watts divided by one thousand and rounded once; the conversion of readings gives the watts back. */
 struct record record_at(const struct run *run, uint32_t step, unsigned unit)
 {
-    const uint8_t *at = run->bytes + RECORD_BYTES * ((size_t)run->units * step + unit);
+    const uint8_t *at = unit_bytes(run, step, unit);
     struct record record = {
         .request = signed_at(at + RECORD_REQUEST),
         .vars = signed_at(at + RECORD_VARS),
@@ -143,10 +184,41 @@ struct record record_at(const struct run *run, uint32_t step, unsigned unit)
     return record;
 }
 
+struct solar solar_at(const struct run *run, uint32_t step, unsigned inverter)
+{
+    const uint8_t *at = inverter_bytes(run, step, inverter);
+    struct solar solar = {
+        .on = at[SOLAR_ON],
+        .vars = signed_at(at + SOLAR_VARS),
+        .dc = number_at(at + SOLAR_DC, 8),
+    };
+    yb_watts(double_at(at + SOLAR_KW), &solar.watts);
+    return solar;
+}
+
 void kw_text(char *text, int64_t watts)
 {
     int64_t size = watts < 0 ? -watts : watts;
     snprintf(text, KW_TEXT, "%s%" PRId64 ".%03d", watts < 0 ? "-" : "", size / 1000, (int)(size % 1000));
+}
+
+static void print_unit(const struct run *run, uint32_t step, unsigned unit)
+{
+    struct record r = record_at(run, step, unit);
+    char kw[KW_TEXT];
+    kw_text(kw, r.watts);
+    printf("%" PRIu32 "\t%u\t%" PRId32 "\t%s\t%" PRId32 "\t%" PRIu64 "\t%" PRIu64 "\n", step, unit, r.request, kw,
+        r.vars, r.stored, r.loss);
+}
+
+/* An inverter has no request, store and loss; what a unit has not comes behind. */
+static void print_inverter(const struct run *run, uint32_t step, unsigned inverter)
+{
+    struct solar s = solar_at(run, step, inverter);
+    char kw[KW_TEXT];
+    kw_text(kw, s.watts);
+    printf("%" PRIu32 "\tinverter %u\t-\t%s\t%" PRId32 "\t-\t-\t%d\t%" PRIu64 "\n", step, inverter, kw, s.vars, s.on,
+        s.dc);
 }
 
 /* import table: the result file as lines of numbers parted by tabs. */
@@ -154,18 +226,16 @@ int table_command(const char *file, const char *result)
 {
     struct stick stick;
     struct run run;
-    char kw[KW_TEXT];
     int outcome = open_result(&stick, &run, file, result);
     if (outcome != COMPLETE)
         return outcome;
-    printf("step\tunit\trequest W\tdelivered kW\tvars\tstored J\tloss J\n");
-    for (uint32_t step = 0; step < run.steps && !ferror(stdout); step++)
-        for (unsigned unit = 0; unit < run.units; unit++) {
-            struct record r = record_at(&run, step, unit);
-            kw_text(kw, r.watts);
-            printf("%" PRIu32 "\t%u\t%" PRId32 "\t%s\t%" PRId32 "\t%" PRIu64 "\t%" PRIu64 "\n", step, unit, r.request,
-                kw, r.vars, r.stored, r.loss);
-        }
+    printf("step\tunit\trequest W\tdelivered kW\tvars\tstored J\tloss J%s\n", run.inverters != 0 ? "\ton\tDC W" : "");
+    for (uint32_t step = 0; step < run.steps && !ferror(stdout); step++) {
+        for (unsigned unit = 0; unit < run.units; unit++)
+            print_unit(&run, step, unit);
+        for (unsigned inverter = 0; inverter < run.inverters; inverter++)
+            print_inverter(&run, step, inverter);
+    }
     free(run.bytes);
     return COMPLETE;
 }

@@ -4,8 +4,9 @@
 
 #include "import.h"
 
-/* The layout of a result file, which stands here alone: the parts of a record, and of the end, by their first bytes,
-** and the bytes of all of them. A tag is a byte, a length two; the numbers are big-endian.
+/* The layout of a result file, which stands here alone: the parts of a unit's record, of an inverter's and of the end,
+** by their first bytes, and the bytes of all of them. A tag is a byte, a length two; the numbers are big-endian. In
+** each step come the records of the units and then those of the inverters.
 */
 enum {
     RECORD_TAG = 0x11,
@@ -20,17 +21,37 @@ enum {
     RECORD_BYTES = 40
 };
 enum {
+    SOLAR_TAG = 0x12,
+    SOLAR_LENGTH = 1,
+    SOLAR_STEP = 3,
+    SOLAR_INVERTER = 7,
+    SOLAR_ON = 8,
+    SOLAR_KW = 9,
+    SOLAR_VARS = 17,
+    SOLAR_DC = 21,
+    SOLAR_BYTES = 29
+};
+enum {
     RESULT_END_TAG = 0x1F,
     RESULT_END_LENGTH = 1,
     RESULT_END_STEPS = 3,
     RESULT_END_BYTES = 7
 };
 
-/* What a result says of one unit in one step. */
+/* What a result says of one unit in one step, and of one inverter. */
 struct record {
     int32_t request, watts, vars;
     uint64_t stored, loss;
 };
+
+struct solar {
+    int on;
+    int32_t watts, vars;
+    uint64_t dc;
+};
+
+/* The bytes of all records of one step. */
+size_t step_bytes(const struct run *run);
 
 /* Check a run file, run it, and compare a result file with what that gives. Where it is COMPLETE the run is to be
 ** freed; anything else is told, and nothing of the result is to be shown.
@@ -38,6 +59,7 @@ struct record {
 int open_result(struct stick *stick, struct run *run, const char *file, const char *result);
 
 struct record record_at(const struct run *run, uint32_t step, unsigned unit);
+struct solar solar_at(const struct run *run, uint32_t step, unsigned inverter);
 
 /* Watts as kW with all of their three decimals, in a text of at most 24 bytes. */
 enum { KW_TEXT = 24 };

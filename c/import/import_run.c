@@ -12,9 +12,10 @@
 int make_run(struct run *run, const struct stick *stick)
 {
     run->units = stick->units;
+    run->inverters = stick->inverters;
     run->steps = stick->steps;
     uint64_t room = yb_run_room(stick->bytes, stick->len);
-    if (room != (uint64_t)RECORD_BYTES * run->units * run->steps + RESULT_END_BYTES)
+    if (room != (uint64_t)step_bytes(run) * run->steps + RESULT_END_BYTES)
         return fault(stick->name);
     run->len = (size_t)room;
     run->bytes = calloc(1, run->len);

@@ -10,54 +10,6 @@
 /* One byte more than a file may have is enough to know that it has too many. */
 enum { READ_BYTES = YB_MOST_FILE_BYTES + 1 };
 
-/* What is read of a stick here, to name the field that was refused: a field's tag and, after it, the two bytes of its
-** length, which together are its header.
-*/
-enum { FLEET_TAG = 0x01, UNIT_TAG = 0x02, SETTINGS_TAG = 0x03, HEADER = 3 };
-
-/* The refusals by their numbers: what stands in the file's line, and what the person who has the stick in
-** hand should know and do. In the second, # is the field that is meant and @ the row of the readings.
-*/
-static const struct {
-    const char *name, *advice;
-} refusals[] = {
-    {"no refusal", "This is a fault of the program. Keep the file and tell the developers."},
-    [YB_CUT_SHORT] = {"field cut short",
-        "The file ends in the middle of a field: the copy is not whole. Copy the stick again; if it stays so, ask "
-        "the manager for a new one."},
-    [YB_UNKNOWN_TAG] = {"unknown tag",
-        "No field begins like this: the bytes are damaged, or another program wrote them. Copy the stick again; "
-        "if it stays so, ask the manager what wrote it."},
-    [YB_WRONG_LENGTH] = {"wrong length",
-        "The field's length is not the one that its tag has: bytes were changed or lost here. Copy the stick "
-        "again; if it stays so, ask the manager for a new one."},
-    [YB_OUT_OF_ORDER] = {"field out of order",
-        "Before this field one is missing, or this one is there twice or in the wrong place. Do not repair the "
-        "file; ask the manager to write the stick anew."},
-    [YB_OUT_OF_RANGE] = {"value out of range",
-        "A value of # is smaller or larger than it may be. Ask the manager to correct # and to write the stick "
-        "anew."},
-    [YB_NOT_USABLE] = {"reading not usable",
-        "A phase power is no number or is beyond 100,000 kW. Ask the manager for @, and have it entered again or "
-        "marked as missing."},
-    [YB_WRONG_COUNT] = {"wrong step count",
-        "The end field counts other steps than the file has: rows were lost or added. Copy the stick again; if it "
-        "stays so, ask the manager for a new one."},
-    [YB_END_MISSING] = {"end field missing",
-        "The file is empty or stops between two fields: it was not written to its end. Copy the stick again; if it "
-        "stays so, ask the manager to write it anew."},
-    [YB_AFTER_END] = {"bytes after the end",
-        "Something follows the end field: a second file, or what an older one left. Ask the manager for a stick "
-        "with this one season on it."},
-    [YB_DOES_NOT_FIT] = {"lists or requests do not fit",
-        "This is about a call of the library and not about the stick. Keep the file and tell the developers."},
-    [YB_ROOM_TOO_SHORT] = {"room too short",
-        "This is about a call of the library and not about the stick. Keep the file and tell the developers."},
-    [YB_TOO_MANY] = {"too many bytes or steps",
-        "A stick holds at most 2,097,152 bytes and 65,535 steps. Ask the manager to divide the season, with a stick "
-        "for each part."},
-};
-
 static uint8_t file[READ_BYTES];
 
 /* Reads a file, as much of it as is needed; gives NULL, or why it cannot be read. */
@@ -95,64 +47,9 @@ int fault(const char *name)
     return failed(name, "the library's answer is not about this file; ", "keep it and tell the developers");
 }
 
-/* The length that a field says, at a place where its tag and length are there. */
-static unsigned said_length(uint64_t place)
+unsigned said_length(const struct stick *stick, uint64_t place)
 {
-    return (unsigned)file[place + 1] << 8 | file[place + 2];
-}
-
-/* Which unit's field is at a place, counted from the first. All fields before it are good. */
-static void print_unit(uint64_t place)
-{
-    static const char *const ends[] = {"th", "st", "nd", "rd"};
-    unsigned unit = 1;
-    for (uint64_t at = 0; at < place && place - at >= HEADER; at += HEADER + said_length(at))
-        unit += file[at] == UNIT_TAG;
-    printf("the %u%s unit", unit, unit % 10 > 3 || unit / 10 % 10 == 1 ? "th" : ends[unit % 10]);
-}
-
-static void print_field(const struct stick *stick)
-{
-    switch (stick->place < stick->len ? file[stick->place] : 0) {
-    case FLEET_TAG:
-        printf("the fleet");
-        break;
-    case UNIT_TAG:
-        print_unit(stick->place);
-        break;
-    case SETTINGS_TAG:
-        printf("the settings");
-        break;
-    default:
-        printf("the field");
-        break;
-    }
-}
-
-static void print_row(uint32_t steps)
-{
-    if (steps == 0)
-        printf("the first row of readings");
-    else
-        printf("the row of readings after the first %" PRIu32, steps);
-}
-
-static void print_advice(const struct stick *stick, const char *advice)
-{
-    printf("    ");
-    for (; *advice != '\0'; advice++)
-        switch (*advice) {
-        case '#':
-            print_field(stick);
-            break;
-        case '@':
-            print_row(stick->steps);
-            break;
-        default:
-            putchar(*advice);
-            break;
-        }
-    putchar('\n');
+    return (unsigned)stick->bytes[place + 1] << 8 | stick->bytes[place + 2];
 }
 
 /* The value bytes of the refused field, 16 a row, each row with the place of its first byte. */
@@ -167,15 +64,15 @@ static void print_value(const struct stick *stick)
             why = "the file ends before it";
         else if (stick->len - place < HEADER)
             why = "the file ends within its tag and length";
-        else if (said_length(place) != 0)
+        else if (said_length(stick, place) != 0)
             why = "the file ends after its tag and length";
         printf("    The field has no value bytes: %s.\n", why);
         return;
     }
-    if (said_length(place) == count)
+    if (said_length(stick, place) == count)
         printf("    The field's %" PRIu64 " value bytes:\n", count);
     else
-        printf("    The %" PRIu64 " value bytes that are there, of %u:\n", count, said_length(place));
+        printf("    The %" PRIu64 " value bytes that are there, of %u:\n", count, said_length(stick, place));
     for (uint64_t at = 0; at < count; at++) {
         if (at % 16 == 0)
             printf("    %8" PRIu64 " ", start + at);
@@ -220,10 +117,9 @@ void print_answer(const struct stick *stick, int show)
         printf(": complete, %" PRIu32 " steps\n", stick->steps);
         return;
     }
-    unsigned known = stick->number < sizeof refusals / sizeof refusals[0] ? stick->number : 0;
     printf(": refused %" PRIu32 " (%s) at byte %" PRIu64 " after %" PRIu32 " steps\n", stick->number,
-        known != 0 ? refusals[known].name : "unknown refusal", stick->place, stick->steps);
-    print_advice(stick, refusals[known].advice);
+        refusal_name(stick), stick->place, stick->steps);
+    print_advice(stick);
     if (looks_like_a_result(stick))
         printf("    It looks like a result file; where a command takes both, the stick's file comes first.\n");
     if (show)
@@ -238,7 +134,8 @@ int ask_complete(struct stick *stick, const char *name, const char *not_done)
         failed(name, "refused; ", not_done);
     } else if (outcome == COMPLETE) {
         stick->units = yb_units(file, stick->len);
-        if (stick->units < 1 || stick->units > YB_MOST_UNITS)
+        stick->inverters = yb_inverters(file, stick->len);
+        if (stick->units < 1 || stick->units > YB_MOST_UNITS || stick->inverters > YB_MOST_INVERTERS)
             return fault(name);
     }
     return outcome;

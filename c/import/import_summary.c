@@ -1,13 +1,11 @@
-/* import summary: what a planner asks of a result, a line for each unit and one for the fleet. */
+/* import summary: what a planner asks of a result, a line for each unit and one for the fleet, and beneath them a line
+** for each inverter and one for the roof.
+*/
 #include <inttypes.h>
 #include <stdlib.h>
 #include <string.h>
 
-#include "import_result.h"
-#include "yesbrulka.h"
-
-/* Sixty-four units that draw all they can through 65,535 steps of a day take more joules than 64 bits hold. */
-typedef unsigned __int128 joules;
+#include "import_summary.h"
 
 /* A unit's line, or the fleet's: the request of the largest size, the most watts out and in of a step, the energy
 ** out, in and lost, the least stored and the first step that left it, and the steps whose request was not met.
@@ -80,30 +78,6 @@ static void see_run(struct line *lines, const struct run *run, uint32_t seconds)
     }
 }
 
-/* A heading, a line for each unit and the fleet's, as texts, to be set in columns. */
-enum { ROWS = YB_MOST_UNITS + 2, COLUMNS = 13, CELL = 48 };
-
-typedef char row[COLUMNS][CELL];
-
-static void whole_text(char *text, joules number)
-{
-    char digits[CELL] = "";
-    int at = CELL - 1;
-    do
-        digits[--at] = (char)('0' + (int)(number % 10));
-    while ((number /= 10) != 0);
-    memcpy(text, digits + at, (size_t)(CELL - at));
-}
-
-/* Joules, and beside them the nearest kWh of three decimals. */
-static void energy_texts(char *whole, char *kwh, joules energy)
-{
-    joules watt_hours = (energy + 1800) / 3600;
-    whole_text(whole, energy);
-    whole_text(kwh, watt_hours / 1000);
-    snprintf(kwh + strlen(kwh), 5, ".%03d", (int)(watt_hours % 1000));
-}
-
 /* Without a step there is no least store. */
 static void line_texts(row cells, const struct line *line, uint32_t steps)
 {
@@ -120,18 +94,6 @@ static void line_texts(row cells, const struct line *line, uint32_t steps)
     snprintf(cells[12], CELL, "%" PRIu32, line->not_met);
 }
 
-static void print_rows(row *rows, unsigned count)
-{
-    int width[COLUMNS] = {0};
-    for (unsigned i = 0; i < count; i++)
-        for (int k = 0; k < COLUMNS; k++)
-            if ((int)strlen(rows[i][k]) > width[k])
-                width[k] = (int)strlen(rows[i][k]);
-    for (unsigned i = 0; i < count; i++)
-        for (int k = 0; k < COLUMNS; k++)
-            printf("%*s%s", width[k], rows[i][k], k + 1 == COLUMNS ? "\n" : "  ");
-}
-
 static void print_lines(const struct line *lines, const struct run *run)
 {
     static const char *const heading[COLUMNS] = {"unit", "request_W", "out_kW", "in_kW", "out_J", "out_kWh", "in_J",
@@ -144,16 +106,19 @@ static void print_lines(const struct line *lines, const struct run *run)
         line_texts(rows[i + 1], &lines[i], run->steps);
     }
     strcpy(rows[run->units + 1][0], "fleet");
-    print_rows(rows, run->units + 2);
+    print_rows(rows, run->units + 2, COLUMNS);
 }
 
-static void print_settings(unsigned units, uint32_t seconds, const struct settings *settings)
+static void print_settings(const struct stick *stick, uint32_t seconds, const struct settings *settings)
 {
     static const char *const modes[] = {
         [YB_PEAK_SHAVE] = " (PeakShave)", [YB_SUPPORT] = " (Support)", [YB_PEAK_SHAVE_LOW] = " (PeakShaveLow)"};
     unsigned mode = settings->mode;
     int named = mode < sizeof modes / sizeof modes[0] && modes[mode] != NULL;
-    printf("%u units, steps of %" PRIu32 " s, mode %u%s, ", units, seconds, mode, named ? modes[mode] : "");
+    printf("%u units, ", stick->units);
+    if (stick->inverters != 0)
+        printf("%u inverters, ", stick->inverters);
+    printf("steps of %" PRIu32 " s, mode %u%s, ", seconds, mode, named ? modes[mode] : "");
     printf("target %" PRId32 " W, band %" PRIu32 " W, factor %u\n", settings->target, settings->band,
         (unsigned)settings->factor);
 }
@@ -161,6 +126,7 @@ static void print_settings(unsigned units, uint32_t seconds, const struct settin
 int summary_command(const char *file, const char *result)
 {
     static struct line lines[YB_MOST_UNITS + 1];
+    static struct roof_line roof[YB_MOST_INVERTERS + 1];
     struct stick stick;
     struct run run;
     struct settings settings;
@@ -169,12 +135,15 @@ int summary_command(const char *file, const char *result)
         return outcome;
     uint32_t seconds = yb_seconds(stick.bytes, stick.len);
     see_run(lines, &run, seconds);
+    see_roof(roof, &run, seconds);
     free(run.bytes);
     outcome = seconds != 0 ? ask_settings(&settings, &stick) : fault(file);
     if (outcome != COMPLETE)
         return outcome;
     print_answer(&stick, 0);
-    print_settings(stick.units, seconds, &settings);
+    print_settings(&stick, seconds, &settings);
     print_lines(lines, &run);
+    if (run.inverters != 0)
+        print_roof(roof, &run);
     return COMPLETE;
 }

@@ -321,6 +321,65 @@ static void call_step(const uint8_t *payload, size_t length)
     }
 }
 
+/* A double by its bits. */
+static double take_double(struct rest *rest)
+{
+    uint64_t bits = take_number(rest, 8);
+    double r;
+    memcpy(&r, &bits, sizeof r);
+    return r;
+}
+
+/* The four lists of an inverter's curves, in the order of the call. They stand where those of a fleet stand that are
+** only read.
+*/
+enum { WARM_X, WARM_Y, EFF_X, EFF_Y, CURVE_LISTS };
+
+/* Their four lengths in elements, u32, and the elements of each list in turn, i32. */
+static void take_curves(struct rest *rest, const int32_t *lists[CURVE_LISTS], size_t lengths[CURVE_LISTS])
+{
+    for (int i = 0; i < CURVE_LISTS; i++)
+        lengths[i] = take_number(rest, 4);
+    for (int i = 0; i < CURVE_LISTS; i++) {
+        size_t bytes = lengths[i] * sizeof *lists[i];
+        lists[i] = lend(&lent[i], take(rest, bytes), bytes);
+    }
+}
+
+/* 'I': any number of steps of an inverter. Each is array and kva u32, cut-in, cut-out and limit u16, var request i32,
+** priority u8, the lists of the curves, irradiance and temperature by their bits, u64, on u8; for each what it left: on
+** after u8, watts and vars i32, DC power u64.
+*/
+static void call_solar(const uint8_t *payload, size_t length)
+{
+    struct rest rest = {payload, length, "op I: the payload is no row of inverters"};
+    while (rest.length != 0) {
+        const int32_t *list[CURVE_LISTS];
+        size_t n[CURVE_LISTS];
+        uint32_t array = (uint32_t)take_number(&rest, 4);
+        uint32_t kva = (uint32_t)take_number(&rest, 4);
+        uint16_t cut_in = (uint16_t)take_number(&rest, 2);
+        uint16_t cut_out = (uint16_t)take_number(&rest, 2);
+        uint16_t limit = (uint16_t)take_number(&rest, 2);
+        int32_t var_request = (int32_t)take_number(&rest, 4);
+        uint8_t priority = (uint8_t)take_number(&rest, 1);
+        take_curves(&rest, list, n);
+        double irradiance = take_double(&rest);
+        double temperature = take_double(&rest);
+        uint8_t on = (uint8_t)take_number(&rest, 1);
+        uint8_t *on_after = lend_number(&lent[FIRST], sizeof *on_after);
+        int32_t *watts = lend_number(&lent[SECOND], sizeof *watts);
+        int32_t *vars = lend_number(&lent[THIRD], sizeof *vars);
+        uint64_t *dc = lend_number(&lent[FOURTH], sizeof *dc);
+        uint32_t number = yb_solar(array, kva, cut_in, cut_out, limit, var_request, priority, list[WARM_X], n[WARM_X],
+            list[WARM_Y], n[WARM_Y], list[EFF_X], n[EFF_X], list[EFF_Y], n[EFF_Y], irradiance, temperature, on,
+            on_after, watts, vars, dc);
+        put(number, 4);
+        put((uint64_t)(disturbed(WARM_X, EFF_Y) || disturbed(FIRST, FOURTH)), 1);
+        put_numbers(FOURTH);
+    }
+}
+
 /* The file of a call, a length u32 and that many bytes, lent; its length is that of what was lent. */
 static const uint8_t *take_file(struct rest *rest)
 {
@@ -360,8 +419,8 @@ static void call_value(const uint8_t *payload, size_t length)
     }
 }
 
-/* 'F': any number of files. For each the units and the seconds, u32, and what yb_settings left: mode u8, target
-** i32, band u32, factor u16, phase u8.
+/* 'F': any number of files. For each the units, the inverters and the seconds, u32, and what yb_settings left: mode u8,
+** target i32, band u32, factor u16, phase u8.
 */
 static void call_settings(const uint8_t *payload, size_t length)
 {
@@ -375,6 +434,7 @@ static void call_settings(const uint8_t *payload, size_t length)
         uint16_t *factor = lend_number(&lent[FOURTH], sizeof *factor);
         uint8_t *phase = lend_number(&lent[FIFTH], sizeof *phase);
         put(yb_units(file, n), 4);
+        put(yb_inverters(file, n), 4);
         put(yb_seconds(file, n), 4);
         put_file_left(yb_settings(file, n, mode, target, band, factor, phase), FIRST, FIFTH);
     }
@@ -464,6 +524,7 @@ static const struct {
     {'P', call_pass},
     {'T', call_settle},
     {'S', call_step},
+    {'I', call_solar},
     {'C', call_check},
     {'V', call_value},
     {'F', call_settings},

@@ -2,13 +2,14 @@
 ** the machine itself, where the archive may be code of another machine. It checks nothing.
 **
 ** A file that begins like a run file is complete, with the units and the steps that its fleet and its last four
-** bytes say; its units are all alike, and its run is a row of numbers. Steps of 0 to 5 seconds are for answers that
-** the library never gives: such a step itself, a room of another size, a run that is refused, a power that is none,
-** settings that are refused, and a last unit that is refused.
+** bytes say, and with as many inverters as the highest byte of its seconds says, which is no part of the seconds here;
+** its units are all alike, and its run is a row of numbers. Steps of 0 to 7 seconds are for answers that the library
+** never gives: such a step itself, a room of another size, a run that is refused, a power that is none, settings that
+** are refused, a last unit that is refused, an inverter's power that is none, and one above that of its array.
 **
-** Any other file is read as six decimal numbers with blanks between them, and these are the answers, in this
-** order: the check's number, place and steps, the start and the length of the value part, and the units. A number
-** that is not there is 0.
+** Any other file is read as seven decimal numbers with blanks between them, and these are the answers, in this
+** order: the check's number, place and steps, the start and the length of the value part, the units, and the inverters.
+** A number that is not there is 0.
 */
 #include <string.h>
 
@@ -67,9 +68,14 @@ uint32_t yb_units(const uint8_t *file, size_t file_len)
     return is_stick(file, file_len) ? file[4] : (uint32_t)canned(file, file_len, 5);
 }
 
+uint32_t yb_inverters(const uint8_t *file, size_t file_len)
+{
+    return is_stick(file, file_len) ? file[5] : (uint32_t)canned(file, file_len, 6);
+}
+
 uint32_t yb_seconds(const uint8_t *file, size_t file_len)
 {
-    return is_stick(file, file_len) ? number_at(file + 5) : 0;
+    return is_stick(file, file_len) ? number_at(file + 5) & 0xFFFFFF : 0;
 }
 
 uint32_t yb_settings(const uint8_t *file, size_t file_len, uint8_t *mode, int32_t *target, uint32_t *band,
@@ -101,28 +107,51 @@ uint32_t yb_unit(const uint8_t *file, size_t file_len, uint32_t unit, uint64_t *
 
 uint64_t yb_run_room(const uint8_t *file, size_t file_len)
 {
-    return UINT64_C(40) * file[4] * yb_check_steps(file, file_len) + (number_at(file + 5) == 1 ? 8 : 7);
+    uint64_t step = UINT64_C(40) * yb_units(file, file_len) + UINT64_C(29) * yb_inverters(file, file_len);
+    return step * yb_check_steps(file, file_len) + (yb_seconds(file, file_len) == 1 ? 8 : 7);
 }
 
-/* Records with their tags, lengths, steps and units; the kW are 1, and in the other numbers all bytes are the step's
-** number but for the first of the energies.
+/* What a unit's record and an inverter's begin with: tag, length, step and number. All other bytes are the step's
+** number.
+*/
+static void put_record(uint8_t *room, uint8_t tag, uint8_t bytes, uint32_t step, uint32_t number)
+{
+    memset(room, (int)(step & 0x7F), bytes);
+    room[0] = tag;
+    room[1] = 0;
+    room[2] = (uint8_t)(bytes - 3);
+    room[3] = room[4] = 0;
+    room[5] = (uint8_t)(step >> 8);
+    room[6] = (uint8_t)step;
+    room[7] = (uint8_t)number;
+}
+
+static const char one_kw[] = "\x3F\xF0\0\0\0\0\0", no_kw[] = "\x7F\xF8\0\0\0\0\0";
+
+/* Records whose kW are 1, and whose energies begin with 0. An inverter is on in every second step, and its array has
+** more power than it gives.
 */
 uint32_t yb_run(const uint8_t *file, size_t file_len, uint8_t *room, size_t room_len)
 {
-    uint32_t seconds = number_at(file + 5), units = file[4], steps = yb_check_steps(file, file_len);
+    uint32_t seconds = yb_seconds(file, file_len), units = yb_units(file, file_len);
+    uint32_t inverters = yb_inverters(file, file_len), steps = yb_check_steps(file, file_len);
     if (seconds == 2)
         return 11;
-    for (uint32_t i = 0; i < steps * units; i++, room += 40) {
-        uint32_t step = i / units;
-        memset(room, (int)(step & 0x7F), 40);
-        memcpy(room, "\x11\0\x25", 3);
-        memcpy(room + 12, seconds == 3 ? "\x7F\xF8\0\0\0\0\0\0" : "\x3F\xF0\0\0\0\0\0\0", 8);
-        memset(room + 24, 0, 3);
-        memset(room + 32, 0, 3);
-        room[3] = room[4] = 0;
-        room[5] = (uint8_t)(step >> 8);
-        room[6] = (uint8_t)step;
-        room[7] = (uint8_t)(i % units);
+    for (uint32_t step = 0; step < steps; step++) {
+        for (uint32_t unit = 0; unit < units; unit++, room += 40) {
+            put_record(room, 0x11, 40, step, unit);
+            memcpy(room + 12, seconds == 3 ? no_kw : one_kw, 8);
+            memset(room + 24, 0, 3);
+            memset(room + 32, 0, 3);
+        }
+        for (uint32_t inverter = 0; inverter < inverters; inverter++, room += 29) {
+            put_record(room, 0x12, 29, step, inverter);
+            room[8] = step % 2;
+            memcpy(room + 9, seconds == 6 ? no_kw : one_kw, 8);
+            memcpy(room + 21, "\0\0\0\1", 4);
+            if (seconds == 7)
+                memcpy(room + 21, "\0\0\0\0\0\0\x03\xE7", 8);
+        }
     }
     memcpy(room, "\x1F\0\4", 3);
     memcpy(room + 3, file + file_len - 4, 4);

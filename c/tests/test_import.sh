@@ -144,7 +144,7 @@ small_sticks() {
 }
 
 # The suites, each in a part of its own.
-for part in check run faults settle result canned; do
+for part in check run faults settle result roof advice canned; do
     # shellcheck disable=SC1090 # one of the parts beside this
     . "c/tests/test_import_$part.sh" || exit 1
 done
@@ -161,6 +161,11 @@ all_suites() {
     result_suite
     other_result_suite
     no_result_suite
+    roof_check_suite
+    roof_words_suite
+    roof_result_suite
+    other_roof_suite
+    refused_roof_suite
     rm -rf "${work:?}"/*
 }
 
@@ -173,6 +178,7 @@ good "$YB_CC" -O2 -Wall -Wextra -Werror -std=c11 $YB_STATIC -Ic -Wl,--wrap=opena
 fault_suite
 ended_suite
 largest_suite
+largest_roof_suite
 all_suites
 
 # The same with the compiler's sanitizers, which end the program at the first wrong step. Their search for leaks

@@ -2,7 +2,7 @@
 # shellcheck disable=SC2034,SC2154 # the variables are those of test_import.sh
 # Sourced by test_import.sh: the tool over a stand-in for the library, for answers that the library does not give.
 
-# canned NUMBER PLACE STEPS START LENGTH: show a file whose answers these are, in the build with the stand-in.
+# canned NUMBER PLACE STEPS START LENGTH..: show a file whose answers these are, in the build with the stand-in.
 canned() {
     printf '%s' "$*" >"$work/canned"
     call show "$work/canned"
@@ -78,6 +78,41 @@ sum of requests 3 W, reading left 997 W: not within half the band (2 W) of the t
         call summary "$stick" "$work/bad"
         good like "$status $output" "1 *: byte $place (*) is not there*"
     done
+    # The same with two inverters, which the highest byte of the seconds says.
+    patch "$stick" 5 02
+    check 0 "$stick: complete, 336 steps" '' run "$stick" "$result"
+    good test "$(wc -c <"$result")" = $(((40 * 3 + 29 * 2) * 336 + 7))
+    call table "$stick" "$result"
+    good test "$status|$error|$(wc -l <"$work/output")" = '0||1681'
+    good test "$output" = "$(decoded "$result")"
+    line=$(printf '%s\n' "$output" | summed_roof 3600)
+    call summary "$stick" "$result"
+    good test "$status|$error|$(wc -l <"$work/output")" = '0||12'
+    good test "$(sed -n 2p "$work/output")" = \
+        '3 units, 2 inverters, steps of 3600 s, mode 255, target -1 W, band 2 W, factor 3'
+    good test "$(tail -n 3 "$work/output" | sed 's/^ *//; s/  */ /g')" = "$line"
+    for place in 0 119 120 148 149 177 178 59808 59814; do
+        cp "$result" "$work/bad"
+        patch "$work/bad" "$place" EE
+        call summary "$stick" "$work/bad"
+        good like "$status $output" "1 *: byte $place (*) is EE and not *"
+        head -c "$place" "$result" >"$work/bad"
+        call table "$stick" "$work/bad"
+        good like "$status $output" "1 *: byte $place (*) is not there*"
+    done
+    # A room of another size, a run that is refused, powers that are none, and one above that of its array.
+    for line in '1 run' '2 run' '3 table' '6 table' '7 table' '6 summary' '7 summary'; do
+        patch "$stick" 5 "0200000${line% *}"
+        echo old >"$work/target"
+        if [ "${line#* }" = run ]; then
+            call run "$stick" "$work/target"
+        else
+            call run "$stick" "$result"
+            call "${line#* }" "$stick" "$result"
+        fi
+        good test "$status|$output|$error|$(cat "$work/target")" = "2||import: $stick: $fault|old"
+    done
+    cp examples/season.stick "$stick"
     # Answers that the library never gives.
     for line in '1 settle' '2 settle' '1 run' '2 run' '1 table' '2 table' '3 table' '0 summary' '3 summary' \
         '4 summary'; do
@@ -101,15 +136,15 @@ sum of requests 3 W, reading left 997 W: not within half the band (2 W) of the t
     # Fleets and steps that no complete file has.
     for command in 'run R' 'settle 1' 'table R' 'summary R'; do
         for answers in '0 4 7 0 0' '0 4 7 0 0 65' '0 4 7 0 0 256' '0 4 7 0 0 4294967295' '0 4 65536 0 0 1' \
-            '0 4 4294967295 0 0 64'; do
+            '0 4 4294967295 0 0 64' '0 4 7 0 0 1 65' '0 4 7 0 0 64 256' '0 4 7 0 0 1 4294967295'; do
             printf '%s' "$answers" >"$stick"
             # shellcheck disable=SC2086 # the command is words
             call ${command% *} "$stick" "${command#* }"
             good test "$status|$output|$error" = "2||import: $stick: $fault"
         done
-        for place in 00 41 FF; do
+        for place in '4 00' '4 41' '4 FF' '5 41' '5 FF'; do
             head -c 100 examples/season.stick >"$stick"
-            patch "$stick" 4 "$place"
+            patch "$stick" "${place% *}" "${place#* }"
             # shellcheck disable=SC2086 # the command is words
             call ${command% *} "$stick" "${command#* }"
             good test "$status|$output|$error" = "2||import: $stick: $fault"

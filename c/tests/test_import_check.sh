@@ -27,6 +27,7 @@ check_suite() {
     refused examples/refused-02-unknown-tag.stick 2 'unknown tag' 1776 60
     refused examples/refused-03-wrong-length.stick 3 'wrong length' 61 0
     refused examples/refused-04-out-of-order.stick 4 'field out of order' 113 0
+    good like "$output" '*Here the file has the settings, where the 3rd unit should be: *'
     refused examples/refused-05-value-out-of-range.stick 5 'value out of range' 61 0
     good like "$output" '*A value of the 2nd unit is *correct the 2nd unit and *'
     refused examples/refused-06-reading-not-usable.stick 6 'reading not usable' 5709 211
@@ -36,10 +37,10 @@ check_suite() {
     refused examples/refused-09-bytes-after-end.stick 9 'bytes after the end' 9043 336
     refused examples/refused-12-too-many-steps.stick 12 'too many bytes or steps' 196785 65535
     call check examples/*
-    good test "$status|$error" = '1|import: 10 of 12 files refused'
-    good test "$(grep -c '^examples/.*: refused' "$work/output") $(wc -l <"$work/output")" = '10 22'
-    # Each number has its own advice.
-    good test "$(grep '^    ' "$work/output" | sort -u | wc -l)" = 10
+    good test "$status|$error" = '1|import: 17 of 20 files refused'
+    good test "$(grep -c '^examples/.*: refused' "$work/output") $(wc -l <"$work/output")" = '17 37'
+    # Each number and each kind of field has its own advice.
+    good test "$(grep '^    ' "$work/output" | sort -u | wc -l)" = 17
 
     # The refused field's value bytes.
     call show examples/refused-01-cut-short.stick

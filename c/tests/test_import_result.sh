@@ -15,19 +15,31 @@ taking_table="$heading
 
 # decoded RESULT: the table of a result file, read by other means.
 decoded() {
-    echo "$heading"
-    od -An -v -tu1 -w40 "$1" | awk -v OFS='\t' '
-        function number(from, to,    n) { n = 0; for (; from <= to; from++) n = n * 256 + $from; return n }
+    od -An -v -tu1 -w1 "$1" | awk -v heading="$heading" '
+        function number(from, width,    n) { for (n = 0; width-- > 0; from++) n = n * 256 + byte[from]; return n }
         function sign(n) { return n < 2147483648 ? n : n - 4294967296 }
-        function kw(    e, m) {
-            e = $13 % 128 * 16 + int($14 / 16)
-            m = $14 % 16 * 2 ^ 48 + number(15, 20)
+        function kw(from,    e, m) {
+            e = byte[from] % 128 * 16 + int(byte[from + 1] / 16)
+            m = byte[from + 1] % 16 * 2 ^ 48 + number(from + 2, 6)
             m = e == 0 ? m * 2 ^ -1074 : (m + 2 ^ 52) * 2 ^ (e - 1075)
-            return $13 < 128 ? m : -m
+            return byte[from] < 128 ? m : -m
         }
-        NF == 40 {
-            printf "%.0f\t%d\t%.0f\t%.3f\t%.0f\t%.0f\t%.0f\n",
-                number(4, 7), $8, sign(number(9, 12)), kw(), sign(number(21, 24)), number(25, 32), number(33, 40)
+        function unit(v) {
+            return sprintf("%.0f\t%d\t%.0f\t%.3f\t%.0f\t%.0f\t%.0f\n", number(v, 4), byte[v + 4],
+                sign(number(v + 5, 4)), kw(v + 9), sign(number(v + 17, 4)), number(v + 21, 8), number(v + 29, 8))
+        }
+        function inverter(v) {
+            return sprintf("%.0f\tinverter %d\t-\t%.3f\t%.0f\t-\t-\t%d\t%.0f\n", number(v, 4), byte[v + 4], kw(v + 6),
+                sign(number(v + 14, 4)), byte[v + 5], number(v + 18, 8))
+        }
+        { byte[NR - 1] = $1 }
+        END {
+            for (at = 0; at < NR; at += 3 + number(at + 1, 2)) {
+                if (byte[at] == 17) lines[n++] = unit(at + 3)
+                if (byte[at] == 18) { lines[n++] = inverter(at + 3); heads = "\ton\tDC W" }
+            }
+            print heading heads
+            for (at = 0; at < n; at++) printf "%s", lines[at]
         }'
 }
 
@@ -49,7 +61,7 @@ summed() {
                 energy(given[u]), energy(taken[u]), energy(lost[u]), low[u], at[u], not_met[u]
         }
         NR == 1 { next }
-        $1 != step { close_step(); step = $1 }
+        $1 "" != step { close_step(); step = $1 "" }
         {
             watts = $4 * 1000; watts = int(watts + (watts < 0 ? -0.5 : 0.5)); met = $3 == 0 || watts == $3
             see($2, $1, $3, watts, $6, met)

@@ -15,13 +15,15 @@
 
 enum { STACK = 1 << 20, EDGE = 65536, MOST = 65536 };
 enum { UNITS = 64, STEPS = 8760, HEAD = 9 + 52 * UNITS + 15, FILE_LEN = HEAD + 27 * STEPS + 7 };
-enum { RESULT_LEN = 40 * UNITS * STEPS + 7, TOO_LONG = 2097153 };
+enum { INVERTERS = 64, INVERTER = 22 + 132 + 132, ROOF_HEAD = HEAD + INVERTER * INVERTERS };
+enum { ROOF_LEN = ROOF_HEAD + (19 + 27) * STEPS + 7, TOO_LONG = 2097153 };
+enum { RESULT_LEN = 40 * UNITS * STEPS + 7, ROOF_RESULT_LEN = (40 * UNITS + 29 * INVERTERS) * STEPS + 7 };
 
 static uint8_t *stack;
 static ucontext_t home, away;
 
 /* What the calls are about, and the answers that were not as expected. */
-static uint8_t file[TOO_LONG], result[RESULT_LEN];
+static uint8_t file[TOO_LONG], result[ROOF_RESULT_LEN];
 static uint64_t rated[UNITS], reserve[UNITS], stored[UNITS];
 static uint32_t rating[UNITS];
 static uint16_t weight[UNITS];
@@ -96,10 +98,41 @@ static void put_unit(uint8_t *field, unsigned unit)
     put(field + 51, unit % 2, 1);
 }
 
-/* A complete file: readings up and down, from less than a watt to the largest. */
-static void put_file(uint8_t mode)
+/* A curve of 16 points between two x, and its y between 0 and the most. */
+static void put_curve(uint8_t *field, int64_t least_x, int64_t most_x, int64_t most_y)
 {
-    static const double powers[] = {1e5, -1e5, 0.0625, -33333.3333, 0, 2e-4, 77777, -0.4375, 50000, 12.5};
+    put(field, 0x07008110, 4);
+    for (int64_t i = 0; i < 16; i++) {
+        put(field + 4 + 8 * i, (uint32_t)(least_x + (most_x - least_x) / 15 * i), 4);
+        put(field + 8 + 8 * i, (uint32_t)(most_y / 15 * (i % 2 == 0 ? i : 15 - i)), 4);
+    }
+}
+
+/* The inverter's fields, each another: with watts or vars first, and with a limit or none. */
+static void put_inverter(uint8_t *field, unsigned inverter)
+{
+    put(field, 0x060013, 3);
+    put(field + 3, 100000000 - inverter, 4);
+    put(field + 7, 70000000 + 1000 * inverter, 4);
+    put(field + 11, 100 * inverter, 2);
+    put(field + 13, 50 * inverter, 2);
+    put(field + 15, inverter % 3 == 0 ? 10000 : 7000, 2);
+    put(field + 17, (uint32_t)(inverter % 4 < 2 ? -60000000 : 5), 4);
+    put(field + 21, inverter % 2, 1);
+    put_curve(field + 22, -100000000, 100000000, 20000);
+    put_curve(field + 154, 0, 100000000, 10000);
+}
+
+static void put_double(uint8_t *bytes, double number)
+{
+    uint64_t bits;
+    memcpy(&bits, &number, sizeof bits);
+    put(bytes, bits, 8);
+}
+
+/* The fleet, the units and the settings. */
+static void put_head(uint8_t mode)
+{
     memset(file, 0, sizeof file);
     put(file, 0x01000601, 4);
     put(file + 4, UNITS, 1);
@@ -112,17 +145,52 @@ static void put_file(uint8_t mode)
     put(file + HEAD - 7, 1000, 4);
     put(file + HEAD - 3, 1000, 2);
     put(file + HEAD - 1, 0, 1);
+}
+
+/* Readings up and down, from less than a watt to the largest. */
+static void put_reading(uint8_t *field, unsigned step)
+{
+    static const double powers[] = {1e5, -1e5, 0.0625, -33333.3333, 0, 2e-4, 77777, -0.4375, 50000, 12.5};
+    put(field, 0x040018, 3);
+    for (unsigned phase = 0; phase < 3; phase++)
+        put_double(field + 3 + 8 * phase, powers[(step / (phase + 1) + phase) % 10]);
+}
+
+/* The same of the weather. */
+static void put_weather(uint8_t *field, unsigned step)
+{
+    static const double suns[] = {0, 1, 1e5, 0.0625, 0.3333, 2e-4, 77777}, heats[] = {25, -1e5, 1e5, -0.4375, 85.5};
+    put(field, 0x080010, 3);
+    put_double(field + 3, suns[step % 7]);
+    put_double(field + 11, heats[step % 5]);
+}
+
+static void put_end(uint8_t *field)
+{
+    put(field, 0x7F0004, 3);
+    put(field + 3, STEPS, 4);
+}
+
+/* A complete file without inverters and weather. */
+static void put_file(uint8_t mode)
+{
+    put_head(mode);
+    for (unsigned step = 0; step < STEPS; step++)
+        put_reading(file + HEAD + 27 * step, step);
+    put_end(file + FILE_LEN - 7);
+}
+
+/* One with as many inverters as there can be, and weather in every step. */
+static void put_roof_file(uint8_t mode)
+{
+    put_head(mode);
+    for (unsigned i = 0; i < INVERTERS; i++)
+        put_inverter(file + HEAD + INVERTER * i, i);
     for (unsigned step = 0; step < STEPS; step++) {
-        uint8_t *field = file + HEAD + 27 * step;
-        put(field, 0x040018, 3);
-        for (unsigned phase = 0; phase < 3; phase++) {
-            uint64_t bits;
-            memcpy(&bits, &powers[(step / (phase + 1) + phase) % 10], sizeof bits);
-            put(field + 3 + 8 * phase, bits, 8);
-        }
+        put_weather(file + ROOF_HEAD + 46 * step, step);
+        put_reading(file + ROOF_HEAD + 46 * step + 19, step);
     }
-    put(file + FILE_LEN - 7, 0x7F0004, 3);
-    put(file + FILE_LEN - 4, STEPS, 4);
+    put_end(file + ROOF_LEN - 7);
 }
 
 static void put_fleet(int32_t request)
@@ -181,6 +249,18 @@ static void call_units(void)
     expect(yb_units(file, TOO_LONG), 0);
 }
 
+/* Without inverters, with all that there can be, and refused. */
+static void call_inverters(void)
+{
+    put_file(1);
+    expect(yb_inverters(file, FILE_LEN), 0);
+    expect(yb_inverters(file, TOO_LONG), 0);
+    put_roof_file(1);
+    expect(yb_inverters(file, ROOF_LEN), INVERTERS);
+    expect(yb_inverters(file, ROOF_LEN - 8), 0);
+    put_file(1);
+}
+
 static void call_seconds(void)
 {
     expect(yb_seconds(file, FILE_LEN), 3600);
@@ -222,6 +302,20 @@ static void call_unit(void)
     expect(ask_unit(TOO_LONG, 0), 12);
 }
 
+/* The check of the longest head and a step's two fields, which the other calls about a file make as well. */
+static void call_roof_check(void)
+{
+    put_roof_file(1);
+    expect(yb_check(file, ROOF_LEN), 0);
+    expect(yb_check_place(file, ROOF_LEN), ROOF_LEN);
+    expect(yb_check_steps(file, ROOF_LEN), STEPS);
+    expect(yb_run_room(file, ROOF_LEN), ROOF_RESULT_LEN);
+    expect(yb_units(file, ROOF_LEN), UNITS);
+    expect(ask_unit(ROOF_LEN, UNITS - 1), 0);
+    expect(yb_check(file, ROOF_LEN - 8), 1);
+    put_file(1);
+}
+
 static void call_run_room(void)
 {
     expect(yb_run_room(file, FILE_LEN), RESULT_LEN);
@@ -237,6 +331,18 @@ static void call_run(void)
     }
     expect(yb_run(file, FILE_LEN, result, RESULT_LEN - 1), 11);
     expect(yb_run(file, FILE_LEN - 8, result, RESULT_LEN), 1);
+}
+
+/* The same with 64 inverters. */
+static void call_roof_run(void)
+{
+    for (uint8_t mode = 1; mode <= 3; mode++) {
+        put_roof_file(mode);
+        expect(yb_run(file, ROOF_LEN, result, ROOF_RESULT_LEN), 0);
+    }
+    expect(yb_run(file, ROOF_LEN, result, ROOF_RESULT_LEN - 1), 11);
+    expect(yb_run(file, ROOF_LEN - 8, result, ROOF_RESULT_LEN), 1);
+    put_file(1);
 }
 
 static void call_watts(void)
@@ -307,6 +413,29 @@ static void call_step(void)
         }
 }
 
+/* On and off, with watts or vars first, in every part of curves of 16 points, and refused in every way. */
+static void call_solar(void)
+{
+    int32_t warm_x[16], warm_y[16], eff_x[16], eff_y[16], watts, vars;
+    uint8_t on;
+    uint64_t dc;
+    for (int32_t i = 0; i < 16; i++) {
+        warm_x[i] = 10000 * i - 80000;
+        warm_y[i] = 20000 - 1000 * i;
+        eff_x[i] = 100 * i;
+        eff_y[i] = 9000 + 60 * i;
+    }
+    for (uint8_t priority = 0; priority <= 2; priority++)
+        for (int irradiance = -1; irradiance <= 100000; irradiance = irradiance < 20 ? irradiance + 1 : 5 * irradiance)
+            for (uint8_t was_on = 0; was_on <= 1; was_on++)
+                expect(yb_solar(99999999, 88888888, 3000, 2000, 9000, -77777777, priority, warm_x, 16, warm_y, 16,
+                    eff_x, 16, eff_y, 16, irradiance / 10.0, irradiance < 20 ? 10 * irradiance - 80 : 25, was_on, &on,
+                    &watts, &vars, &dc),
+                    priority == 2 ? 5 : irradiance < 0 ? 6 : 0);
+    expect(yb_solar(1, 1, 0, 0, 0, 0, 0, warm_x, 16, warm_y, 15, eff_x, 16, eff_y, 16, 1, 1, 0, &on, &watts, &vars,
+        &dc), 10);
+}
+
 /* What the measure itself must see: a call of nothing, and one above the limit. */
 static void call_nothing(void)
 {
@@ -330,16 +459,20 @@ static const struct {
     {"yb_value_start", call_value_start},
     {"yb_value_len", call_value_len},
     {"yb_units", call_units},
+    {"yb_inverters", call_inverters},
     {"yb_seconds", call_seconds},
     {"yb_settings", call_settings},
     {"yb_unit", call_unit},
+    {"the check and what a file says, with 64 inverters", call_roof_check},
     {"yb_run_room", call_run_room},
     {"yb_run", call_run},
+    {"yb_run with 64 inverters", call_roof_run},
     {"yb_watts", call_watts},
     {"yb_pass", call_pass},
     {"yb_settle", call_settle},
     {"yb_study", call_study},
     {"yb_step", call_step},
+    {"yb_solar", call_solar},
 };
 
 static int measured(const char *name, void (*call)(void))

@@ -14,7 +14,8 @@ struct test {
 
 /* The tests of the parts, each list up to one without a name. */
 extern const struct test header_tests[], check_tests[], value_tests[], told_tests[], run_tests[], watts_tests[],
-    pass_tests[], settle_tests[], study_tests[], fleet_tests[], step_tests[];
+    pass_tests[], settle_tests[], study_tests[], fleet_tests[], step_tests[], roof_tests[], solar_tests[],
+    curve_tests[];
 
 /* Wrong checks of the test that is running. */
 extern unsigned long wrong;
@@ -24,6 +25,9 @@ _Noreturn void give_up(const char *why);
 
 /* A complete file of one unit and four steps. Its fields are at 0, 9, 61, 76, 103, 106, 133 and 136. */
 extern const uint8_t complete[143];
+
+/* The check's number, place and steps, of a file at the start and at the end of its pages. */
+void check_file(const uint8_t *file, size_t len, uint32_t number, uint64_t place, uint32_t steps);
 
 /* Pages of which none can be read or written yet, between pages of which none ever can. EDGE is a multiple of every
 ** page size.

@@ -7,7 +7,7 @@
 #include "test_surface.h"
 #include "yesbrulka.h"
 
-static void check_file(const uint8_t *file, size_t len, uint32_t number, uint64_t place, uint32_t steps)
+void check_file(const uint8_t *file, size_t len, uint32_t number, uint64_t place, uint32_t steps)
 {
     for (int at_end = 0; at_end < 2; at_end++) {
         const uint8_t *lent = lend(file, len, at_end);
@@ -88,8 +88,9 @@ static void test_check_changed(void)
         {61, 0x02, 3, 61, 0}, {64, 0, 5, 61, 0}, {64, 3, 0, 143, 4}, {64, 4, 5, 61, 0}, {65, 0x80, 5, 61, 0},
         {65, 0xFF, 0, 143, 4}, {69, 0xFF, 5, 61, 0}, {73, 4, 5, 61, 0}, {75, 5, 0, 143, 4}, {75, 6, 5, 61, 0},
         /* the readings */
-        {76, 0x06, 2, 76, 0}, {78, 25, 3, 76, 0}, {79, 0x7F, 6, 76, 0}, {79, 0xBF, 0, 143, 4}, {87, 0xFF, 6, 76, 0},
-        {95, 0x41, 6, 76, 0}, {102, 1, 0, 143, 4}, {103, 0x7F, 3, 103, 1}, {103, 0x06, 2, 103, 1},
+        {76, 0x0D, 2, 76, 0}, {76, 0x06, 3, 76, 0}, {76, 0x07, 3, 76, 0}, {76, 0x08, 3, 76, 0}, {78, 25, 3, 76, 0},
+        {79, 0x7F, 6, 76, 0}, {79, 0xBF, 0, 143, 4}, {87, 0xFF, 6, 76, 0},
+        {95, 0x41, 6, 76, 0}, {102, 1, 0, 143, 4}, {103, 0x7F, 3, 103, 1}, {103, 0x0D, 2, 103, 1},
         {105, 1, 3, 103, 1}, {109, 0x7F, 6, 106, 2}, {117, 0x7F, 6, 106, 2}, {125, 0x7F, 6, 106, 2},
         {133, 0x80, 2, 133, 3},
         /* the end */

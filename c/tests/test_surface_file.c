@@ -60,6 +60,46 @@ static uint8_t *put_settings(uint8_t *at, const struct settings *settings)
     return put(at, settings->phase, 1);
 }
 
+/* A curve of 2 to 16 points, whose x rise from any that leaves room for the next; the rest of the field is 0. */
+static uint8_t *put_curve(uint8_t *at, int64_t least_x, uint64_t most_y)
+{
+    enum { POINTS = 16, MOST_X = 100000000 };
+    uint8_t *end = at + 132;
+    memset(at, 0, 132);
+    at = put(at, 0x070081, 3);
+    uint64_t points = draw_between(2, POINTS);
+    at = put(at, points, 1);
+    int64_t x = least_x;
+    for (uint64_t i = 0; i < points; i++) {
+        x += (int64_t)draw_between(i != 0, (uint64_t)(MOST_X - x) - (points - 1 - i));
+        at = put(at, (uint32_t)x, 4);
+        at = put(at, draw_between(0, most_y), 4);
+    }
+    return end;
+}
+
+static uint8_t *put_inverter(uint8_t *at)
+{
+    uint64_t cut_in = draw_between(0, 10000);
+    at = put(at, 0x060013, 3);
+    at = put(at, draw_between(1, 100000000), 4);
+    at = put(at, draw_between(1, 100000000), 4);
+    at = put(at, cut_in, 2);
+    at = put(at, draw_between(0, cut_in), 2);
+    at = put(at, draw_between(0, 10000), 2);
+    at = put(at, draw_between(0, 200000000) - 100000000, 4);
+    at = put(at, draw(2), 1);
+    at = put_curve(at, -100000000, 20000);
+    return put_curve(at, 0, 10000);
+}
+
+/* 1.5 kW/m2 and minus 2 degrees C. */
+static uint8_t *put_weather(uint8_t *at)
+{
+    memcpy(at, "\x08\0\x10\x3F\xF8\0\0\0\0\0\0\xC0\0\0\0\0\0\0\0", 19);
+    return at + 19;
+}
+
 void write_file(struct file *file)
 {
     uint8_t *at = put(file->bytes, 0x01000601, 4);
@@ -68,8 +108,14 @@ void write_file(struct file *file)
     for (size_t i = 0; i < file->units; i++)
         at = put_unit(at, &file->unit[i]);
     at = put_settings(at, &file->settings);
-    memcpy(at, complete + 76, 27 + 3);
-    at = put(at + 27 + 3, 0x7F0004, 3);
+    for (size_t i = 0; i < file->inverters; i++)
+        at = put_inverter(at);
+    memcpy(at, complete + 76, 27);
+    at += 27;
+    if (file->inverters != 0)
+        at = put_weather(at);
+    memcpy(at, complete + 76 + 27, 3);
+    at = put(at + 3, 0x7F0004, 3);
     at = put(at, 2, 4);
     file->len = (size_t)(at - file->bytes);
 }
@@ -98,6 +144,7 @@ static struct unit draw_unit(void)
 void draw_file(struct file *file, size_t units)
 {
     file->units = units;
+    file->inverters = 0;
     file->seconds = (uint32_t)draw_between(1, 86400);
     for (size_t i = 0; i < units; i++)
         file->unit[i] = draw_unit();

@@ -5,7 +5,8 @@
 #include <stddef.h>
 #include <stdint.h>
 
-enum { MOST_UNITS = 64, MOST_HEAD = 9 + 52 * MOST_UNITS + 15, MOST_FILE = MOST_HEAD + 27 + 3 + 7 };
+enum { MOST_UNITS = 64, MOST_INVERTERS = 64, MOST_HEAD = 9 + 52 * MOST_UNITS + 15 + 286 * MOST_INVERTERS };
+enum { MOST_FILE = MOST_HEAD + 27 + 19 + 3 + 7 };
 
 /* The values of a unit and the settings, in the order of the calls. */
 struct unit {
@@ -24,9 +25,11 @@ struct settings {
     uint8_t phase;
 };
 
-/* What a file says, and its bytes: a head, a reading, a missing one, and the end. */
+/* What a file says, and its bytes: a head, a reading, a missing one with weather, and the end. Of the inverters, whose
+** values no call tells, there is only the number.
+*/
 struct file {
-    size_t units;
+    size_t units, inverters;
     uint32_t seconds;
     struct unit unit[MOST_UNITS];
     struct settings settings;
@@ -34,11 +37,11 @@ struct file {
     size_t len;
 };
 
-/* Write the bytes that say the rest. */
+/* Write the bytes that say the rest. The values of the inverters are drawn. */
 void write_file(struct file *file);
 
-/* Draw a complete file of so many units. Each value is at its least or its most now and then, and else anything
-** between.
+/* Draw a complete file of so many units, without inverters and weather. Each value is at its least or its most now and
+** then, and else anything between.
 */
 void draw_file(struct file *file, size_t units);
 

@@ -6,6 +6,7 @@
 #include <sys/mman.h>
 
 #include "test_surface.h"
+#include "test_surface_roof.h"
 #include "yesbrulka.h"
 
 /* The whole case of document 01: one unit that draws 1,000 W, one missing reading; and its result. */
@@ -118,6 +119,89 @@ static void test_run_figures(void)
     check_run(file, giving_file(file), giving_result, sizeof giving_result);
 }
 
+/* A unit that draws 1,000 W and an inverter of 8,000 VA, through four steps: 60 W of DC power, which is between cut-out
+** and cut-in; 10,000 W, of which the limit leaves 5,000; 60 W again; and no weather.
+*/
+static size_t roof_case(uint8_t *file)
+{
+    put_roof(file);
+    memcpy(file, whole_case, 76);
+    memcpy(file + 403, "\x05\0\0", 3);
+    memmove(file + 406, file + 430, ROOF_LEN - 430);
+    return ROOF_LEN - 24;
+}
+
+static const uint8_t roof_records[] = {
+    0x12, 0, 0x1A, 0, 0, 0, 0, 0, 0, 0, 0, 0, 0, 0, 0, 0, 0, 0, 0, 0, 0, 0, 0, 0, 0, 0, 0, 0, 60,
+    0x12, 0, 0x1A, 0, 0, 0, 1, 0, 1, 0x40, 0x14, 0, 0, 0, 0, 0, 0, 0xFF, 0xFF, 0xF4, 0x48, 0, 0, 0, 0, 0, 0, 0x27, 0x10,
+    /* 57 W are 0.057 kW */
+    0x12, 0, 0x1A, 0, 0, 0, 2, 0, 1, 0x3F, 0xAD, 0x2F, 0x1A, 0x9F, 0xBE, 0x76, 0xC9, 0xFF, 0xFF, 0xF4, 0x48, 0, 0, 0, 0,
+    0, 0, 0, 60,
+    0x12, 0, 0x1A, 0, 0, 0, 3, 0, 0, 0, 0, 0, 0, 0, 0, 0, 0, 0, 0, 0, 0, 0, 0, 0, 0, 0, 0, 0, 0,
+};
+
+/* The records of the units of a step, and those of its inverters, each as many times as there are. */
+static size_t roof_result(uint8_t *result, int units, int inverters)
+{
+    uint8_t *at = result;
+    for (int step = 0; step < 4; step++) {
+        for (int unit = 0; unit < units; unit++, at += 40) {
+            memcpy(at, whole_result, 40);
+            at[6] = (uint8_t)step;
+            at[7] = (uint8_t)unit;
+        }
+        for (int inverter = 0; inverter < inverters; inverter++, at += 29) {
+            memcpy(at, roof_records + 29 * step, 29);
+            at[7] = (uint8_t)inverter;
+        }
+    }
+    memcpy(at, "\x1F\0\4\0\0\0\4", 7);
+    return (size_t)(at + 7 - result);
+}
+
+static void test_run_roof(void)
+{
+    uint8_t file[ROOF_LEN], result[400];
+    size_t len = roof_case(file);
+    check_run(file, len, result, roof_result(result, 1, 1));
+    for (size_t cut = 0; cut < len; cut++)
+        refused_run(file, cut, yb_check(file, cut));
+    /* Weather without an inverter is nothing to the units. */
+    memmove(file + 76, file + 362, len - 362);
+    check_run(file, len - 286, result, roof_result(result, 1, 0));
+}
+
+/* As many units and inverters as there can be. */
+static void test_run_most_inverters(void)
+{
+    enum { MANY = 64, INVERTER = 286, HEAD = 9 + 52 * MANY + 15, DUE = (40 + 29) * MANY * 4 + 7 };
+    uint8_t one[ROOF_LEN], *file = calloc(1, HEAD + INVERTER * MANY + ROOF_LEN), *result = calloc(1, DUE);
+    if (file == NULL || result == NULL)
+        give_up("no memory for a large file");
+    size_t len = roof_case(one), steps = len - 362;
+    memcpy(file, one, 9);
+    file[4] = MANY;
+    for (int i = 0; i < MANY; i++)
+        memcpy(file + 9 + 52 * i, one + 9, 52);
+    memcpy(file + HEAD - 15, one + 61, 15);
+    for (int i = 0; i < MANY; i++)
+        memcpy(file + HEAD + INVERTER * i, one + 76, INVERTER);
+    len = HEAD + INVERTER * MANY + steps;
+    memcpy(file + len - steps, one + 362, steps);
+    if (roof_result(result, MANY, MANY) != DUE)
+        give_up("the result's length");
+    check_run_room(file, len, DUE);
+    for (int at_end = 0; at_end < 2; at_end++) {
+        check_room(file, len, DUE, at_end, 0, result, DUE);
+        check_room(file, len, DUE + 1, at_end, 0, result, DUE);
+        check_room(file, len, DUE - 1, at_end, 11, NULL, 0);
+        check_room(file, len, 40 * MANY * 4 + 7, at_end, 11, NULL, 0);
+        check_room(file, len - 1, DUE, at_end, 1, NULL, 0);
+    }
+    free(file);
+    free(result);
+}
+
 static void test_run_no_steps(void)
 {
     uint8_t file[sizeof complete];
@@ -139,7 +223,7 @@ static void test_run_refused(void)
         size_t at;
         uint8_t byte;
         uint32_t number;
-    } changes[] = {{0, 0x06, 2}, {2, 5, 3}, {4, 2, 4}, {3, 2, 5}, {4, 65, 5}, {53, 0, 5}, {64, 4, 5}, {79, 0x7F, 6},
+    } changes[] = {{0, 0x7E, 2}, {2, 5, 3}, {4, 2, 4}, {3, 2, 5}, {4, 65, 5}, {53, 0, 5}, {64, 4, 5}, {79, 0x7F, 6},
         {142, 3, 7}};
     for (size_t i = 0; i < sizeof changes / sizeof changes[0]; i++) {
         memcpy(file, complete, sizeof complete);
@@ -194,6 +278,8 @@ static void test_run_large(void)
 
 const struct test run_tests[] = {
     {"yb_run: the document's whole case, and figures D1 and D2 in a row", test_run_figures},
+    {"yb_run: an inverter in four weathers", test_run_roof},
+    {"yb_run: 64 units and 64 inverters", test_run_most_inverters},
     {"yb_run: no steps", test_run_no_steps},
     {"yb_run: refused files", test_run_refused},
     {"yb_run: 64 units", test_run_large},

@@ -1,4 +1,4 @@
-/* The tests of yb_units, yb_seconds, yb_settings and yb_unit: what a complete file says. */
+/* The tests of yb_units, yb_inverters, yb_seconds, yb_settings and yb_unit: what a complete file says. */
 #include <inttypes.h>
 #include <stdio.h>
 #include <stdlib.h>
@@ -25,19 +25,21 @@ struct told_unit {
     uint8_t priority[3];
 };
 
-/* The number of units and the seconds, of a file at the start and at the end of its pages; 0 and 0 are a refused
-** file's.
+/* The numbers of units and inverters and the seconds, of a file at the start and at the end of its pages; all three are
+** 0 for a refused file.
 */
-static void check_fleet(const uint8_t *file, size_t len, uint32_t units, uint32_t seconds)
+static void check_site(const uint8_t *file, size_t len, uint32_t units, uint32_t inverters, uint32_t seconds)
 {
     for (int at_end = 0; at_end < 2; at_end++) {
         const uint8_t *lent = lend(file, len, at_end);
-        uint32_t got = yb_units(lent, len), got_seconds = yb_seconds(lent, len);
-        if (got != units || got_seconds != seconds) {
+        uint32_t got = yb_units(lent, len), got_inverters = yb_inverters(lent, len);
+        uint32_t got_seconds = yb_seconds(lent, len);
+        if (got != units || got_inverters != inverters || got_seconds != seconds) {
             wrong++;
             fprintf(stderr,
-                "a file of %zu bytes: %" PRIu32 " units, %" PRIu32 " s; expected %" PRIu32 ", %" PRIu32 "\n", len, got,
-                got_seconds, units, seconds);
+                "a file of %zu bytes: %" PRIu32 " units, %" PRIu32 " inverters, %" PRIu32 " s; expected %" PRIu32
+                ", %" PRIu32 ", %" PRIu32 "\n",
+                len, got, got_inverters, got_seconds, units, inverters, seconds);
         }
     }
 }
@@ -108,7 +110,7 @@ static void check_unit(const uint8_t *file, size_t len, uint32_t which, uint32_t
 /* All of what a file says, and nothing of units that it has not. */
 static void check_told(const struct file *file)
 {
-    check_fleet(file->bytes, file->len, (uint32_t)file->units, file->seconds);
+    check_site(file->bytes, file->len, (uint32_t)file->units, (uint32_t)file->inverters, file->seconds);
     check_settings(file->bytes, file->len, 0, &file->settings);
     for (uint32_t which = 0; which < 256; which++)
         if (which < file->units)
@@ -127,7 +129,7 @@ static void check_told(const struct file *file)
 static void refused_told(const uint8_t *file, size_t len, uint32_t number)
 {
     static const uint32_t units[] = {0, 1, 63, 64, 255, UINT32_MAX};
-    check_fleet(file, len, 0, 0);
+    check_site(file, len, 0, 0, 0);
     check_settings(file, len, number, NULL);
     for (size_t i = 0; i < sizeof units / sizeof units[0]; i++)
         check_unit(file, len, units[i], number, NULL);
@@ -141,6 +143,37 @@ static void test_told_complete(void)
             draw_file(&file, units);
             check_told(&file);
         }
+}
+
+/* Inverters, none to as many as there can be, change nothing of what is told of the fleet. */
+static void test_told_roof(void)
+{
+    struct file file;
+    for (size_t inverters = 0; inverters <= 64; inverters += inverters < 3 || inverters > 61 ? 1 : 15)
+        for (size_t units = 1; units <= 64; units += 63) {
+            draw_file(&file, units);
+            file.inverters = inverters;
+            write_file(&file);
+            check_told(&file);
+        }
+    /* Cut at every byte, and one inverter too many. */
+    draw_file(&file, 1);
+    file.inverters = 2;
+    write_file(&file);
+    for (size_t len = 0; len < file.len; len++)
+        refused_told(file.bytes, len, yb_check(file.bytes, len));
+    enum { HEAD = 76, INVERTER = 286 };
+    uint8_t *bytes = calloc(1, HEAD + 65 * INVERTER + 7);
+    if (bytes == NULL)
+        give_up("no memory for a large file");
+    memcpy(bytes, file.bytes, HEAD);
+    for (size_t i = 0; i < 65; i++)
+        memcpy(bytes + HEAD + INVERTER * i, file.bytes + HEAD, INVERTER);
+    memcpy(bytes + HEAD + 65 * INVERTER, "\x7F\0\4\0\0\0\0", 7);
+    refused_told(bytes, HEAD + 65 * INVERTER + 7, 4);
+    memcpy(bytes + HEAD + 64 * INVERTER, "\x7F\0\4\0\0\0\0", 7);
+    check_site(bytes, HEAD + 64 * INVERTER + 7, 1, 64, file.seconds);
+    free(bytes);
 }
 
 /* Every value at its least and at its most. */
@@ -171,13 +204,13 @@ static void test_told_steps(void)
     draw_file(&file, 1);
     memcpy(bytes, file.bytes, HEAD);
     memcpy(bytes + HEAD, "\x7F\0\4\0\0\0\0", 7);
-    check_fleet(bytes, HEAD + 7, 1, file.seconds);
+    check_site(bytes, HEAD + 7, 1, 0, file.seconds);
     check_settings(bytes, HEAD + 7, 0, &file.settings);
     check_unit(bytes, HEAD + 7, 0, 0, &file.unit[0]);
     for (int step = 0; step < STEPS; step++)
         memcpy(bytes + HEAD + 3 * step, "\x05\0\0", 3);
     memcpy(bytes + LEN - 7, "\x7F\0\4\0\0\xFF\xFF", 7);
-    check_fleet(bytes, LEN, 1, file.seconds);
+    check_site(bytes, LEN, 1, 0, file.seconds);
     check_settings(bytes, LEN, 0, &file.settings);
     check_unit(bytes, LEN, 0, 0, &file.unit[0]);
     bytes[LEN - 1]--;
@@ -191,10 +224,10 @@ static void test_told_cut(void)
     draw_file(&file, 3);
     for (size_t len = 0; len < file.len; len++)
         refused_told(file.bytes, len, yb_check(file.bytes, len));
-    check_fleet(NULL, 0, 0, 0);
-    if (yb_units(NULL, 0) != 0 || yb_seconds(NULL, 0) != 0) {
+    check_site(NULL, 0, 0, 0, 0);
+    if (yb_units(NULL, 0) != 0 || yb_inverters(NULL, 0) != 0 || yb_seconds(NULL, 0) != 0) {
         wrong++;
-        fprintf(stderr, "no file at all: units or seconds\n");
+        fprintf(stderr, "no file at all: units, inverters or seconds\n");
     }
 }
 
@@ -205,7 +238,7 @@ static void test_told_refused(void)
         size_t at;
         uint8_t byte;
         uint32_t number;
-    } changes[] = {{0, 0x06, 2}, {2, 5, 3}, {4, 2, 4}, {3, 2, 5}, {4, 0, 5}, {4, 65, 5}, {53, 0, 5}, {64, 4, 5},
+    } changes[] = {{0, 0x7E, 2}, {2, 5, 3}, {4, 2, 4}, {3, 2, 5}, {4, 0, 5}, {4, 65, 5}, {53, 0, 5}, {64, 4, 5},
         {75, 6, 5}, {79, 0x7F, 6}, {142, 3, 7}};
     enum { TOO_LONG = 2097153 };
     uint8_t *file = calloc(1, TOO_LONG);
@@ -226,6 +259,7 @@ static void test_told_refused(void)
 const struct test told_tests[] = {
     {"yb_units, yb_seconds, yb_settings, yb_unit: complete files", test_told_complete},
     {"yb_units, yb_seconds, yb_settings, yb_unit: values at their limits", test_told_limits},
+    {"yb_inverters, yb_units, yb_seconds, yb_settings, yb_unit: files with inverters", test_told_roof},
     {"yb_units, yb_seconds, yb_settings, yb_unit: no steps, and all that there can be", test_told_steps},
     {"yb_units, yb_seconds, yb_settings, yb_unit: files cut at every byte", test_told_cut},
     {"yb_units, yb_seconds, yb_settings, yb_unit: refused files", test_told_refused},

@@ -1,10 +1,11 @@
-//! The rules of document 01 in ordinary Rust.
+//! The rules of document 01 in ordinary Rust, with the requests of document 02 that have landed.
 //!
-//! This crate is written from the document and from nothing else, so that it can disagree with the
+//! This crate is written from the documents and from nothing else, so that it can disagree with the
 //! proved library. Where there is a choice of method it takes the plainest one, and a different one
 //! from what a quick program would take. It answers any input; a refusal is the document's number.
 
 pub mod controller;
+pub mod curve;
 pub mod natural;
 pub mod octets;
 pub mod ranges;
@@ -12,6 +13,7 @@ pub mod reading;
 pub mod samples;
 pub mod season;
 pub mod site;
+pub mod solar;
 pub mod stick;
 pub mod storage;
 pub mod whole;
@@ -31,7 +33,7 @@ pub const OUT_OF_ORDER: u32 = 4;
 /// A value outside its range.
 pub const OUT_OF_RANGE: u32 = 5;
 
-/// A reading refused by the conversion.
+/// A reading or a weather refused by the conversion.
 pub const READING_NOT_USABLE: u32 = 6;
 
 /// An end count that differs from the steps read.
@@ -43,8 +45,8 @@ pub const NO_END: u32 = 8;
 /// Bytes after an accepted end field.
 pub const BYTES_AFTER_END: u32 = 9;
 
-/// Lists of unequal length, empty or above 64; a request beyond its rating; requests of both signs; a unit number
-/// outside the fleet.
+/// Lists of unequal length, empty or above 64, or of a curve and not of 2 to 16; a request beyond its rating; requests
+/// of both signs; a unit number outside the fleet.
 pub const LISTS_OR_REQUESTS: u32 = 10;
 
 /// A lent room that is shorter than the result.

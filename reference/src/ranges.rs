@@ -63,6 +63,39 @@ pub const LOAD: RangeInclusive<i64> = 0..=100_000_000;
 /// Passes of a study.
 pub const BUDGET: RangeInclusive<u32> = 1..=10_000;
 
+/// The inverters of a site.
+pub const MOST_INVERTERS: usize = 64;
+
+/// The power of an inverter's array in watts.
+pub const ARRAY: RangeInclusive<u32> = 1..=100_000_000;
+
+/// Parts in 10,000 of an inverter's S; a cut-out is from 0 to the cut-in.
+pub const CUT_IN: RangeInclusive<u16> = 0..=10_000;
+
+/// Parts in 10,000 of an inverter's array power.
+pub const LIMIT: RangeInclusive<u16> = 0..=10_000;
+
+/// 0 off, 1 on.
+pub const ON: RangeInclusive<u8> = 0..=1;
+
+/// The points of a curve.
+pub const POINTS: RangeInclusive<usize> = 2..=16;
+
+/// A temperature curve's x, in thousandths of °C.
+pub const WARM_X: RangeInclusive<i32> = -100_000_000..=100_000_000;
+
+/// A temperature curve's y, in parts in 10,000.
+pub const WARM_Y: RangeInclusive<i32> = 0..=20_000;
+
+/// An efficiency curve's x, in thousandths of DC power per kVA.
+pub const EFF_X: RangeInclusive<i32> = 0..=100_000_000;
+
+/// An efficiency curve's y, in parts in 10,000.
+pub const EFF_Y: RangeInclusive<i32> = 0..=10_000;
+
+/// Thousandths of kW/m², after the conversion; beyond its end nothing converts.
+pub const IRRADIANCE: RangeInclusive<i32> = 0..=100_000_000;
+
 /// A unit's three energies: the rated energy in its range, and reserve and stored from 0 to it.
 pub fn energies_fit(rated: u64, reserve: u64, stored: u64) -> bool {
     RATED.contains(&rated) && reserve <= rated && stored <= rated

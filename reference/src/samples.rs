@@ -1,7 +1,10 @@
 //! Inputs to try: one generator with a fixed seed, and the doubles where a conversion goes wrong; in modules
 //! of their own, the calls of the other functions.
 
+pub mod curves;
 pub mod fleets;
+pub mod inverters;
+pub mod roofs;
 pub mod seasons;
 pub mod sticks;
 pub mod units;

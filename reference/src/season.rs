@@ -1,18 +1,21 @@
-//! The season: a run over all readings of a file, and the result file.
+//! The season: a run over all steps of a file, and the result file.
 
 use crate::controller::{self, Fleet, Passed};
 use crate::octets::{put_f64, put_i32, put_u16, put_u32, put_u64, put_u8};
 use crate::reading::kw;
 use crate::site::Site;
+use crate::solar::{Produced, DARK};
 use crate::stick::{self, Answer, Run};
 use crate::storage::{self, Stepped};
 use crate::ROOM_TOO_SHORT;
 
 pub const RECORD: u8 = 0x11;
+pub const SOLAR: u8 = 0x12;
 pub const LAST: u8 = 0x1F;
 
 /// The lengths of their values.
 const RECORD_LENGTH: u16 = 37;
+const SOLAR_LENGTH: u16 = 26;
 const LAST_LENGTH: u16 = 4;
 
 /// What one unit was asked in a step, and what became of it.
@@ -27,23 +30,37 @@ pub struct Record {
     pub stepped: Stepped,
 }
 
-/// One step of a fleet: what the pass reported, none where the reading is missing, and a record of each unit.
+/// What one inverter did in a step.
+#[derive(Clone, Copy, Debug, PartialEq, Eq)]
+pub struct SolarRecord {
+    /// From 0.
+    pub step: u32,
+    /// From 0.
+    pub inverter: u8,
+    pub produced: Produced,
+}
+
+/// One step of a site: what the pass reported, none where the reading is missing, a record of each unit, and one of
+/// each inverter.
 #[derive(Clone, Debug, PartialEq, Eq)]
 pub struct Step {
     pub passed: Option<Passed>,
     pub records: Vec<Record>,
+    pub solar: Vec<SolarRecord>,
 }
 
-/// All steps of a run that an accepted file says. Requests start at zero; each reading is one pass, or none
-/// where it is missing, and then one step of every unit.
+/// All steps of a run that an accepted file says. Requests start at zero and inverters start off; each reading is one
+/// pass, or none where it is missing, then one step of every unit, and then one of every inverter in the step's
+/// weather.
 ///
 /// # Panics
 ///
 /// If a value is outside its range, which no accepted file's is.
 pub fn steps(run: &Run) -> Vec<Step> {
-    let Site { seconds, units, settings, phase, .. } = &run.site;
+    let Site { seconds, units, settings, phase, inverters, .. } = &run.site;
     let mut units = units.clone();
     let mut requests = vec![0; units.len()];
+    let mut on = vec![false; inverters.len()];
     let mut steps = Vec::new();
     for (step, reading) in run.readings.iter().enumerate() {
         let measure = reading.measure(*phase).expect("an accepted reading converts");
@@ -57,7 +74,15 @@ pub fn steps(run: &Run) -> Vec<Step> {
             unit.stored = stepped.stored;
             records.push(Record { step: step as u32, unit: i as u8, request: requests[i], stepped });
         }
-        steps.push(Step { passed, records });
+        let weather = run.weather_of(step);
+        let sun = weather.map_or(DARK, |weather| weather.converted().expect("an accepted weather converts"));
+        let mut solar = Vec::new();
+        for (i, inverter) in inverters.iter().enumerate() {
+            let produced = inverter.produce(sun, on[i]);
+            on[i] = produced.on;
+            solar.push(SolarRecord { step: step as u32, inverter: i as u8, produced });
+        }
+        steps.push(Step { passed, records, solar });
     }
     steps
 }
@@ -74,11 +99,23 @@ fn put_record(result: &mut Vec<u8>, record: &Record) {
     put_u64(result, record.stepped.loss);
 }
 
+fn put_solar(result: &mut Vec<u8>, record: &SolarRecord) {
+    put_u8(result, SOLAR);
+    put_u16(result, SOLAR_LENGTH);
+    put_u32(result, record.step);
+    put_u8(result, record.inverter);
+    put_u8(result, record.produced.on.into());
+    put_f64(result, kw(record.produced.watts));
+    put_i32(result, record.produced.vars);
+    put_u64(result, record.produced.dc);
+}
+
 /// The result file of a run's steps.
 pub fn result(steps: &[Step]) -> Vec<u8> {
     let mut result = Vec::new();
-    for record in steps.iter().flat_map(|step| &step.records) {
-        put_record(&mut result, record);
+    for step in steps {
+        step.records.iter().for_each(|record| put_record(&mut result, record));
+        step.solar.iter().for_each(|record| put_solar(&mut result, record));
     }
     put_u8(&mut result, LAST);
     put_u16(&mut result, LAST_LENGTH);
@@ -88,7 +125,7 @@ pub fn result(steps: &[Step]) -> Vec<u8> {
 
 /// The bytes of a run's result.
 fn length(run: &Run) -> usize {
-    40 * run.site.units.len() * run.readings.len() + 7
+    (40 * run.site.units.len() + 29 * run.site.inverters.len()) * run.readings.len() + 7
 }
 
 /// The bytes of room that a file's result needs; 0 for a refused file.
@@ -116,9 +153,11 @@ mod tests {
     use super::*;
     use crate::octets::{f64_at, i32_at, u16_at, u32_at, u64_at, u8_at};
     use crate::reading::{Phases, Reading};
+    use crate::samples::inverters::document_inverter;
     use crate::samples::sticks::{self, whole_case};
     use crate::samples::units::figure_unit;
-    use crate::samples::{seasons, Draw};
+    use crate::samples::{roofs, seasons, Draw};
+    use crate::solar::{self, Weather};
     use crate::storage::Unit;
 
     fn hex(bytes: &[u8]) -> String {
@@ -179,6 +218,7 @@ mod tests {
                 units: vec![figure_unit(500_000)],
                 settings: controller::Settings { mode: 1, target: 700, band: 20, factor: 1_000 },
                 phase: 0,
+                inverters: Vec::new(),
             },
             readings: vec![
                 Reading::Missing,
@@ -189,6 +229,7 @@ mod tests {
                 power(0.2),
                 Reading::Missing,
             ],
+            weather: Vec::new(),
         };
         // The idle draw is 12 W; a request of 400 W falls by what the load is below the target, and to 0.
         let asked = [0, 400, 400, 300, 300, 0, 0];
@@ -208,8 +249,10 @@ mod tests {
                 units: vec![figure_unit(75_750 + 75_749)],
                 settings: controller::Settings { mode: 1, target: 0, band: 0, factor: 1_000 },
                 phase: 1,
+                inverters: Vec::new(),
             },
             readings: vec![power(0.9), power(0.0001), power(0.0001), power(1.0)],
+            weather: Vec::new(),
         };
         // The second step has one joule too few for 900 W and leaves some; the fleet is not yet exhausted.
         assert_eq!(asked_and_given(&run)[..2], [[(900, 900)], [(900, 899)]]);
@@ -234,8 +277,10 @@ mod tests {
                 units: vec![unit, Unit { priority: 1, ..unit }],
                 settings: controller::Settings { mode: 2, target: 1_000, band: 0, factor: 1_000 },
                 phase: 5,
+                inverters: Vec::new(),
             },
             readings: vec![power(0.0)],
+            weather: Vec::new(),
         };
         let file = sticks::file(&run);
         let bytes = super::run(&file, 87).unwrap();
@@ -292,6 +337,100 @@ mod tests {
             }
             let end = &bytes[bytes.len() - 7..];
             assert_eq!((&end[..3], u32_at(end, 3)), (&[0x1F, 0, 4][..], Some(count as u32)));
+        }
+    }
+
+    /// The whole case with document 003's inverter on its roof: a step without weather, one at cut-in, one above it, one
+    /// between the two and one without weather again.
+    #[test]
+    fn an_inverter_over_five_steps() {
+        let sun = |irradiance| Some(Weather { irradiance, temperature: 50.0 });
+        let run = sticks::with(&whole_case(), |run| {
+            run.site.inverters = vec![document_inverter()];
+            run.readings = vec![Reading::Missing; 5];
+            run.weather = vec![None, sun(0.0888888), sun(0.6), sun(0.0666), None];
+        });
+        let file = sticks::file(&run);
+        assert_eq!(room_needed(&file), 5 * (40 + 29) + 7);
+        let bytes = super::run(&file, 352).unwrap();
+        // 0.089 x 50 kW x 0.9 is 4,005 W, above cut-in; 0.067 is 3,015 W, between cut-out and cut-in.
+        let made = [(0, 0, 0), (1, 3_444, 4_005), (1, 25_604, 27_000), (1, 2_592, 3_015), (0, 0, 0)];
+        for (step, (on, watts, dc)) in made.into_iter().enumerate() {
+            let record = &bytes[69 * step + 40..69 * step + 69];
+            let kw = kw(watts).to_bits();
+            let expected = format!("12001A{step:08X}00{on:02X}{kw:016X}00000000{dc:016X}");
+            assert_eq!(hex(record), expected);
+        }
+        assert_eq!(hex(&bytes[345..]), "1F000400000005");
+        assert_eq!(super::run(&file, 351), Err(Answer { number: 11, place: file.len() as u64, steps: 5 }));
+    }
+
+    /// Units do not see the sun: with inverters and weather their records are those of the run without.
+    #[test]
+    fn the_records_of_units_are_the_same_without_inverters() {
+        let mut draw = Draw::from_seed(83);
+        for round in 0..300 {
+            let run = roofs::run(1 + round % 3, round % 7, round % 9, &mut draw);
+            let plain = sticks::with(&run, |run| {
+                run.site.inverters.clear();
+                run.weather.clear();
+            });
+            let (all, plain) = (steps(&run), steps(&plain));
+            assert_eq!(all.len(), plain.len());
+            assert!(all.iter().zip(&plain).all(|(one, other)| one.records == other.records));
+            assert!(plain.iter().all(|step| step.solar.is_empty()));
+        }
+    }
+
+    /// Every inverter starts off and goes on from the step before, in a sun of none where a step has no weather.
+    #[test]
+    fn each_inverter_goes_on_from_the_step_before() {
+        let mut draw = Draw::from_seed(84);
+        let (mut dark, mut held) = (0, 0);
+        for round in 0..600 {
+            let run = roofs::run(1, 1 + round % 5, 2 + round % 20, &mut draw);
+            let mut on = vec![0; run.site.inverters.len()];
+            for (k, step) in steps(&run).iter().enumerate() {
+                assert_eq!(step.solar.len(), run.site.inverters.len());
+                let none = Weather { irradiance: 0.0, temperature: -7.0 };
+                let weather = run.weather_of(k).unwrap_or(none);
+                for (i, record) in step.solar.iter().enumerate() {
+                    assert_eq!((record.step, usize::from(record.inverter)), (k as u32, i));
+                    let alone = solar::step(&run.site.inverters[i], weather, on[i]);
+                    assert_eq!(alone, Ok(record.produced));
+                    dark += u32::from(on[i] == 1 && run.weather_of(k).is_none());
+                    held += u32::from(on[i] == 1 && record.produced.on);
+                    on[i] = u8::from(record.produced.on);
+                }
+            }
+        }
+        assert!(dark > 500 && held > 1_000, "{dark} {held}");
+    }
+
+    /// The length, the order of the records of both kinds, and the end.
+    #[test]
+    fn the_form_of_a_result_with_inverters() {
+        let mut draw = Draw::from_seed(85);
+        for inverters in 0..=64 {
+            let (units, count) = (1 + inverters % 4, draw.below(4) as usize);
+            let run = roofs::run(units, inverters, count, &mut draw);
+            let file = sticks::file(&run);
+            let each = 40 * units + 29 * inverters;
+            let bytes = super::run(&file, each * count + 7).unwrap();
+            assert_eq!((bytes.len(), room_needed(&file)), (each * count + 7, bytes.len() as u64));
+            for (k, step) in bytes.chunks(each).take(count).enumerate() {
+                let (of_units, of_inverters) = step.split_at(40 * units);
+                for (i, record) in of_units.chunks(40).enumerate() {
+                    assert_eq!((record[0], u16_at(record, 1)), (0x11, Some(37)));
+                    assert_eq!((u32_at(record, 3), usize::from(record[7])), (Some(k as u32), i));
+                }
+                for (i, record) in of_inverters.chunks(29).enumerate() {
+                    assert_eq!((record[0], u16_at(record, 1)), (0x12, Some(26)));
+                    assert_eq!((u32_at(record, 3), usize::from(record[7])), (Some(k as u32), i));
+                    assert!(record[8] == 1 || record[8] == 0 && record[9..21].iter().all(|&byte| byte == 0));
+                }
+            }
+            assert_eq!(&bytes[each * count..each * count + 3], [0x1F, 0, 4]);
         }
     }
 }

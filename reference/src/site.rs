@@ -1,11 +1,12 @@
-//! The site: what a run file says before its readings, and the settling study over it.
+//! The site: what a run file says before its steps, and the settling study over it.
 
 use crate::controller::{self, Fleet, Settings, Study};
+use crate::solar::Inverter;
 use crate::stick;
 use crate::storage::Unit;
 use crate::LISTS_OR_REQUESTS;
 
-/// What an accepted file says before its readings.
+/// What an accepted file says before its steps.
 #[derive(Clone, Debug, PartialEq, Eq)]
 pub struct Site {
     pub edition: u8,
@@ -16,6 +17,8 @@ pub struct Site {
     pub settings: Settings,
     /// The phase choice of every reading.
     pub phase: u8,
+    /// Up to 64 of them; the first has the number 0.
+    pub inverters: Vec<Inverter>,
 }
 
 impl Site {

@@ -8,7 +8,7 @@ use frames::{put_file, said_units, shown, Met, Rest, FRAME};
 use host::{refuses_cut_rows, Host, LEFT_ALONE};
 use yesbrulka_reference::controller::Settings;
 use yesbrulka_reference::ranges::{MOST_BYTES, UNITS};
-use yesbrulka_reference::samples::{seasons, sticks, units, Draw};
+use yesbrulka_reference::samples::{roofs, seasons, sticks, units, Draw};
 use yesbrulka_reference::site::{self, Site};
 use yesbrulka_reference::stick::{Run, MISSING};
 use yesbrulka_reference::storage::Unit;
@@ -36,10 +36,11 @@ const UNIT_LEFT: Unit = Unit {
     priority: LEFT_1,
 };
 
-/// What `yb_units` and `yb_seconds` return, and what `yb_settings` returns and leaves behind.
+/// What `yb_units`, `yb_inverters` and `yb_seconds` return, and what `yb_settings` returns and leaves behind.
 #[derive(Debug, PartialEq)]
 struct SiteLeft {
     units: u32,
+    inverters: u32,
     seconds: u32,
     number: u32,
     disturbed: u8,
@@ -57,8 +58,9 @@ struct UnitLeft {
 
 fn expected_site(site: &Result<Site, u32>) -> SiteLeft {
     match site {
-        Ok(Site { seconds, units, settings, phase, .. }) => SiteLeft {
+        Ok(Site { seconds, units, settings, phase, inverters, .. }) => SiteLeft {
             units: units.len() as u32,
+            inverters: inverters.len() as u32,
             seconds: *seconds,
             number: 0,
             disturbed: 0,
@@ -67,6 +69,7 @@ fn expected_site(site: &Result<Site, u32>) -> SiteLeft {
         },
         Err(number) => SiteLeft {
             units: 0,
+            inverters: 0,
             seconds: 0,
             number: *number,
             disturbed: 0,
@@ -88,6 +91,7 @@ fn expected_unit(site: &Result<Site, u32>, number: u32) -> UnitLeft {
 fn left_site(rest: &mut Rest) -> SiteLeft {
     SiteLeft {
         units: u32::from_le_bytes(rest.take()),
+        inverters: u32::from_le_bytes(rest.take()),
         seconds: u32::from_le_bytes(rest.take()),
         number: u32::from_le_bytes(rest.take()),
         disturbed: u8::from_le_bytes(rest.take()),
@@ -175,8 +179,9 @@ impl Sites {
         let file = file.into();
         let numbers: Vec<u32> = numbers.into_iter().collect();
         let site = site::of(&file);
-        if let Ok(Site { units, settings, phase, .. }) = &site {
+        if let Ok(Site { units, settings, phase, inverters, .. }) = &site {
             self.met.note("units", units.len() as u32);
+            self.met.note("inverters", inverters.len() as u32);
             self.met.note("mode and phase", u32::from(settings.mode) * 10 + u32::from(*phase));
         }
         let number = site.as_ref().err().copied().unwrap_or(0);
@@ -254,7 +259,7 @@ fn the_whole_case() {
     let file = sticks::file(&run);
     let site = site::of(&file);
     let settings = Settings { mode: 1, target: 0, band: 0, factor: 1_000 };
-    let said = SiteLeft { units: 1, seconds: 60, number: 0, disturbed: 0, settings, phase: 0 };
+    let said = SiteLeft { units: 1, inverters: 0, seconds: 60, number: 0, disturbed: 0, settings, phase: 0 };
     assert_eq!(expected_site(&site), said);
     let first = UnitLeft { number: 0, disturbed: 0, unit: run.site.units[0] };
     assert_eq!(expected_unit(&site, 0), first);
@@ -288,6 +293,37 @@ fn complete_files_of_every_fleet_size() {
         met.more_than(100, "mode and phase", (0..=5).map(|phase| 10 * mode + phase));
     }
     met.more_than(10_000, "unit number", [0, 10]);
+}
+
+/// Files with every number of inverters, complete, cut and damaged.
+#[test]
+fn files_with_inverters() {
+    let mut draw = Draw::from_seed(609);
+    let mut sites = Sites::start();
+    for inverters in 0..=64 {
+        for round in 0..12 {
+            let (units, steps) = (1 + draw.below(3) as usize, draw.below(4) as usize);
+            let run = roofs::run(units, inverters, steps, &mut draw);
+            sites.site_of(&run);
+            if round == 0 {
+                let file = sticks::file(&run);
+                assert_ne!(sites.site(&file[..file.len() - 1]), 0);
+                assert_eq!(sites.site([&file[..], &[0]].concat()), 9);
+            }
+        }
+    }
+    let mut run = roofs::run(2, 64, 1, &mut draw);
+    run.site.inverters.push(run.site.inverters[0].clone());
+    assert_eq!(sites.site(sticks::file(&run)), 4);
+    for round in 0..6_000 {
+        sites.site(match round % 3 {
+            0 => roofs::shuffled_file(&mut draw),
+            _ => roofs::damaged_file(&mut draw),
+        });
+    }
+    let met = sites.end(6_900, 89_000);
+    met.more_than(10, "inverters", 0..=64);
+    met.more_than(100, "number", [0, 2, 3, 4, 5, 6]);
 }
 
 /// Every number that a byte can say and some more, of complete files of every size and of refused ones.
@@ -492,7 +528,7 @@ fn the_host_takes_no_malformed_site() {
     put_file(&mut site, &[0; 4]);
     put_unit_numbers(&mut units, &[0, 1], &[0; 4]);
     let rows = [
-        (b'F', site, &[1, 4, 7][..], 25, "host: op F: the payload is no row of files\n"),
+        (b'F', site, &[1, 4, 7][..], 29, "host: op F: the payload is no row of files\n"),
         (
             b'U',
             units,

@@ -1,129 +1,17 @@
 //! The proved check of a run file beside the reference, over the C surface.
 
+mod checks;
 mod host;
 
-use std::collections::BTreeMap;
-
+use checks::{long, met, shown, Comparison, ANSWER};
 use host::{refuses_cut_rows, Host};
 use yesbrulka_reference::ranges::MOST_BYTES;
 use yesbrulka_reference::reading::Reading;
 use yesbrulka_reference::samples::sticks::{self, Field};
-use yesbrulka_reference::samples::{units, Draw};
-use yesbrulka_reference::stick::{self, Answer, Run, END, MISSING, POWER, SETTINGS, TAGS, UNIT};
-
-/// Files go over in frames of about this many bytes.
-const FRAME: usize = 1 << 20;
-
-/// The bytes of a check's answer and of a value part's.
-const ANSWER: usize = 17;
-
-fn word(bytes: &[u8], at: usize) -> u32 {
-    u32::from_le_bytes(bytes[at..at + 4].try_into().expect("four bytes"))
-}
-
-fn long(bytes: &[u8], at: usize) -> u64 {
-    u64::from_le_bytes(bytes[at..at + 8].try_into().expect("eight bytes"))
-}
-
-/// The bytes of a file or the first and last ones of it, for a message.
-fn shown(file: &[u8]) -> String {
-    let hex = |bytes: &[u8]| bytes.iter().map(|byte| format!("{byte:02X}")).collect::<String>();
-    match file.len() {
-        0..=400 => hex(file),
-        n => format!("{} .. {} ({n} bytes)", hex(&file[..200]), hex(&file[n - 100..])),
-    }
-}
-
-/// Where the check of a file ended: the refusal's number, and the tag that it was for, where there is one.
-type Arm = (u32, Option<u8>);
-
-fn arm(file: &[u8], answer: Answer) -> Arm {
-    let tag = match answer.number {
-        0 | 8 | 9 => None,
-        _ => file.get(answer.place as usize).copied(),
-    };
-    (answer.number, tag)
-}
-
-/// A host, the frame that grows for it, and what its answers were.
-struct Comparison {
-    host: Host,
-    payload: Vec<u8>,
-    files: Vec<(Vec<u8>, Answer)>,
-    arms: BTreeMap<Arm, u32>,
-    all: u32,
-    wrong: u32,
-}
-
-impl Comparison {
-    fn start() -> Comparison {
-        Comparison {
-            host: Host::start(),
-            payload: Vec::new(),
-            files: Vec::new(),
-            arms: BTreeMap::new(),
-            all: 0,
-            wrong: 0,
-        }
-    }
-
-    /// Checks a file with the archive and with the reference; gives the reference's answer.
-    fn check(&mut self, file: impl Into<Vec<u8>>) -> Answer {
-        let file = file.into();
-        let answer = stick::check(&file);
-        self.add(file, answer)
-    }
-
-    /// The same, of a file whose answer's number is known beforehand.
-    fn check_is(&mut self, number: u32, file: impl Into<Vec<u8>>) -> Answer {
-        let file = file.into();
-        let answer = stick::check(&file);
-        assert_eq!(answer.number, number, "the reference on {}", shown(&file));
-        self.add(file, answer)
-    }
-
-    fn add(&mut self, file: Vec<u8>, answer: Answer) -> Answer {
-        self.payload.extend((file.len() as u32).to_le_bytes());
-        self.payload.extend_from_slice(&file);
-        *self.arms.entry(arm(&file, answer)).or_default() += 1;
-        self.files.push((file, answer));
-        if self.payload.len() > FRAME {
-            self.compare();
-        }
-        answer
-    }
-
-    fn compare(&mut self) {
-        let answer = self.host.call(b'C', &self.payload);
-        assert_eq!(answer.len(), ANSWER * self.files.len(), "an answer for each file");
-        for ((file, expected), answer) in self.files.drain(..).zip(answer.chunks(ANSWER)) {
-            let got = Answer { number: word(answer, 0), place: long(answer, 4), steps: word(answer, 12) };
-            let disturbed = answer[16] != 0;
-            self.all += 1;
-            if got != expected || disturbed {
-                self.wrong += 1;
-                if self.wrong <= 10 {
-                    let written = if disturbed { ", lent memory changed" } else { "" };
-                    eprintln!("{}\n  archive   {got:?}{written}\n  reference {expected:?}", shown(&file));
-                }
-            }
-        }
-        self.payload.clear();
-    }
-
-    /// Compares what is left, and gives how often each arm was met.
-    fn end(mut self) -> BTreeMap<Arm, u32> {
-        self.compare();
-        assert!(self.host.end().0.success(), "the host ended badly");
-        assert_eq!(self.wrong, 0, "wrong answers of {}", self.all);
-        println!("{} files", self.all);
-        self.arms
-    }
-}
-
-fn met(arms: &BTreeMap<Arm, u32>, number: u32) -> u32 {
-    arms.iter().filter(|((n, _), _)| *n == number).map(|(_, count)| count).sum()
-}
+use yesbrulka_reference::samples::{inverters, roofs, units, Draw};
+use yesbrulka_reference::stick::{
+    self, Run, CURVE, END, INVERTER, MISSING, POWER, SETTINGS, TAGS, UNIT, WEATHER,
+};
 
 /// One unit, and a power reading and a missing one, with the settings of a farm.
 fn smallest(draw: &mut Draw) -> Run {
@@ -221,11 +109,13 @@ fn files_with_bytes_left_out_or_put_in() {
 }
 
 /// Every field left out, repeated, exchanged with every other, replaced by every other, and every field of
-/// the list put in at every place.
+/// the list put in at every place, those of inverters and weather too.
 #[test]
 fn files_with_their_fields_in_another_order() {
     let mut draw = Draw::from_seed(405);
     let mut files = Comparison::start();
+    let mut of_roofs = roofs::inverter_fields(&inverters::document_inverter()).to_vec();
+    of_roofs.push(roofs::weather_field(inverters::weather(&mut Draw::from_seed(405))));
     for round in 0..40 {
         let units = if round == 0 { 64 } else { 1 + draw.below(4) as usize };
         let run = sticks::run(units, 3, &mut draw);
@@ -238,6 +128,7 @@ fn files_with_their_fields_in_another_order() {
                 sticks::reading_field(&sticks::power_reading(&mut draw)),
             ])
             .chain([sticks::end_field(3), sticks::end_field(0)])
+            .chain(of_roofs.clone())
             .collect();
         for at in 0..fields.len() {
             let (before, after) = fields.split_at(at);
@@ -314,6 +205,13 @@ fn files_with_wrong_tags_and_lengths() {
                 files.check(sticks::bytes(&fields));
                 fields[at].value.resize(length.into(), 0);
                 files.check(sticks::bytes(&fields));
+            }
+            for tag in [INVERTER, CURVE, WEATHER] {
+                for length in sticks::bad_lengths(tag) {
+                    let mut fields = fields.clone();
+                    fields[at] = Field::new(tag, vec![0; length.into()]);
+                    files.check_is(3, sticks::bytes(&fields));
+                }
             }
         }
     }
@@ -469,7 +367,8 @@ fn fields_with_two_things_wrong() {
             // Every tag at every point: with a wrong length, with bytes missing, out of order, with bad values.
             for (tag, length) in TAGS {
                 let bad = Field::new(tag, vec![0xFF; length.into()]);
-                let allowed = right.tag == tag || at >= 3 && [POWER, MISSING, END].contains(&tag);
+                let in_steps = [POWER, MISSING, WEATHER, END].contains(&tag);
+                let allowed = right.tag == tag || at >= 3 && in_steps || at == 3 && tag == INVERTER;
                 files.check_is(3, then(&Field { length: length ^ 1, ..bad.clone() }, usize::MAX));
                 if length != 0 {
                     files.check_is(1, then(&bad, 3));
@@ -477,7 +376,7 @@ fn fields_with_two_things_wrong() {
                 }
                 match tag {
                     _ if !allowed => files.check_is(4, then(&bad, usize::MAX)),
-                    POWER => files.check_is(6, then(&bad, usize::MAX)),
+                    POWER | WEATHER => files.check_is(6, then(&bad, usize::MAX)),
                     END => files.check_is(7, then(&bad, usize::MAX)),
                     MISSING => files.check_is(8, then(&bad, usize::MAX)),
                     _ => files.check_is(5, then(&bad, usize::MAX)),
@@ -572,8 +471,21 @@ fn files_of_as_many_steps_as_there_can_be() {
         then(1, 65_535, &[&missing, &unusable], 1);
         then(1, 65_535, &[&missing, &missing], 1);
         then(3, 65_535, &[&missing, &Field { length: 1, ..missing.clone() }], 0);
-        then(2, 65_535, &[&missing, &Field { tag: 6, ..missing.clone() }], 0);
+        then(2, 65_535, &[&missing, &Field { tag: 9, ..missing.clone() }], 0);
         then(4, 65_535, &[&missing, &head[1]], 0);
+        // A weather after the last step, before which the limit is not tested.
+        let weather = roofs::weather_field(inverters::weather(&mut Draw::from_seed(0)));
+        let no_weather = Field::new(WEATHER, vec![0xFF; 16]);
+        then(0, 65_535, &[&weather, &missing, &end(65_535)], 0);
+        then(8, 65_535, &[&missing, &weather], 0);
+        then(4, 65_535, &[&missing, &weather, &end(65_535)], 0);
+        then(4, 65_535, &[&missing, &weather, &weather], 0);
+        then(12, 65_535, &[&missing, &weather, &missing], 0);
+        then(12, 65_535, &[&missing, &weather, &unusable], 0);
+        then(6, 65_535, &[&missing, &no_weather], 0);
+        then(1, 65_535, &[&missing, &weather], 1);
+        let [plate, ..] = roofs::inverter_fields(&inverters::document_inverter());
+        then(4, 65_535, &[&missing, &plate], 0);
     }
     files.end();
 }
@@ -605,7 +517,7 @@ fn files_of_as_many_bytes_as_there_can_be() {
             }
         }
     }
-    // The largest complete file is below the limit.
+    // The largest complete file without weather is below the limit.
     let largest = sticks::run(64, 0, &mut draw);
     let power = sticks::power_reading(&mut draw);
     let file = sticks::file(&sticks::with(&largest, |run| run.readings = vec![power; 65_535]));

@@ -8,7 +8,7 @@ use frames::{put_file, said_units, shown, Met, Rest, FRAME};
 use host::{refuses_cut_rows, Host, LEFT_ALONE};
 use yesbrulka_reference::controller::{self, Fleet};
 use yesbrulka_reference::ranges::MOST_BYTES;
-use yesbrulka_reference::samples::{fleets, sticks, Draw};
+use yesbrulka_reference::samples::{fleets, inverters, roofs, sticks, Draw};
 use yesbrulka_reference::site::{self, Site};
 use yesbrulka_reference::stick::MISSING;
 
@@ -204,6 +204,26 @@ fn studies_over_files_of_any_size() {
     met.more_than(500, "another in its own mode", 2..=3);
     met.more_than(500, "settled", 0..=1);
     met.more_than(500, "more than four passes", 0..=1);
+}
+
+/// The fleet's study is the same whatever is on the roof.
+#[test]
+fn studies_over_files_with_inverters() {
+    let mut draw = Draw::from_seed(616);
+    let mut studies = Studies::start(616);
+    for round in 0..1_500 {
+        let call = fleets::study_call(6, 20, &mut draw);
+        let mut run = sticks::study_run(&call, 2, &mut draw);
+        let plain = sticks::file(&run);
+        run.site.inverters = (0..round % 65).map(|_| roofs::inverter(&mut draw)).collect();
+        run.weather = vec![Some(inverters::weather(&mut draw)); round % 3];
+        let file = sticks::file(&run);
+        let study = |file: &[u8]| expected_study(file, call.load, call.budget, &call.requests);
+        assert_eq!(study(&file), study(&plain));
+        studies.over(file);
+        assert_eq!(studies.study(call.load, call.budget, call.requests.len()), 0);
+    }
+    studies.end(1_500, 1_500).more_than(100, "settled", 0..=1);
 }
 
 /// The load and the budget at the ends of their ranges, beside them and far from them.

@@ -3,6 +3,7 @@ use mathlib.Core.Path.{_≡_, sym, ap, _∙_}
 use mathlib.Core.Bool.{Bool, true, false, cond}
 use mathlib.Core.List.{List}
 use Prim.Native.Nat.{ℕ, _≤_, _<_}
+use lib.ListN.{length}
 use lib.Dec.{ltb, eqb}
 use lib.IntN.{ℤ}
 use borrow.Author.Tests.{eq-eqb, ne-eqb, lt-ltb, le-ltb}
@@ -14,12 +15,12 @@ use Rattle.site.specs.declared.Head.{Head}
 use Rattle.site.specs.Site.{count, unitOf}
 use Rattle.stick.specs.declared.Answer.{Answer}
 use Rattle.stick.specs.Check.{checkOf}
-use Rattle.stick.specs.Site.{siteOf}
+use Rattle.stick.specs.Site.{siteOf, roofsOf}
 use Rattle.stick.specs.Posts.{Accepted}
 use Rattle.ask.specs.declared.HeadAnswer.the-variants.{HeadSaid, HeadRefused}
 use Rattle.ask.specs.declared.UnitAnswer.{UnitAnswer}
 use Rattle.ask.specs.declared.UnitAnswer.the-variants.{UnitSaid, UnitRefused}
-use Rattle.ask.specs.Says.{unitsSaid, secondsSaid, headAnswer, unitAnswer, fleetSaid, trialSaid, fileStudy, fileStudyLeaves}
+use Rattle.ask.specs.Says.{unitsSaid, invertersSaid, secondsSaid, headAnswer, unitAnswer, fleetSaid, trialSaid, fileStudy, fileStudyLeaves}
 
 -- a choice by whether a number is 0
 abbrev byNumber {ℓ} : {X : Type ℓ} → ℕ → X → X → X
@@ -46,6 +47,10 @@ module _ (file : List ℕ) (a : Answer) (is : a ≡ checkOf file) where
     pub no-units : 0 ≡ unitsSaid file
     unfolding unitsSaid
     no-units = sym (other-number (checkOf file .number) (count (siteOf file)) 0 refused)
+
+    pub no-inverters : 0 ≡ invertersSaid file
+    unfolding invertersSaid
+    no-inverters = sym (other-number (checkOf file .number) (length (roofsOf file)) 0 refused)
 
     pub no-seconds : 0 ≡ secondsSaid file
     unfolding secondsSaid
@@ -74,6 +79,10 @@ module _ (file : List ℕ) (z : Accepted file) where
   pub units-said : (n : ℕ) → n ≡ count (siteOf file) → n ≡ unitsSaid file
   unfolding unitsSaid
   units-said n e = e ∙ sym (zero-number (checkOf file .number) (count (siteOf file)) 0 (z .complete))
+
+  pub inverters-said : (n : ℕ) → n ≡ length (roofsOf file) → n ≡ invertersSaid file
+  unfolding invertersSaid
+  inverters-said n e = e ∙ sym (zero-number (checkOf file .number) (length (roofsOf file)) 0 (z .complete))
 
   pub seconds-said : (h : Head) → h ≡ siteOf file .head → h .seconds ≡ secondsSaid file
   unfolding secondsSaid

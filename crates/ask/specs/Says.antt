@@ -1,10 +1,11 @@
--- What a file says, asked of any bytes (rules C8 to C12): of an accepted file its number of units, its seconds, its head, a unit, and the study over its
+-- What a file says, asked of any bytes (rules C8 to C12 and C18): of an accepted file its number of units and of inverters, its seconds, its head, a unit, and the study over its
 -- fleet; of any other file nothing, or the check's refusal.
 use Prim.Native.Nat.{ℕ}
 use mathlib.Core.Bool.{cond}
 use mathlib.Core.List.{List, map}
 use lib.Dec.{ltb, eqb}
 use lib.IntN.{ℤ}
+use lib.ListN.{length}
 use Rattle.whole.specs.Call.{Call, Gave, Refused, Refusal}
 use Rattle.unit.specs.declared.Unit.{Unit}
 use Rattle.controller.specs.Ranges.{Fleet, fleetFor}
@@ -16,7 +17,7 @@ use Rattle.settling.specs.Answers.{studyAnswer, studyLeaves}
 use Rattle.site.specs.declared.Head.{Head}
 use Rattle.site.specs.Site.{count, unitOf}
 use Rattle.stick.specs.Check.{checkOf}
-use Rattle.stick.specs.Site.{siteOf}
+use Rattle.stick.specs.Site.{siteOf, roofsOf}
 use Rattle.ask.specs.declared.HeadAnswer.{HeadAnswer}
 use Rattle.ask.specs.declared.HeadAnswer.the-variants.{HeadSaid, HeadRefused}
 use Rattle.ask.specs.declared.UnitAnswer.{UnitAnswer}
@@ -29,6 +30,10 @@ orZero file n = cond (eqb (checkOf file .number) 0) n 0
 unfoldable pub unitsSaid : List ℕ → ℕ
 unfolding checkOf siteOf
 unitsSaid file = orZero file (count (siteOf file))
+
+unfoldable pub invertersSaid : List ℕ → ℕ
+unfolding checkOf roofsOf
+invertersSaid file = orZero file (length (roofsOf file))
 
 unfoldable pub secondsSaid : List ℕ → ℕ
 unfolding checkOf siteOf

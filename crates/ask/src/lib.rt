@@ -4,6 +4,7 @@ mod says;
 mod studies;
 
 pub use says::head;
+pub use says::inverters;
 pub use says::seconds;
 pub use says::unit;
 pub use says::units;

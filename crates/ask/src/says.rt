@@ -1,5 +1,5 @@
 ghost use mathlib.Core.Path.{_≡_};
-ghost use Rattle.ask.specs.Says.{unitsSaid, secondsSaid, headAnswer, unitAnswer};
+ghost use Rattle.ask.specs.Says.{unitsSaid, invertersSaid, secondsSaid, headAnswer, unitAnswer};
 use super::HeadAnswer;
 use super::UnitAnswer;
 
@@ -11,6 +11,16 @@ pub fn units(file: &[u8]) -> u32
         return 0;
     }
     stick::units(file) as u32
+}
+
+// The number of inverters of an accepted file, 0 of any other.
+pub fn inverters(file: &[u8]) -> u32
+    ensures { λ r. ⌜ r ≡ invertersSaid (now (file .entry)) ⌝ }
+{
+    if stick::check(file).number != 0 {
+        return 0;
+    }
+    stick::roofs(file) as u32
 }
 
 // The seconds of a step of an accepted file, 0 of any other.

@@ -4,6 +4,7 @@
 // compares with: the proved functions are held to a second opinion on every check.
 mod files;
 mod fleets;
+mod lights;
 mod readings;
 mod say;
 mod steps;
@@ -17,6 +18,7 @@ fn answer(kind: u8, value: &[u8]) {
         b'P' => fleets::pass(value),
         b'T' => fleets::study(value),
         b'S' => steps::step(value),
+        b'I' => lights::light(value),
         b'C' => files::check(value),
         b'V' => files::part(value),
         b'R' => files::run(value),

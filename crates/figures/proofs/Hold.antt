@@ -7,7 +7,8 @@ use Rattle.reading.specs.Choice.{choiceOf}
 use Rattle.figures.specs.Rows.{Row}
 use Rattle.figures.specs.Table.{table}
 use Rattle.figures.specs.Further.{further}
+use Rattle.figures.specs.Roofs.{roofs}
 
-pub figures-hold : map (λ (r : Row). r .given) (table ++ further) ≡ map (λ (r : Row). r .stated) (table ++ further)
-unfolding table further toBits div ofInt wattsOf choiceOf
+pub figures-hold : map (λ (r : Row). r .given) (table ++ further ++ roofs) ≡ map (λ (r : Row). r .stated) (table ++ further ++ roofs)
+unfolding table further roofs toBits div ofInt wattsOf choiceOf
 figures-hold = refl

@@ -2,3 +2,4 @@
 pub mod Rows
 pub mod Table
 pub mod Further
+pub mod Roofs

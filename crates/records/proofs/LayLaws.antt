@@ -1,5 +1,6 @@
 -- Bytes laid one piece behind the other are laid whole, and how long the pieces are. Assumes nothing.
 use mathlib.Core.Path.{_≡_, refl, sym, ap, ap₂, _∙_}
+use mathlib.Core.Bool.{Bool}
 use mathlib.Core.List.{List, [], _++_, append-nil}
 use Prim.Native.Nat.{ℕ, _+_, _≤_}
 use lib.IntN.{ℤ}
@@ -8,8 +9,9 @@ use lib.ListN.{length, take, drop, length-append, take-append-drop}
 use Rattle.octets.specs.BigEndian.{bytesOf, laid}
 use Rattle.octets.proofs.ByteLaws.{bytes-length}
 use Rattle.octets.proofs.LaidLaws.{laid-laid}
+use Rattle.solar.specs.declared.Given.{Given}
 use Rattle.storage.specs.declared.Outcome.{Outcome}
-use Rattle.records.specs.Records.{askedPart, givenPart, recordOf, endOf}
+use Rattle.records.specs.Records.{askedPart, givenPart, recordOf, turnedPart, litPart, roofRecordOf, endOf}
 
 -- nothing laid changes nothing
 pub nothing : (s : List ℕ) (at : ℕ) → s ≡ laid s at []
@@ -40,6 +42,18 @@ given-length o = refl
 pub record-length : (step unit : ℕ) (request : ℤ) (o : Outcome) → length (recordOf step unit request o) ≡ 40
 unfolding recordOf
 record-length step unit request o = both (askedPart step unit request) (givenPart o) 12 28 (asked-length step unit request) (given-length o)
+
+pub turned-length : (step inverter : ℕ) (on : Bool) → length (turnedPart step inverter on) ≡ 9
+unfolding turnedPart bytesOf
+turned-length step inverter on = refl
+
+pub lit-length : (g : Given) → length (litPart g) ≡ 20
+unfolding litPart bytesOf
+lit-length g = refl
+
+pub roof-length : (step inverter : ℕ) (g : Given) → length (roofRecordOf step inverter g) ≡ 29
+unfolding roofRecordOf
+roof-length step inverter g = both (turnedPart step inverter (g .on)) (litPart g) 9 20 (turned-length step inverter (g .on)) (lit-length g)
 
 pub end-length : (steps : ℕ) → length (endOf steps) ≡ 7
 unfolding endOf bytesOf

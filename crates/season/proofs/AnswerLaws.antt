@@ -3,7 +3,7 @@ use mathlib.Core.Path.{_≡_, refl, sym, ap, ap₂, _∙_}
 use mathlib.Core.Bool.{Bool, true, false, cond}
 use mathlib.Core.List.{List, _++_}
 use Prim.Native.Nat.{ℕ, _+_, _*_, _≤_, _<_}
-use native.Mathlib.Nat.{zero-add, mul-le-mul-left, mul-le-mul, le-trans, le-of-eq}
+use native.Mathlib.Nat.{zero-add, add-le-add, mul-le-mul-left, mul-le-mul, le-trans, le-of-eq}
 use lib.Dec.{ltb, eqb}
 use lib.ListN.{length, drop}
 use borrow.Author.Tests.{lt-ltb, le-ltb, eq-eqb, ne-eqb}
@@ -11,8 +11,9 @@ use Rattle.octets.specs.BigEndian.{laid}
 use Rattle.site.specs.Site.{count}
 use Rattle.stick.specs.declared.Answer.{Answer}
 use Rattle.stick.specs.Check.{answer, checkOf}
-use Rattle.stick.specs.Site.{siteOf, stepsOf}
-use Rattle.stick.proofs.SiteProved.{sited, steps-count, steps-most}
+use Rattle.stick.specs.Site.{siteOf, roofsOf, stepsOf}
+use Rattle.stick.proofs.SiteProved.{sited, roofed, steps-count, steps-most}
+use Rattle.roofs.specs.Roofs.{allOff}
 use Rattle.fleet.specs.Step.{atFirst}
 use Rattle.season.specs.Run.{resultBy, resultOf}
 use Rattle.season.specs.Answers.{needed, roomOf, runAnswer, runLeaves}
@@ -22,7 +23,7 @@ use Rattle.season.proofs.RunLaws.{from-length}
 -- the result of any file is as long as what is needed for it
 pub result-length : (file : List ℕ) → length (resultOf file) ≡ needed file
 unfolding resultOf resultBy needed
-result-length file = from-length (siteOf file) 0 (atFirst (siteOf file .units)) (stepsOf file)
+result-length file = from-length (siteOf file) (roofsOf file) 0 (atFirst (siteOf file .units)) (allOff (roofsOf file)) (stepsOf file)
 
 -- laid from the room's start, bytes are followed by what the room held past them
 over : (bs room : List ℕ) (n : ℕ) → length bs ≡ n → laid room 0 bs ≡ bs ++ drop n room
@@ -37,15 +38,19 @@ module _ (file : List ℕ) (steps : ℕ) (c : Counted file steps) where
   pub few-units : count (siteOf file) ≤ 64
   few-units = sited file (c .accepted) .few
 
-  pub few-bytes : (n : ℕ) → n ≡ count (siteOf file) → 40 * n * steps ≤ 40 * 64 * 65535
-  few-bytes n e = mul-le-mul (mul-le-mul-left 40 (le-trans (le-of-eq e) few-units)) few-steps
+  pub few-roofs : length (roofsOf file) ≤ 64
+  few-roofs = roofed file (c .accepted) .few
+
+  pub few-bytes : (n m : ℕ) → n ≡ count (siteOf file) → m ≡ length (roofsOf file) → (40 * n + 29 * m) * steps ≤ (40 * 64 + 29 * 64) * 65535
+  few-bytes n m e d =
+      mul-le-mul (add-le-add (mul-le-mul-left 40 (le-trans (le-of-eq e) few-units)) (mul-le-mul-left 29 (le-trans (le-of-eq d) few-roofs))) few-steps
 
   pub same-steps : length (stepsOf file) ≡ steps
   same-steps = steps-count file (c .accepted) ∙ c .counted
 
-  pub bytes-needed : (n : ℕ) → n ≡ count (siteOf file) → 40 * n * steps + 7 ≡ needed file
+  pub bytes-needed : (n m : ℕ) → n ≡ count (siteOf file) → m ≡ length (roofsOf file) → (40 * n + 29 * m) * steps + 7 ≡ needed file
   unfolding needed
-  bytes-needed n e = ap₂ (λ (u k : ℕ). 40 * u * k + 7) e (sym same-steps)
+  bytes-needed n m e d = ap₂ (λ (u v : ℕ). (40 * u + 29 * v) * steps + 7) e d ∙ ap (λ (k : ℕ). (40 * count (siteOf file) + 29 * length (roofsOf file)) * k + 7) (sym same-steps)
 
 -- ---- what is answered and left, by what the tests give
 module _ (file : List ℕ) where

@@ -1,5 +1,6 @@
 -- Laws about the run and its answers.
 pub mod RunLaws
+pub mod RoofLaws
 pub mod AnswerLaws
 pub mod LoadLaws
 pub mod UsedLaws

@@ -9,6 +9,7 @@ use Rattle.reading.specs.declared.Reading.the-variants.{Missing, Power}
 use Rattle.reading.specs.declared.Measure.the-variants.{Chosen}
 use Rattle.reading.specs.Choice.{measureOf}
 use Rattle.controller.specs.OneSign.{OneSign}
+use Rattle.solar.specs.Weather.{dark}
 use Rattle.site.specs.declared.Step.{Step}
 use Rattle.site.specs.Site.{Site, stepWith}
 use Rattle.stick.specs.Site.{siteOf, stepsOf}
@@ -26,7 +27,7 @@ pub record RunLaw (file : List ℕ) : Type 0 where
   -- the result has as many bytes as the room is asked for
   pub resultLength : length (resultOf file) ≡ needed file
   -- every power that the file has gives a measure
-  pub noneRefused : (k : ℕ) → k < length (stepsOf file) → (p : Phases) → getD (stepsOf file) k (stepWith Missing) .reading ≡ Power p
+  pub noneRefused : (k : ℕ) → k < length (stepsOf file) → (p : Phases) → getD (stepsOf file) k (stepWith Missing dark) .reading ≡ Power p
       → (m : ℤ) × (measureOf p (siteOf file .head .phase) ≡ Chosen m)
   -- after any number of steps the requests are not of both signs
   pub oneSign : (k : ℕ) → OneSign (standsAfter (siteOf file) (atFirst (siteOf file .units)) (take k (stepsOf file)) .requests)

@@ -1,10 +1,13 @@
--- A site in its ranges, and a step whose reading can be used: what a run may count on.
+-- A site and roofs in their ranges: what a run may count on.
 use Prim.Native.Nat.{ℕ, _≤_, _<_}
 use mathlib.Core.Bool.{true}
+use mathlib.Core.List.{List}
 use mathlib.Core.Path.{_≡_}
+use lib.ListN.{length}
 use Rattle.controller.specs.Ranges.{settingsIn}
+use Rattle.solar.specs.Roof.{Roof, roofIn}
 use Rattle.unit.specs.Ranges.{unitIn, secondsIn}
-use Rattle.site.specs.Site.{Site, count, unitOf}
+use Rattle.site.specs.Site.{Site, count, unitOf, roofOf}
 
 pub record Sited (site : Site) : Type 0 where
   pub some : 1 ≤ count site
@@ -13,3 +16,8 @@ pub record Sited (site : Site) : Type 0 where
   pub settings : settingsIn (site .head .settings) ≡ true
   pub phase : site .head .phase ≤ 5
   pub units : (i : ℕ) → i < count site → unitIn (unitOf site i) ≡ true
+
+-- at most 64 roofs, each in its ranges
+pub record Roofed (roofs : List Roof) : Type 0 where
+  pub few : length roofs ≤ 64
+  pub each : (i : ℕ) → i < length roofs → roofIn (roofOf roofs i) ≡ true

@@ -1,10 +1,12 @@
 -- What a run file says of the fleet, once its bytes are read: the definitions of the run take a site and its steps, and never see bytes or places.
 use Prim.Native.Nat.{ℕ}
-use mathlib.Core.List.{List, map}
+use mathlib.Core.List.{List, [], map}
 use lib.IntN.{pos}
 use lib.ListN.{length, getD}
 use Rattle.reading.specs.declared.Reading.{Reading}
 use Rattle.unit.specs.declared.Unit.{Unit}
+use Rattle.solar.specs.declared.Sun.{Sun}
+use Rattle.solar.specs.Roof.{Roof}
 use Rattle.site.specs.declared.Head.{Head}
 use Rattle.site.specs.declared.Step.{Step}
 
@@ -40,6 +42,17 @@ unitOf site i = getD (site .units) i noUnit
 abbrev pub column : (Unit → ℕ) → Site → List ℕ
 column value site = map value (site .units)
 
--- a step with its reading
-abbrev pub stepWith : Reading → Step
-stepWith r = record { reading = r }
+-- beside a site are its roofs, inverters with their curves: roof i; past the last there is one of no values
+abbrev pub noRoof : Roof
+noRoof = record {
+  inverter = record { array = 0; kva = 0; «cut_in» = 0; «cut_out» = 0; limit = 0; «var_request» = pos 0; priority = 0 };
+  warm = [];
+  efficiency = [];
+}
+
+abbrev pub roofOf : List Roof → ℕ → Roof
+roofOf roofs i = getD roofs i noRoof
+
+-- a step with its reading and its sun
+abbrev pub stepWith : Reading → Sun → Step
+stepWith r s = record { reading = r; sun = s }

@@ -1,7 +1,8 @@
 // What a run file says of a site: its head, and its units as rows. One step of it: the reading that
-// closes the step.
+// closes the step, and the sun.
 use controller::Settings;
 use reading::Reading;
+use solar::Sun;
 
 // What a file says of a site beside its units: the edition, the seconds of a step, the controller's
 // settings and the phase choice.
@@ -12,7 +13,8 @@ pub struct Head {
     pub phase: u8,
 }
 
-// One step: a group of fields that its reading closes, and today the reading alone.
+// One step: a group of fields that its reading closes, with the sun of its weather, or none.
 pub struct Step {
     pub reading: Reading,
+    pub sun: Sun,
 }

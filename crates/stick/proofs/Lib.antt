@@ -4,6 +4,7 @@ pub mod TakenLaws
 pub mod WalkLaws
 pub mod PlaceLaws
 pub mod SaidLaws
+pub mod RoofLaws
 pub mod StepLaws
 pub mod SiteProved
 pub mod SiteLaws

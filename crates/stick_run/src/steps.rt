@@ -1,12 +1,13 @@
 ghost use mathlib.Core.Path.{_≡_};
 ghost use lib.ListN.{length};
-ghost use Rattle.stick.specs.Site.{siteOf};
-ghost use Rattle.fleet.specs.Step.{stepBytes};
+ghost use Rattle.stick.specs.Site.{siteOf, roofsOf};
+ghost use Rattle.season.specs.Run.{allBytes};
 ghost use Rattle.season.specs.Posts.{Counted, Lengths, Loaded};
 use fleet::Frame;
 use libc::STDOUT_FILENO;
 use records::END_BYTES;
 use records::RECORD_BYTES;
+use records::ROOF_RECORD_BYTES;
 
 // The end record: whether it was written.
 fn write_end(count: u32) -> bool {
@@ -24,17 +25,22 @@ fn write_steps(
     rows: &[[u64; 14]],
     stored: &mut [u64],
     requests: &mut [i32],
+    on: &mut [bool],
     room: &mut [u8],
 ) -> bool
     requires { ⌜ Counted (now file) count ⌝ }
-    requires { ⌜ Loaded (now file) f (now rows) (now stored) (now requests) ⌝ }
-    requires { ⌜ length (now room) ≡ stepBytes (siteOf (now file)) ⌝ }
+    requires { ⌜ Loaded (now file) f (now rows) (now stored) (now requests) (now on) ⌝ }
+    requires { ⌜ length (now room) ≡ allBytes (siteOf (now file)) (roofsOf (now file)) ⌝ }
 {
+    let units = RECORD_BYTES * requests.len();
+    let first = stick::roofs_place(file);
     let mut next = stick::steps_place(file);
     let mut k = 0;
     while k < count {
         let s = stick::step_at(file, next);
+        let sun = s.sun;
         fleet::step(f, rows, k, s, stored, requests, room, 0);
+        roofs::step(file, first, k, sun, on, room, units);
         if !io::write_all(STDOUT_FILENO, room) {
             return false;
         }
@@ -51,16 +57,18 @@ fn write_with(
     rows: &mut [[u64; 14]],
     stored: &mut [u64],
     requests: &mut [i32],
+    on: &mut [bool],
     room: &mut [u8],
 ) -> bool
     requires { ⌜ Counted (now file) count ⌝ }
-    requires { ⌜ Lengths (now file) (now rows) (now stored) (now requests) ⌝ }
-    requires { ⌜ length (now room) ≡ stepBytes (siteOf (now file)) ⌝ }
+    requires { ⌜ Lengths (now file) (now rows) (now stored) (now requests) (now on) ⌝ }
+    requires { ⌜ length (now room) ≡ allBytes (siteOf (now file)) (roofsOf (now file)) ⌝ }
 {
     stick::load(file, rows);
     let f = fleet::framed(stick::head(file), rows);
     fleet::start(rows, stored, requests);
-    write_steps(file, count, f, rows, stored, requests, room)
+    roofs::turn_off(on);
+    write_steps(file, count, f, rows, stored, requests, on, room)
 }
 
 // The result of an accepted file on standard output: whether all of it was written.
@@ -68,16 +76,19 @@ pub fn write(file: &[u8], count: u32) -> bool
     requires { ⌜ Counted (now file) count ⌝ }
 {
     let n = stick::units(file);
+    let m = stick::roofs(file);
     let mut rows = [[0u64; 14]; 64];
     let mut stored = [0u64; 64];
     let mut requests = [0i32; 64];
-    let mut room = [0u8; 2560];
+    let mut on = [false; 64];
+    let mut room = [0u8; 4416];
     write_with(
         file,
         count,
         &mut rows[0..n],
         &mut stored[0..n],
         &mut requests[0..n],
-        &mut room[0..RECORD_BYTES * n],
+        &mut on[0..m],
+        &mut room[0..RECORD_BYTES * n + ROOF_RECORD_BYTES * m],
     )
 }

@@ -19,12 +19,19 @@ use Rattle.settling.specs.declared.Studied.{Studied}
 use Rattle.settling.specs.declared.StudyAnswer.{StudyAnswer}
 use Rattle.settling.specs.declared.StudyAnswer.the-variants.{StudyDone, StudyRefused}
 use Rattle.settling.specs.Answers.{studyCall, studyAnswer, studyLeaves}
+use Rattle.solar.specs.declared.Inverter.{Inverter}
+use Rattle.solar.specs.declared.Weather.{Weather}
+use Rattle.solar.specs.declared.Given.{Given}
+use Rattle.solar.specs.declared.Lit.{Lit}
+use Rattle.solar.specs.declared.Lit.the-variants.{Done as Lighted}
+use Rattle.solar.specs.declared.Lit.the-variants.{RefusedBy as LightedNot}
+use Rattle.solar.specs.Answers.{Lists, litCall, litOf}
 use Rattle.storage.specs.declared.Outcome.{Outcome}
 use Rattle.storage.specs.declared.Stepped.{Stepped}
 use Rattle.storage.specs.declared.Stepped.the-variants.{Done, RefusedBy}
 use Rattle.storage.specs.Answers.{stepCall}
 use Rattle.storage.specs.Step.{steppedOf}
-use Rattle.yesbrulka.specs.Calls.{flag, settingsOf, PassSeen, StudySeen, trialOf, StepSeen}
+use Rattle.yesbrulka.specs.Calls.{flag, settingsOf, PassSeen, StudySeen, trialOf, StepSeen, LitSeen}
 
 -- a flag as a byte
 byte-is : (b : Bool) → boolByte b ≡ flag b
@@ -146,3 +153,32 @@ module _ {A : Type 0} (c : Call A) (r : Refusal) (is : Refused r ≡ c) where
 
   pub call-kept : {B : Type 0} (value : A → B) (held : B) → held ≡ heldAfter c value held
   call-kept value held = ap (λ (x : Call A). heldAfter x value held) is
+
+-- ---- a step of an inverter, by its var request
+module _ (inverter : ℤ → Inverter) (l : Lists) (on : ℕ) (w : Weather) (var : ℤ) (hv : mag var < 2 ^ 31) (ans : Lit)
+    (ea : ans ≡ litOf (inverter (toZ w32 (ofZ w32 var))) l on w) (turned : ℕ) (watts vars : ℤ) (dc : ℕ) where
+  lit-is : ans ≡ litOf (inverter var) l on w
+  lit-is = ea ∙ ap (λ (v : ℤ). litOf (inverter v) l on w) (read w32 var hv)
+
+  pub lit-done : (g : Given) → ans ≡ Lighted g → mag (g .watts) < 2 ^ 31 → mag (g .vars) < 2 ^ 31
+      → LitSeen (litOf (inverter var) l on w) 0 turned (boolByte (g .on)) watts (toZ w32 (ofZ w32 (g .watts))) vars (toZ w32 (ofZ w32 (g .vars))) dc (g .dc)
+  lit-done g e hw hq =
+      let is : Lighted g ≡ litOf (inverter var) l on w = sym e ∙ lit-is in
+      record {
+        number-is = ap (λ (x : Lit). numberOf (litCall x)) is;
+        on-is = byte-is (g .on) ∙ ap (λ (x : Lit). heldAfter (litCall x) (λ (q : Given). flag (q .on)) turned) is;
+        watts-is = read w32 (g .watts) hw ∙ ap (λ (x : Lit). heldAfter (litCall x) (λ (q : Given). q .watts) watts) is;
+        vars-is = read w32 (g .vars) hq ∙ ap (λ (x : Lit). heldAfter (litCall x) (λ (q : Given). q .vars) vars) is;
+        dc-is = ap (λ (x : Lit). heldAfter (litCall x) (λ (q : Given). q .dc) dc) is;
+      }
+
+  pub lit-refused : (n : ℕ) → ans ≡ LightedNot n → LitSeen (litOf (inverter var) l on w) n turned turned watts watts vars vars dc dc
+  lit-refused n e =
+      let is : LightedNot n ≡ litOf (inverter var) l on w = sym e ∙ lit-is in
+      record {
+        number-is = ap (λ (x : Lit). numberOf (litCall x)) is;
+        on-is = ap (λ (x : Lit). heldAfter (litCall x) (λ (q : Given). flag (q .on)) turned) is;
+        watts-is = ap (λ (x : Lit). heldAfter (litCall x) (λ (q : Given). q .watts) watts) is;
+        vars-is = ap (λ (x : Lit). heldAfter (litCall x) (λ (q : Given). q .vars) vars) is;
+        dc-is = ap (λ (x : Lit). heldAfter (litCall x) (λ (q : Given). q .dc) dc) is;
+      }

@@ -1,9 +1,10 @@
--- What a C caller sees of a call (rules C1 to C16): the number that is returned, and each lent number afterwards, which is what the call gives or, on a
+-- What a C caller sees of a call (rules C1 to C19): the number that is returned, and each lent number afterwards, which is what the call gives or, on a
 -- refusal, what it held.
 use Prim.Native.Nat.{ℕ}
 use mathlib.Core.Bool.{Bool, cond}
 use mathlib.Core.List.{List}
 use mathlib.Core.Path.{_≡_}
+use lib.Ieee.{Float}
 use lib.IntN.{ℤ}
 use denote.Ref.{RefT, now}
 use denote.Triple.Both.{Both}
@@ -16,6 +17,11 @@ use Rattle.controller.specs.declared.PassAnswer.{PassAnswer}
 use Rattle.controller.specs.Answers.{passCall}
 use Rattle.settling.specs.declared.Trial.{Trial}
 use Rattle.settling.specs.declared.Studied.{Studied}
+use Rattle.solar.specs.declared.Inverter.{Inverter}
+use Rattle.solar.specs.declared.Weather.{Weather}
+use Rattle.solar.specs.declared.Given.{Given}
+use Rattle.solar.specs.declared.Lit.{Lit}
+use Rattle.solar.specs.Answers.{Lists, listsOf, litCall}
 use Rattle.storage.specs.declared.Outcome.{Outcome}
 use Rattle.storage.specs.declared.Stepped.{Stepped}
 use Rattle.storage.specs.Answers.{stepCall}
@@ -92,6 +98,35 @@ pub record StepSeen (a : Stepped) (number : ℕ) (watts watts′ vars vars′ : 
 abbrev pub StepTold : Stepped → ℕ → Lent ℤ → Lent ℤ → Lent ℕ → Lent ℕ → Type 0
 StepTold a number watts vars stored loss =
     StepSeen a number (held watts) (left watts) (held vars) (left vars) (held stored) (left stored) (held loss) (left loss)
+
+-- yb_solar: the inverter's values in the call's order, the lists of its curves and the weather; the number, and what the step gives
+abbrev pub inverterOf : ℕ → ℕ → ℕ → ℕ → ℕ → ℤ → ℕ → Inverter
+inverterOf array kva cut-in cut-out limit var priority = record {
+  array = array;
+  kva = kva;
+  «cut_in» = cut-in;
+  «cut_out» = cut-out;
+  limit = limit;
+  «var_request» = var;
+  priority = priority;
+}
+
+abbrev pub listsLent : Lent (List ℤ) → Lent (List ℤ) → Lent (List ℤ) → Lent (List ℤ) → Lists
+listsLent warm-x warm-y eff-x eff-y = listsOf (held warm-x) (held warm-y) (held eff-x) (held eff-y)
+
+abbrev pub weatherOf : Float → Float → Weather
+weatherOf irradiance temperature = record { irradiance = irradiance; temperature = temperature }
+
+pub record LitSeen (a : Lit) (number on on′ : ℕ) (watts watts′ vars vars′ : ℤ) (dc dc′ : ℕ) : Type 0 where
+  pub number-is : number ≡ numberOf (litCall a)
+  pub on-is : on′ ≡ heldAfter (litCall a) (λ (g : Given). flag (g .on)) on
+  pub watts-is : watts′ ≡ heldAfter (litCall a) (λ (g : Given). g .watts) watts
+  pub vars-is : vars′ ≡ heldAfter (litCall a) (λ (g : Given). g .vars) vars
+  pub dc-is : dc′ ≡ heldAfter (litCall a) (λ (g : Given). g .dc) dc
+
+abbrev pub LitTold : Lit → ℕ → Lent ℕ → Lent ℤ → Lent ℤ → Lent ℕ → Type 0
+LitTold a number on watts vars dc =
+    LitSeen a number (held on) (left on) (held watts) (left watts) (held vars) (left vars) (held dc) (left dc)
 
 -- yb_settings and yb_unit: what a file says, as a call's answer
 abbrev pub headSaid : List ℕ → Call Head

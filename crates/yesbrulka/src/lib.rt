@@ -8,13 +8,14 @@ ghost use Rattle.reading.specs.Conversion.{wattsOf, wattsCall};
 ghost use Rattle.unit.specs.declared.Unit.{Unit};
 ghost use Rattle.controller.specs.Answers.{passAnswer, passLeaves};
 ghost use Rattle.settling.specs.Answers.{studyAnswer, studyLeaves, studyCall};
+ghost use Rattle.solar.specs.Answers.{litOf};
 ghost use Rattle.storage.specs.Step.{steppedOf};
 ghost use Rattle.site.specs.declared.Head.{Head};
 ghost use Rattle.stick.specs.Check.{checkOf};
 ghost use Rattle.parts.specs.Parts.{partStart, partSize};
 ghost use Rattle.season.specs.Answers.{roomOf, runAnswer, runLeaves};
-ghost use Rattle.ask.specs.Says.{unitsSaid, secondsSaid, fileStudy, fileStudyLeaves, fileStudyCall};
-ghost use Rattle.yesbrulka.specs.Calls.{held, left, fleetLent, settingsOf, PassTold, trialOf, StudyTold, unitOf, StepTold, headSaid, unitSaid};
+ghost use Rattle.ask.specs.Says.{unitsSaid, invertersSaid, secondsSaid, fileStudy, fileStudyLeaves, fileStudyCall};
+ghost use Rattle.yesbrulka.specs.Calls.{held, left, fleetLent, settingsOf, PassTold, trialOf, StudyTold, unitOf, StepTold, inverterOf, listsLent, weatherOf, LitTold, headSaid, unitSaid};
 use ask::HeadAnswer;
 use ask::UnitAnswer;
 use controller::PassAnswer;
@@ -22,6 +23,9 @@ use controller::Settings;
 use reading::Watts;
 use settling::StudyAnswer;
 use settling::Trial;
+use solar::Inverter;
+use solar::Lit;
+use solar::Weather;
 use storage::Stepped;
 use unit::Unit;
 
@@ -229,12 +233,72 @@ pub extern "C" fn yb_step(
     }
 }
 
+// One step of one inverter: 0, whether it is on afterwards (1) or not (0), watts at the grid, vars
+// and DC power in W; or 10, 5 or 6.
+#[no_mangle]
+pub extern "C" fn yb_solar(
+    array: u32,
+    kva: u32,
+    cut_in: u16,
+    cut_out: u16,
+    limit: u16,
+    var_request: i32,
+    priority: u8,
+    warm_x: &[i32],
+    warm_y: &[i32],
+    eff_x: &[i32],
+    eff_y: &[i32],
+    irradiance: f64,
+    temperature: f64,
+    on: u8,
+    on_after: &mut u8,
+    watts: &mut i32,
+    vars: &mut i32,
+    dc: &mut u64,
+) -> u32
+    ensures { λ r. ⌜ LitTold (litOf (inverterOf array kva «cut_in» «cut_out» limit «var_request» priority) (listsLent «warm_x» «warm_y» «eff_x» «eff_y») on (weatherOf irradiance temperature)) r «on_after» watts vars dc ⌝ }
+{
+    let v = Inverter {
+        array,
+        kva,
+        cut_in,
+        cut_out,
+        limit,
+        var_request,
+        priority,
+    };
+    let w = Weather {
+        irradiance,
+        temperature,
+    };
+    match solar::step(v, warm_x, warm_y, eff_x, eff_y, on, w) {
+        Lit::Done(g) => {
+            let given = g.watts;
+            let side = g.vars;
+            *on_after = g.on as u8;
+            *watts = given;
+            *vars = side;
+            *dc = g.dc;
+            0
+        }
+        Lit::RefusedBy(n) => n as u32,
+    }
+}
+
 // What a file says: the number of its units, 0 for a file that the check refuses.
 #[no_mangle]
 pub extern "C" fn yb_units(file: &[u8]) -> u32
     ensures { λ r. ⌜ r ≡ unitsSaid (now (file .entry)) ⌝ }
 {
     ask::units(file)
+}
+
+// What a file says: the number of its inverters, 0 for a file that the check refuses.
+#[no_mangle]
+pub extern "C" fn yb_inverters(file: &[u8]) -> u32
+    ensures { λ r. ⌜ r ≡ invertersSaid (now (file .entry)) ⌝ }
+{
+    ask::inverters(file)
 }
 
 // What a file says: the seconds of a step, 0 for a file that the check refuses.

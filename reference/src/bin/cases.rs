@@ -13,15 +13,17 @@ use yesbrulka_reference::controller::{self, Fleet};
 use yesbrulka_reference::octets::{put_i32, put_u16, put_u32, put_u64, put_u8};
 use yesbrulka_reference::reading::{self, Phases, Reading};
 use yesbrulka_reference::samples::fleets::{self, PassCall, StudyCall};
+use yesbrulka_reference::samples::inverters::{self, SolarCall};
 use yesbrulka_reference::samples::sticks::{self, Field};
 use yesbrulka_reference::samples::units::{self, StepCall};
-use yesbrulka_reference::samples::{self, seasons, Draw};
+use yesbrulka_reference::samples::{self, roofs, seasons, Draw};
 use yesbrulka_reference::season;
+use yesbrulka_reference::solar::{Produced, Weather};
 use yesbrulka_reference::stick::{self, Answer, Run};
 use yesbrulka_reference::storage::{self, Stepped};
 use yesbrulka_reference::whole;
 
-/// What the Rattle program has room for: a run's payload, and the room that it lends.
+/// What the Rattle program has room for: a file's payload, and the room that it lends.
 const MOST_PAYLOAD: usize = 16_384;
 const MOST_ROOM: usize = 8_192;
 
@@ -162,8 +164,25 @@ impl Cases {
         self.add(b'S', &payload, list(&answer));
     }
 
+    /// 'I': the 19 bytes of an inverter's field, the 129 of its temperature curve's and the 129 of its efficiency
+    /// curve's, of 2 to 16 points each; the 16 bytes of a weather's field; and whether it was on, u8, 0 or 1. Whether it
+    /// is on as 0 or 1, the watts, the vars, and the DC power.
+    fn solar(&mut self, call: &SolarCall) {
+        let mut payload = Vec::new();
+        roofs::put_plate(&mut payload, &call.inverter);
+        roofs::put_curve(&mut payload, &call.inverter.warm);
+        roofs::put_curve(&mut payload, &call.inverter.eff);
+        roofs::put_weather(&mut payload, call.weather);
+        put_u8(&mut payload, call.on);
+        let answer = call.step().map(|Produced { on, watts, vars, dc }| {
+            vec![i128::from(on), watts.into(), vars.into(), dc.into()]
+        });
+        self.add(b'I', &payload, list(&answer));
+    }
+
     /// 'C': a file's bytes; the check's number, place and steps, also where the number is 0.
     fn check(&mut self, file: &[u8]) {
+        assert!(file.len() <= MOST_PAYLOAD, "a file that the program has room for");
         let Answer { number, place, steps } = stick::check(file);
         self.add_line(b'C', file, &format!("{number} {place} {steps}"));
     }
@@ -499,6 +518,57 @@ fn step_cases(cases: &mut Cases) {
     }
 }
 
+/// Document 003's curves first, then the ends of the ranges and what is beside them, weather at the edges of its
+/// conversion, and any.
+fn solar_cases(cases: &mut Cases) {
+    let mut draw = Draw::from_seed(13);
+    for call in inverters::document_steps() {
+        cases.solar(&call);
+    }
+    for _ in 0..3 {
+        let call = inverters::solar_call(&mut draw);
+        for change in inverters::ENDS.iter().chain(&inverters::WEATHER_ENDS) {
+            cases.solar(&call.with(change));
+        }
+        let bad = inverters::BAD_PLATES.iter().chain(&inverters::BAD_WARMS).chain(&inverters::BAD_EFFS);
+        for spoil in bad.clone() {
+            cases.solar(&call.with(spoil));
+        }
+        // A wrong value comes before a wrong weather.
+        for spoil in bad.step_by(7) {
+            let weather = inverters::bad_weather(&mut draw);
+            cases.solar(&SolarCall { weather, ..call.with(spoil) });
+        }
+    }
+    let call = inverters::solar_call(&mut draw);
+    for bits in inverters::bad_irradiances(&mut draw) {
+        let weather = Weather { irradiance: f64::from_bits(bits), ..call.weather };
+        cases.solar(&SolarCall { weather, ..call.clone() });
+    }
+    for bits in inverters::bad_temperatures(&mut draw) {
+        let weather = Weather { temperature: f64::from_bits(bits), ..call.weather };
+        cases.solar(&SolarCall { weather, ..call.clone() });
+    }
+    for round in 0..160 {
+        let mut call = inverters::solar_call(&mut draw);
+        let edge = f64::from_bits(inverters::edge(&mut draw));
+        match round % 2 {
+            0 => call.weather.irradiance = edge,
+            _ => call.weather.temperature = edge,
+        }
+        cases.solar(&call);
+    }
+    // Values at their ends, several at once.
+    for _ in 0..150 {
+        let call = inverters::solar_call(&mut draw);
+        let [first, second, third] = [(); 3].map(|()| draw.one_of(&inverters::ENDS));
+        cases.solar(&call.with(first).with(second).with(third));
+    }
+    for _ in 0..900 {
+        cases.solar(&inverters::solar_call(&mut draw));
+    }
+}
+
 /// Files are small, to keep the stored ones so; those of number 12 are too large to be among them.
 fn check_cases(cases: &mut Cases) {
     let mut draw = Draw::from_seed(10);
@@ -527,7 +597,7 @@ fn check_cases(cases: &mut Cases) {
     for at in 0..fields.len() {
         cases.check(&sticks::bytes(&without_one(at)));
         cases.check(&sticks::bytes(&[&fields[..=at], &fields[at..]].concat()));
-        for tag in [0, 6, 0x7E, 0x81, 0xFF, draw.any() as u8] {
+        for tag in [0, 6, 9, 0x7E, 0x81, 0xFF, draw.any() as u8] {
             cases.check(&instead(at, Field { tag, ..fields[at].clone() }));
         }
         let lengths = sticks::bad_lengths(fields[at].tag);
@@ -573,6 +643,83 @@ fn check_cases(cases: &mut Cases) {
         cases.check(&sticks::file(&run));
         let mut fields = sticks::fields(&run);
         fields.remove(units);
+        cases.check(&sticks::bytes(&fields));
+    }
+}
+
+/// Files with inverters and weather. A 65th inverter would be more than the program has room for.
+fn roof_check_cases(cases: &mut Cases) {
+    let mut draw = Draw::from_seed(14);
+    // One unit, document 003's inverter, and two steps of which the first has a weather.
+    let run = sticks::with(&roofs::run(1, 1, 0, &mut draw), |run| {
+        let mut draw = Draw::from_seed(14);
+        run.site.inverters = vec![inverters::document_inverter()];
+        run.readings = vec![sticks::power_reading(&mut draw), Reading::Missing];
+        run.weather = vec![Some(Weather { irradiance: 0.8, temperature: 25.0 })];
+    });
+    let fields = sticks::fields(&run);
+    let file = sticks::bytes(&fields);
+    for length in 76..=file.len() {
+        cases.check(&file[..length]);
+    }
+    let instead = |at: usize, field: Field| {
+        let mut fields = fields.clone();
+        fields[at] = field;
+        sticks::bytes(&fields)
+    };
+    // From the inverter on, each field left out, said twice, of another tag or length, or any of them after any
+    // number of others.
+    for at in 3..fields.len() {
+        cases.check(&sticks::bytes(&[&fields[..at], &fields[at + 1..]].concat()));
+        cases.check(&sticks::bytes(&[&fields[..=at], &fields[at..]].concat()));
+        for tag in [9, 0x0C, 0x86] {
+            cases.check(&instead(at, Field { tag, ..fields[at].clone() }));
+        }
+        let lengths = sticks::bad_lengths(fields[at].tag);
+        for length in [lengths[0], lengths[1], draw.one_of(&lengths)] {
+            cases.check(&instead(at, Field { length, ..fields[at].clone() }));
+        }
+        for other in &fields {
+            cases.check(&sticks::bytes(&[&fields[..at], std::slice::from_ref(other)].concat()));
+        }
+    }
+    // A weather behind the last reading, and two in one step.
+    let weather = roofs::weather_field(Weather { irradiance: 0.0, temperature: -5.0 });
+    for at in 3..fields.len() {
+        let (before, after) = fields.split_at(at);
+        cases.check(&sticks::bytes(&[before, std::slice::from_ref(&weather), after].concat()));
+    }
+    // Values at the ends of their ranges and beside them.
+    let bad = inverters::BAD_PLATES.iter().chain(&inverters::BAD_WARMS).chain(&inverters::BAD_EFFS);
+    for change in inverters::ENDS.iter().chain(bad) {
+        cases.check(&sticks::file(&roofs::with_inverter(&run, 0, change)));
+    }
+    let curves = [&run.site.inverters[0].warm, &run.site.inverters[0].eff];
+    for (which, curve) in curves.into_iter().enumerate() {
+        for bad in roofs::bad_curves(curve, &mut draw) {
+            cases.check(&instead(4 + which, bad));
+        }
+    }
+    for step in 0..2 {
+        for _ in 0..12 {
+            let weather = inverters::bad_weather(&mut draw);
+            cases.check(&sticks::file(&roofs::with_weather(&run, step, weather)));
+            let weather = inverters::weather(&mut draw);
+            cases.check(&sticks::file(&roofs::with_weather(&run, step, weather)));
+        }
+    }
+    // Several things wrong at once, and roofs of other sizes.
+    for _ in 0..200 {
+        cases.check(&roofs::damaged_file(&mut draw));
+    }
+    for _ in 0..60 {
+        cases.check(&roofs::shuffled_file(&mut draw));
+    }
+    for inverters in [2, 3, 4, 8, 31, 55] {
+        let run = roofs::run(1, inverters, 3, &mut draw);
+        cases.check(&sticks::file(&run));
+        let mut fields = sticks::fields(&run);
+        fields.remove(roofs::first_step(&run) - 1);
         cases.check(&sticks::bytes(&fields));
     }
 }
@@ -685,6 +832,74 @@ fn run_cases(cases: &mut Cases) {
     }
 }
 
+/// Runs of few inverters for the most part, to keep the stored files small.
+fn roof_run_cases(cases: &mut Cases) {
+    let mut draw = Draw::from_seed(15);
+    let sun = |irradiance| Some(Weather { irradiance, temperature: 25.0 });
+    // The whole case with document 003's inverter on its roof.
+    let whole = sticks::with(&sticks::whole_case(), |run| {
+        run.site.inverters = vec![inverters::document_inverter()];
+        run.readings = vec![Reading::Missing; 9];
+        run.weather = [0.0, 0.08, 0.081, 1.0, 0.08, 0.04, 0.039, 0.08].map(sun).to_vec();
+    });
+    for more in [0, -1, 1, 1_000, -10_000] {
+        cases.run_of(more, &whole);
+        cases.run_of(more, &sticks::with(&whole, |run| run.readings.clear()));
+        cases.run_of(more, &sticks::with(&whole, |run| run.weather.clear()));
+        cases.run_of(more, &sticks::with(&whole, |run| run.site.inverters.clear()));
+    }
+    for inverters in (0..=12).chain([16, 24, 32, 48, 55]) {
+        cases.run_of(0, &roofs::run(1 + inverters % 2, inverters, 1 + inverters % 4, &mut draw));
+    }
+    // Every row of missing weather over four steps.
+    let run = loop {
+        let run = roofs::run(1, 2, 4, &mut draw);
+        let on = |step: &season::Step| step.solar.iter().any(|record| record.produced.on);
+        if run.weather.iter().all(Option::is_some) && season::steps(&run).iter().all(on) {
+            break run;
+        }
+    };
+    for pattern in 0..16 {
+        let masked = sticks::with(&run, |run| {
+            let dark = (0..4).filter(|step| pattern >> step & 1 == 1);
+            dark.for_each(|step| run.weather[step] = None);
+        });
+        cases.run_of(0, &masked);
+    }
+    // Values at the ends of their ranges.
+    for end in inverters::ENDS {
+        cases.run_of(0, &roofs::with_inverter(&run, 1, end));
+    }
+    // Rooms that fit, are longer, or fall short.
+    for round in 0..150 {
+        let (inverters, steps) = (1 + round % 3, draw.below(9) as usize);
+        let more = draw.one_of(&[0, 0, 0, 1, 29, -1, -29]);
+        cases.run_of(more, &roofs::run(1 + round % 2, inverters, steps, &mut draw));
+    }
+    // Refused files, where the room would do.
+    for _ in 0..40 {
+        cases.run(600, &roofs::damaged_file(&mut draw));
+    }
+    let file = sticks::file(&run);
+    let (end, room) = (file.len() - 7, 4 * (40 + 2 * 29) + 7);
+    for length in [76, 77, 98, 230, 361, 362, 648, 666, 667, end - 1, end, end + 6] {
+        cases.run(room, &file[..length]);
+    }
+    cases.run(room, &[&file[..], &[0]].concat());
+    for step in 0..4 {
+        for _ in 0..4 {
+            let weather = inverters::bad_weather(&mut draw);
+            cases.run(room, &sticks::file(&roofs::with_weather(&run, step, weather)));
+        }
+    }
+    for _ in 0..6 {
+        let plate = draw.one_of(&inverters::BAD_PLATES);
+        for spoil in [plate, draw.one_of(&inverters::BAD_WARMS), draw.one_of(&inverters::BAD_EFFS)] {
+            cases.run(room, &sticks::file(&roofs::with_inverter(&run, 0, spoil)));
+        }
+    }
+}
+
 fn main() -> ExitCode {
     let names: Vec<_> = env::args_os().skip(1).collect();
     if names.len() != 2 {
@@ -701,9 +916,12 @@ fn main() -> ExitCode {
     pass_cases(&mut cases);
     study_cases(&mut cases);
     step_cases(&mut cases);
+    solar_cases(&mut cases);
     check_cases(&mut cases);
+    roof_check_cases(&mut cases);
     value_part_cases(&mut cases);
     run_cases(&mut cases);
+    roof_run_cases(&mut cases);
     for (name, bytes) in names.iter().zip([cases.records.as_slice(), cases.answers.as_bytes()]) {
         if let Err(error) = fs::write(name, bytes) {
             eprintln!("cases: {}: {error}", name.to_string_lossy());

@@ -1,17 +1,20 @@
 //! Writes the sample sticks: `sticks FOLDER`.
 //!
-//! `season.stick` and `harvest.stick` are complete; each of the others is the first of these, or one like it,
-//! after one thing that happens to sticks. The same files come out every time, so that the gate can compare them
-//! with the stored ones.
+//! `season.stick`, `harvest.stick` and `roof.stick` are complete; each of the others is the first of these or the
+//! last, or one like it, after one thing that happens to sticks. The same files come out every time, so that the gate
+//! can compare them with the stored ones.
 
 use std::path::PathBuf;
 use std::process::ExitCode;
 use std::{env, fs};
 
 use yesbrulka_reference::controller::Settings;
+use yesbrulka_reference::curve::Curve;
 use yesbrulka_reference::reading::{Phases, Reading};
 use yesbrulka_reference::samples::sticks::{self, Field};
+use yesbrulka_reference::samples::{curves, roofs};
 use yesbrulka_reference::site::Site;
+use yesbrulka_reference::solar::{Inverter, Weather};
 use yesbrulka_reference::stick::{Run, MISSING};
 use yesbrulka_reference::storage::Unit;
 
@@ -72,8 +75,10 @@ fn season() -> Run {
             units: vec![dairy, grain, pumps],
             settings: Settings { mode: 1, target: 120_000, band: 6_000, factor: 1_000 },
             phase: 0,
+            inverters: Vec::new(),
         },
         readings: (0..STEPS).map(reading).collect(),
+        weather: Vec::new(),
     }
 }
 
@@ -164,8 +169,10 @@ fn harvest() -> Run {
             units: vec![dairy, dryer, workshop, pumps],
             settings: Settings { mode: 1, target: 90_000, band: 4_000, factor: 600 },
             phase: 0,
+            inverters: Vec::new(),
         },
         readings: (0..STEPS).map(harvest_reading).collect(),
+        weather: Vec::new(),
     }
 }
 
@@ -191,6 +198,212 @@ fn harvest_reading(step: usize) -> Reading {
     Reading::Power(Phases { first: kw(38), second: kw(35), third: kw(27) })
 }
 
+/// A day of quarter hours.
+const DAY: usize = 96;
+
+/// An orchard co-operative with three roofs: a cold store, a press house and a hall, whose batteries take what the
+/// roofs give above the 15 kW that the grid takes.
+fn roof() -> Run {
+    let kwh = 3_600_000;
+    let cold_store = Unit {
+        rated: 200 * kwh,
+        reserve: 20 * kwh,
+        stored: 45 * kwh,
+        rating: 60_000,
+        kva: 66_000,
+        idle_loss: 300,
+        var_request: 0,
+        weight: 4,
+        inverter: 9_700,
+        charge: 9_600,
+        discharge: 9_600,
+        priority: 0,
+    };
+    let press = Unit {
+        rated: 120 * kwh,
+        reserve: 12 * kwh,
+        stored: 60 * kwh,
+        rating: 40_000,
+        kva: 40_000,
+        idle_loss: 200,
+        var_request: 9_000,
+        weight: 3,
+        inverter: 9_600,
+        charge: 9_500,
+        discharge: 9_500,
+        priority: 0,
+    };
+    let hall = Unit {
+        rated: 25 * kwh,
+        reserve: 2 * kwh,
+        stored: 20 * kwh,
+        rating: 10_000,
+        kva: 11_000,
+        idle_loss: 60,
+        var_request: 0,
+        weight: 1,
+        inverter: 9_400,
+        charge: 9_300,
+        discharge: 9_300,
+        priority: 0,
+    };
+    Run {
+        site: Site {
+            edition: 1,
+            seconds: 900,
+            units: vec![cold_store, press, hall],
+            settings: Settings { mode: 3, target: -15_000, band: 3_000, factor: 700 },
+            phase: 0,
+            inverters: roof_inverters(),
+        },
+        readings: (0..DAY).map(roof_reading).collect(),
+        weather: (0..DAY).map(roof_weather).collect(),
+    }
+}
+
+/// The inverters of the three roofs: the press house's has document 003's curves; the cold store's may give 70 parts in
+/// a hundred of its array and absorbs vars; the hall's is small for its array, gives vars before watts, and once on
+/// never turns off.
+fn roof_inverters() -> Vec<Inverter> {
+    let press = Inverter {
+        array: 60_000,
+        kva: 50_000,
+        cut_in: 200,
+        cut_out: 100,
+        limit: 10_000,
+        var_request: 0,
+        priority: 0,
+        warm: curves::document_warm(),
+        eff: curves::document_eff(),
+    };
+    let cold_store = Inverter {
+        array: 90_000,
+        kva: 75_000,
+        cut_in: 150,
+        cut_out: 100,
+        limit: 7_000,
+        var_request: -12_000,
+        priority: 0,
+        // Forty parts in 10,000 for each degree.
+        warm: Curve::through(&[(-20_000, 11_800), (85_000, 7_600)]),
+        eff: Curve::through(&[(50, 9_000), (100, 9_500), (300, 9_760), (500, 9_800), (1_000, 9_750)]),
+    };
+    let hall = Inverter {
+        array: 25_000,
+        kva: 17_500,
+        cut_in: 300,
+        cut_out: 0,
+        limit: 10_000,
+        var_request: 10_500,
+        priority: 1,
+        warm: Curve::through(&[(-10_000, 11_300), (25_000, 10_000), (80_000, 7_900)]),
+        eff: Curve::through(&[(20, 8_200), (150, 9_500), (1_200, 9_650)]),
+    };
+    vec![press, cold_store, hall]
+}
+
+/// A quarter's value of a day that is told by the hour, in the same unit.
+fn between_hours(day: &[i64; 24], step: usize) -> i64 {
+    let (hour, quarter) = (step / 4, step as i64 % 4);
+    (day[hour] * (4 - quarter) + day[(hour + 1) % 24] * quarter) / 4
+}
+
+/// A quarter's weather: a clear morning, clouds after noon, and a station that was silent for an hour in the morning
+/// and now and then.
+fn roof_weather(step: usize) -> Option<Weather> {
+    if (38..42).contains(&step) || step % 31 == 17 {
+        return None;
+    }
+    // W/m², and tenths of a degree on the panels.
+    let sun =
+        [0, 0, 0, 0, 0, 12, 95, 210, 380, 560, 730, 860, 940, 960, 910, 790, 620, 420, 220, 70, 4, 0, 0, 0];
+    let panels = [
+        112, 108, 104, 101, 99, 104, 128, 175, 248, 331, 405, 468, 512, 537, 528, 486, 421, 347, 268, 207,
+        172, 150, 134, 121,
+    ];
+    let clouds = if (54..66).contains(&step) { [100, 35, 72, 21, 88][step % 5] } else { 100 };
+    let irradiance = between_hours(&sun, step) * clouds / 100;
+    let temperature = between_hours(&panels, step);
+    Some(Weather { irradiance: irradiance as f64 / 1000.0, temperature: temperature as f64 / 10.0 })
+}
+
+/// A quarter's reading: the meter is behind the roofs, and shows what the co-operative gives at noon as negative. It was
+/// silent at the end of the noon break and now and then.
+fn roof_reading(step: usize) -> Reading {
+    if (50..53).contains(&step) || step % 29 == 5 {
+        return Reading::Missing;
+    }
+    // In hundreds of W, of all three phases.
+    let meter = [
+        180, 175, 170, 170, 190, 260, 320, 240, 90, -160, -340, -480, -560, -520, -390, -240, -80, 110, 290,
+        380, 330, 270, 220, 190,
+    ];
+    let noise = (step * 43 % 37) as i64 - 18;
+    let kw = |part: i64| ((between_hours(&meter, step) + noise) * part / 10) as f64 / 100.0;
+    Reading::Power(Phases { first: kw(36), second: kw(33), third: kw(31) })
+}
+
+/// The complete sticks of the roof's day, and what happened to others like it.
+fn roof_examples() -> Vec<(&'static str, u32, Vec<u8>)> {
+    let run = roof();
+    let fields = sticks::fields(&run);
+    let first = roofs::first_inverter(&run);
+    let changed = |change: &dyn Fn(&mut Vec<Field>)| {
+        let mut fields = fields.clone();
+        change(&mut fields);
+        sticks::bytes(&fields)
+    };
+    let with = |change: &dyn Fn(&mut Run)| sticks::file(&sticks::with(&run, change));
+    let at_weather = |step: usize, weather| sticks::file(&roofs::with_weather(&run, step, weather));
+    vec![
+        ("roof.stick", 0, sticks::bytes(&fields)),
+        // The cold store's inverter has lost its efficiency curve.
+        ("refused-04-curve-missing.stick", 4, changed(&|fields| drop(fields.remove(first + 5)))),
+        // Every panel was entered as a roof.
+        (
+            "refused-04-inverter-too-many.stick",
+            4,
+            with(&|run| run.site.inverters = vec![run.site.inverters[2].clone(); 65]),
+        ),
+        // The station wrote once more after the meter had stopped.
+        (
+            "refused-04-weather-without-reading.stick",
+            4,
+            changed(&|fields| {
+                let weather = roofs::weather_field(Weather { irradiance: 0.0, temperature: 11.2 });
+                fields.insert(fields.len() - 1, weather);
+            }),
+        ),
+        // The press house's temperature curve was typed from the hot end.
+        (
+            "refused-05-curve-out-of-order.stick",
+            5,
+            with(&|run| {
+                run.site.inverters[0].warm.x.reverse();
+                run.site.inverters[0].warm.y.reverse();
+            }),
+        ),
+        // Cut-in and cut-out were exchanged.
+        (
+            "refused-05-cut-out-above-cut-in.stick",
+            5,
+            with(&|run| (run.site.inverters[1].cut_in, run.site.inverters[1].cut_out) = (100, 150)),
+        ),
+        // A sensor that is off by some watts in the dark.
+        (
+            "refused-06-irradiance-below-zero.stick",
+            6,
+            at_weather(3, Weather { irradiance: -0.004, temperature: 10.8 }),
+        ),
+        // A broken wire at the panel's thermometer.
+        (
+            "refused-06-weather-not-usable.stick",
+            6,
+            at_weather(60, Weather { irradiance: 0.61, temperature: f64::INFINITY }),
+        ),
+    ]
+}
+
 /// The name of each stick, the number that its check gives, and its bytes.
 fn examples() -> Vec<(&'static str, u32, Vec<u8>)> {
     let run = season();
@@ -207,7 +420,7 @@ fn examples() -> Vec<(&'static str, u32, Vec<u8>)> {
     long.extend([MISSING, 0, 0].repeat(65_536));
     sticks::end_field(65_536).put(&mut long);
 
-    vec![
+    let mut all = vec![
         ("season.stick", 0, whole.clone()),
         ("harvest.stick", 0, sticks::file(&harvest())),
         // The copy stopped in the middle of a reading.
@@ -241,7 +454,9 @@ fn examples() -> Vec<(&'static str, u32, Vec<u8>)> {
         // What an older, longer file left behind.
         ("refused-09-bytes-after-end.stick", 9, [&whole, &whole[whole.len() - 61..]].concat()),
         ("refused-12-too-many-steps.stick", 12, long),
-    ]
+    ];
+    all.extend(roof_examples());
+    all
 }
 
 fn main() -> ExitCode {
@@ -265,7 +480,7 @@ fn main() -> ExitCode {
 mod tests {
     use super::*;
     use yesbrulka_reference::season::{self, Step};
-    use yesbrulka_reference::stick;
+    use yesbrulka_reference::stick::{self, CURVE, END, INVERTER, WEATHER};
 
     #[test]
     fn each_stick_is_refused_for_what_its_name_says() {
@@ -278,7 +493,19 @@ mod tests {
     #[test]
     fn every_number_that_a_file_can_have_is_there() {
         let numbers: Vec<u32> = examples().iter().map(|&(_, number, _)| number).collect();
-        assert_eq!(numbers, [0, 0, 1, 2, 3, 4, 5, 6, 7, 8, 9, 12]);
+        assert_eq!(numbers, [0, 0, 1, 2, 3, 4, 5, 6, 7, 8, 9, 12, 0, 4, 4, 4, 5, 5, 6, 6]);
+    }
+
+    /// The place of what is wrong with each of the roof's sticks: an inverter, a curve, a weather, or the end field that
+    /// stands where a reading is due.
+    #[test]
+    fn the_sticks_of_the_roof_are_refused_at_their_fields() {
+        let tags: Vec<u8> = roof_examples()
+            .iter()
+            .skip(1)
+            .map(|(_, _, bytes)| bytes[stick::check(bytes).place as usize])
+            .collect();
+        assert_eq!(tags, [INVERTER, INVERTER, END, CURVE, INVERTER, WEATHER, WEATHER]);
     }
 
     #[test]
@@ -309,5 +536,34 @@ mod tests {
         assert!(steps.iter().any(|step| of(step, 2).0 > 6_000 && of(step, 2).1.watts == 6_000));
         let quiet = steps.iter().filter(|step| step.records.iter().all(|record| record.request == 0)).count();
         assert!((100..250).contains(&quiet), "{quiet}");
+    }
+
+    /// What a reader of the roof's result is to see: inverters that turn on in the morning and off in the evening and
+    /// in a silent hour, a limit and a circle that cut at noon, vars through the night from the one that never turns
+    /// off, and batteries that take the sun.
+    #[test]
+    fn the_roof_is_worth_reading() {
+        let run = stick::read(&sticks::file(&roof())).unwrap();
+        assert_eq!((run.site.units.len(), run.site.inverters.len(), run.readings.len()), (3, 3, DAY));
+        let silent = (0..DAY).filter(|&step| run.weather_of(step).is_none()).count();
+        let missing = run.readings.iter().filter(|reading| matches!(reading, Reading::Missing)).count();
+        assert_eq!((silent, missing), (7, 7));
+        let steps = season::steps(&run);
+        let on = |inverter: usize| -> Vec<bool> {
+            steps.iter().map(|step| step.solar[inverter].produced.on).collect()
+        };
+        let turns = |inverter| on(inverter).windows(2).filter(|pair| pair[0] != pair[1]).count();
+        assert!((0..3).all(|inverter| !on(inverter)[0]));
+        assert_eq!([0, 1].map(|inverter| on(inverter)[DAY - 1]), [false; 2]);
+        assert_eq!([turns(0), turns(1), turns(2)], [6, 6, 1]);
+        assert_eq!([38, 39, 40, 41].map(|step| on(0)[step]), [false; 4]);
+        let cut = |inverter: usize, watts: i32| {
+            steps.iter().filter(|step| step.solar[inverter].produced.watts == watts).count()
+        };
+        assert!(cut(1, 63_000) > 8 && cut(2, 14_000) > 8, "{} {}", cut(1, 63_000), cut(2, 14_000));
+        let night = steps[DAY - 1].solar[2].produced;
+        assert_eq!((night.on, night.watts, night.vars, night.dc), (true, 0, 10_500, 0));
+        let taken = steps.iter().filter(|step| step.records[0].stepped.watts < -20_000).count();
+        assert!(taken > 8, "{taken}");
     }
 }

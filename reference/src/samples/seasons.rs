@@ -20,7 +20,8 @@ pub fn run(units: usize, steps: usize, draw: &mut Draw) -> Run {
     let settings = settings(mode, power, draw);
     let phase = draw.below(6) as u8;
     let readings = readings(steps, &settings, phase, power as i64, draw);
-    Run { site: Site { edition: 1, seconds, units, settings, phase }, readings }
+    let site = Site { edition: 1, seconds, units, settings, phase, inverters: Vec::new() };
+    Run { site, readings, weather: Vec::new() }
 }
 
 fn efficiency(draw: &mut Draw) -> u16 {

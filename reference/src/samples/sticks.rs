@@ -1,13 +1,14 @@
 //! Run files: complete ones, and every kind of damage that can come over one.
 
 use super::fleets::{self, StudyCall};
+use super::roofs;
 use super::units::{self, StepCall};
 use super::Draw;
 use crate::controller::Settings;
 use crate::octets::{put_f64, put_i32, put_u16, put_u32, put_u64, put_u8};
 use crate::reading::{self, Phases, Reading};
 use crate::site::Site;
-use crate::stick::{length_of, Run, END, FLEET, MISSING, POWER, SETTINGS, TAGS, UNIT};
+use crate::stick::{length_of, Run, END, FLEET, MISSING, POWER, SETTINGS, UNIT};
 use crate::storage::Unit;
 
 /// A field as it is to be written. The length is said apart from the value, so that it can be wrong.
@@ -74,7 +75,7 @@ pub fn end_field(count: u32) -> Field {
 
 /// The fields that say a run.
 pub fn fields(run: &Run) -> Vec<Field> {
-    let Site { edition, seconds, units, settings, phase } = &run.site;
+    let Site { edition, seconds, units, settings, phase, inverters } = &run.site;
     let mut fields = vec![fleet_field(*edition, units.len() as u8, *seconds)];
     for unit in units {
         let mut value = Vec::new();
@@ -87,7 +88,11 @@ pub fn fields(run: &Run) -> Vec<Field> {
     put_u16(&mut value, settings.factor);
     put_u8(&mut value, *phase);
     fields.push(Field::new(SETTINGS, value));
-    fields.extend(run.readings.iter().map(reading_field));
+    fields.extend(inverters.iter().flat_map(roofs::inverter_fields));
+    for (step, reading) in run.readings.iter().enumerate() {
+        fields.extend(run.weather_of(step).map(roofs::weather_field));
+        fields.push(reading_field(reading));
+    }
     fields.push(end_field(run.readings.len() as u32));
     fields
 }
@@ -126,8 +131,10 @@ pub fn whole_case() -> Run {
             units: vec![unit],
             settings: Settings { mode: 1, target: 0, band: 0, factor: 1_000 },
             phase: 0,
+            inverters: Vec::new(),
         },
         readings: vec![Reading::Missing],
+        weather: Vec::new(),
     }
 }
 
@@ -169,10 +176,12 @@ pub fn run(units: usize, steps: usize, draw: &mut Draw) -> Run {
             units: calls.iter().map(|call| call.unit).collect(),
             settings: fleets::pass_call(1, draw).settings,
             phase: draw.below(6) as u8,
+            inverters: Vec::new(),
         },
         readings: (0..steps)
             .map(|_| if draw.below(missing) == 0 { Reading::Missing } else { power_reading(draw) })
             .collect(),
+        weather: Vec::new(),
     }
 }
 
@@ -293,16 +302,18 @@ pub fn bad_counts(steps: u32) -> Vec<u32> {
     near.into_iter().chain(far).filter(|&count| count != steps).collect()
 }
 
-/// Lengths that are not the tag's: beside it, of the other tags, and of other bytes or the same in another
-/// order.
+/// The tags of a file without inverters and weather.
+const PLAIN_TAGS: [u8; 6] = [FLEET, UNIT, SETTINGS, POWER, MISSING, END];
+
+/// Lengths that are not the tag's: beside it, of the plain tags, and of other bytes or the same in another order.
 pub fn bad_lengths(tag: u8) -> Vec<u16> {
     let right = length_of(tag).expect("a tag of the list");
     let beside = [right.wrapping_sub(1), right + 1, right + 256, right | 1 << 15, right << 8, 255, u16::MAX];
-    let others = TAGS.iter().map(|&(_, length)| length);
+    let others = PLAIN_TAGS.iter().filter_map(|&tag| length_of(tag));
     beside.into_iter().chain(others).filter(|&length| length != right).collect()
 }
 
-/// A field of any tag of the list whose values are good in some file.
+/// A field of any of the plain tags whose values are good in some file.
 pub fn any_field(draw: &mut Draw) -> Field {
     let run = run(1, 1, draw);
     let count = draw.below(4) as u32;
@@ -316,7 +327,7 @@ pub fn any_field(draw: &mut Draw) -> Field {
     }
 }
 
-/// One piece of damage to a file's fields, mostly at the field of a number.
+/// One piece of damage to a file's fields, mostly at the field of a number; what is put in is of the plain tags.
 pub fn damage(fields: &mut Vec<Field>, at: usize, draw: &mut Draw) {
     let at = at.min(fields.len() - 1);
     let other = draw.below(fields.len() as u64) as usize;
@@ -330,16 +341,17 @@ pub fn damage(fields: &mut Vec<Field>, at: usize, draw: &mut Draw) {
         4 => fields[at] = any_field(draw),
         // Another tag, of the list or any, and a value of the length that is said or not.
         5 => fields[at].tag = draw.any() as u8,
-        6 => fields[at].tag = draw.one_of(&TAGS).0,
+        6 => fields[at].tag = draw.one_of(&PLAIN_TAGS),
         7 => {
-            let (tag, length) = draw.one_of(&TAGS);
+            let tag = draw.one_of(&PLAIN_TAGS);
+            let length = length_of(tag).expect("a tag of the list");
             fields[at].tag = tag;
             fields[at].length = length;
             fields[at].value.resize(length.into(), 0);
         }
         8 => fields[at].length = draw.sized() as u16,
         9 => {
-            let (tag, _) = draw.one_of(&TAGS);
+            let tag = draw.one_of(&PLAIN_TAGS);
             let length = draw.one_of(&bad_lengths(tag)) % 512;
             fields[at].length = length;
             fields[at].value.resize(length.into(), 0);

@@ -1,19 +1,31 @@
--- An accepted file has at most 64 units and 65,535 steps, so that the number of bytes fits.
-use Prim.Native.Nat.{_*_, _≤_}
+-- An accepted file has at most 64 units, 64 inverters and 65,535 steps, so that the number of bytes fits.
+use Prim.Native.Nat.{_+_, _*_, _≤_}
 use native.Mathlib.Omega.{arith}
-use Rattle.season.proofs.AnswerLaws.{few-units, few-bytes, bytes-needed}
+use Rattle.season.proofs.AnswerLaws.{few-units, few-roofs, few-bytes, bytes-needed}
+use borrow.Author.Needs.{needs}
 use Rattle.season.proofs.runs.bytes.Statement.{statement}
 use Rattle.season.proofs.runs.bytes.Tie as tie
+
+-- the bytes of all records
+small : (c : tie.After-roofs) → (40 * c .before .units .result + 29 * c .roofs .result) * c .before .before .before .args .count ≤ (40 * 64 + 29 * 64) * 65535
+small c =
+    let s = c .before .before .before in
+    few-bytes (s .args .file .now) (s .args .count) (s .pre) (c .before .units .result) (c .roofs .result) (c .before .units .ensures) (c .roofs .ensures)
 
 units-requires : tie.Need-units-requires
 units-requires c κs = c .before .pre .accepted
 
--- the bytes of all records
-small : (c : tie.After-units) → 40 * c .units .result * c .before .before .args .count ≤ 40 * 64 * 65535
-small c = let s = c .before .before in few-bytes (s .args .file .now) (s .args .count) (s .pre) (c .units .result) (c .units .ensures)
+mul-units : tie.Need-mul-units
+mul-units c = let s = c .before .before in omega (arith, few-units (s .args .file .now) (s .args .count) (s .pre), c .units .ensures)
+
+roofs-requires : tie.Need-roofs-requires
+roofs-requires c κs = c .before .before .pre .accepted
 
 mul-size : tie.Need-mul-size
-mul-size c = let s = c .before .before in omega (arith, few-units (s .args .file .now) (s .args .count) (s .pre), c .units .ensures)
+mul-size c = let s = c .before .before .before in omega (arith, few-roofs (s .args .file .now) (s .args .count) (s .pre), c .roofs .ensures)
+
+add-size : tie.Need-add-size
+add-size c = let s = c .before .before .before in omega (arith, few-units (s .args .file .now) (s .args .count) (s .pre), c .before .units .ensures, few-roofs (s .args .file .now) (s .args .count) (s .pre), c .roofs .ensures)
 
 mul-result : tie.Need-mul-result
 mul-result c = omega (arith, small c)
@@ -22,7 +34,17 @@ add-result : tie.Need-add-result
 add-result c = omega (arith, small c)
 
 returns : tie.Need-returns
-returns c = let s = c .before .before in bytes-needed (s .args .file .now) (s .args .count) (s .pre) (c .units .result) (c .units .ensures)
+returns c = let s = c .before .before .before in bytes-needed (s .args .file .now) (s .args .count) (s .pre) (c .before .units .result) (c .roofs .result) (c .before .units .ensures) (c .roofs .ensures)
 
 pub bytes-spec : {M : Type 1} → statement M
-bytes-spec = tie.close (tie.spec units-requires mul-size mul-result add-result returns)
+bytes-spec =
+    tie.close
+    (tie.spec
+    units-requires
+    mul-units
+    roofs-requires
+    mul-size
+    add-size
+    mul-result
+    add-result
+    returns)

@@ -1,22 +1,31 @@
--- A fleet has at most 64 units, so that a part of each array holds a value for every unit.
-use borrow.Author.Needs.{needs}
+-- A site has at most 64 units and 64 inverters, so that a part of each array holds a value for every one.
 use Prim.Native.Nat.{_≤_}
 use native.Mathlib.Nat.{le-trans, le-of-eq}
 use native.Mathlib.Omega.{arith}
 use lib.ListN.{length-take}
-use Rattle.season.proofs.AnswerLaws.{few-units}
+use Rattle.season.proofs.AnswerLaws.{few-units, few-roofs}
+use borrow.Author.Needs.{needs}
 use Rattle.season.proofs.runs.write.Statement.{statement}
 use Rattle.season.proofs.runs.write.Tie as tie
 
-units-requires : tie.Need-units-requires
-units-requires c κs = let (n, f) = c .before .before .pre in n .accepted
-
--- no more units than an array has elements
+-- no more units, and no more inverters, than an array has elements
 few : (c : tie.After-units) → c .units .result ≤ 64
 few c =
     let s = c .before .before .before in
     let (n, f) = s .pre in
     le-trans (le-of-eq (c .units .ensures)) (few-units (s .args .file .now) (s .args .count) n)
+
+fewer : (c : tie.After-roofs) → c .roofs .result ≤ 64
+fewer c =
+    let s = c .before .before .before .before in
+    let (n, f) = s .pre in
+    le-trans (le-of-eq (c .roofs .ensures)) (few-roofs (s .args .file .now) (s .args .count) n)
+
+units-requires : tie.Need-units-requires
+units-requires c κs = let (n, f) = c .before .before .pre in n .accepted
+
+roofs-requires : tie.Need-roofs-requires
+roofs-requires c κs = let (n, f) = c .before .before .before .pre in n .accepted
 
 sub-write-with : tie.Need-sub-write-with
 sub-write-with c = search needs
@@ -25,7 +34,7 @@ part-rows-start : tie.Need-part-rows-start
 part-rows-start c = search needs
 
 part-rows-end : tie.Need-part-rows-end
-part-rows-end c = few c
+part-rows-end c = few (c .before)
 
 sub-write-with-2 : tie.Need-sub-write-with-2
 sub-write-with-2 c = search needs
@@ -34,7 +43,7 @@ part-stored-start : tie.Need-part-stored-start
 part-stored-start c = search needs
 
 part-stored-end : tie.Need-part-stored-end
-part-stored-end c = few (c .before)
+part-stored-end c = few (c .before .before)
 
 sub-write-with-3 : tie.Need-sub-write-with-3
 sub-write-with-3 c = search needs
@@ -43,15 +52,27 @@ part-requests-start : tie.Need-part-requests-start
 part-requests-start c = search needs
 
 part-requests-end : tie.Need-part-requests-end
-part-requests-end c = few (c .before .before)
+part-requests-end c = few (c .before .before .before)
+
+sub-write-with-4 : tie.Need-sub-write-with-4
+sub-write-with-4 c = search needs
+
+part-on-start : tie.Need-part-on-start
+part-on-start c = search needs
+
+part-on-end : tie.Need-part-on-end
+part-on-end c = fewer (c .before .before .before)
 
 write-with-requires : tie.Need-write-with-requires
 write-with-requires c κs =
-    let u = c .before .before .before .before in
+    let r = c .before .before .before .before .before in
+    let u = r .before in
     let (n, f) = u .before .before .before .pre in
     let e = u .units .ensures in
+    let d = r .roofs .ensures in
     let l = few u in
-    (n, (record { rows-there = simp length-take (omega (arith, e, l)); stored-there = simp length-take (omega (arith, e, l)); requests-there = simp length-take (omega (arith, e, l)) }, f))
+    let m = fewer r in
+    (n, (record { rows-there = simp length-take (omega (arith, e, l)); stored-there = simp length-take (omega (arith, e, l)); requests-there = simp length-take (omega (arith, e, l)); flags-there = simp length-take (omega (arith, d, m)) }, f))
 
 same-length : tie.Need-same-length
 same-length c = search needs
@@ -64,6 +85,7 @@ write-spec =
     tie.close
     (tie.spec
     units-requires
+    roofs-requires
     sub-write-with
     part-rows-start
     part-rows-end
@@ -73,6 +95,9 @@ write-spec =
     sub-write-with-3
     part-requests-start
     part-requests-end
+    sub-write-with-4
+    part-on-start
+    part-on-end
     write-with-requires
     same-length
     returns)

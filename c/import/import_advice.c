@@ -1,0 +1,280 @@
+/* Advice: what a refusal says to the person who has the stick in hand: what happened, where, and what to do. */
+#include <inttypes.h>
+
+#include "import.h"
+#include "yesbrulka.h"
+
+/* What is read of a stick here, to name a field: its tag, and the length to get to the next one. */
+enum {
+    FLEET_TAG = 0x01,
+    UNIT_TAG = 0x02,
+    SETTINGS_TAG = 0x03,
+    POWER_TAG = 0x04,
+    MISSING_TAG = 0x05,
+    INVERTER_TAG = 0x06,
+    CURVE_TAG = 0x07,
+    WEATHER_TAG = 0x08,
+    END_TAG = 0x7F
+};
+
+/* What stands in the file's line, and what the person should know and do. In the second, # is the field that is
+** meant, ! what should be in its place, and @ the row of the readings.
+*/
+struct words {
+    const char *name, *advice;
+};
+
+/* The refusals by their numbers. */
+static const struct words refusals[] = {
+    {"unknown refusal", "This is a fault of the program. Keep the file and tell the developers."},
+    [YB_CUT_SHORT] = {"field cut short",
+        "The file ends in the middle of #: the copy is not whole. Copy the stick again; if it stays so, ask the "
+        "manager for a new one."},
+    [YB_UNKNOWN_TAG] = {"unknown tag",
+        "No field begins like this: the bytes are damaged, or another program wrote them. Copy the stick again; "
+        "if it stays so, ask the manager what wrote it."},
+    [YB_WRONG_LENGTH] = {"wrong length",
+        "The length of # is not the one that its tag has: bytes were changed or lost here. Copy the stick again; if "
+        "it stays so, ask the manager for a new one."},
+    [YB_OUT_OF_ORDER] = {"field out of order",
+        "Here the file has #, where ! should be: a field is missing, or this one is there twice or in the wrong "
+        "place. Do not repair the file; ask the manager to write the stick anew."},
+    [YB_OUT_OF_RANGE] = {"value out of range",
+        "A value of # is smaller or larger than it may be. Ask the manager to correct # and to write the stick "
+        "anew."},
+    [YB_NOT_USABLE] = {"reading not usable",
+        "A phase power is no number or is beyond 100,000 kW. Ask the manager for @, and have it entered again or "
+        "marked as missing."},
+    [YB_WRONG_COUNT] = {"wrong step count",
+        "The end field counts other steps than the file has: rows were lost or added. Copy the stick again; if it "
+        "stays so, ask the manager for a new one."},
+    [YB_END_MISSING] = {"end field missing",
+        "The file is empty or stops between two fields: it was not written to its end. Copy the stick again; if it "
+        "stays so, ask the manager to write it anew."},
+    [YB_AFTER_END] = {"bytes after the end",
+        "Something follows the end field: a second file, or what an older one left. Ask the manager for a stick "
+        "with this one season on it."},
+    [YB_DOES_NOT_FIT] = {"lists or requests do not fit",
+        "This is about a call of the library and not about the stick. Keep the file and tell the developers."},
+    [YB_ROOM_TOO_SHORT] = {"room too short",
+        "This is about a call of the library and not about the stick. Keep the file and tell the developers."},
+    [YB_TOO_MANY] = {"too many bytes or steps",
+        "A stick holds at most 2,097,152 bytes and 65,535 steps. Ask the manager to divide the season, with a stick "
+        "for each part."},
+};
+
+/* What more is known where a refusal is about a roof or its weather. */
+static const struct words one_too_many = {"field out of order",
+    "Here the file has #, and a stick holds at most 64. Ask the manager to write the stick anew with no more "
+    "inverters than that."};
+static const struct words after_steps = {"field out of order",
+    "Here the file has #, where ! should be: inverters and their curves come before the first step. Do not repair "
+    "the file; ask the manager to write the stick anew."};
+static const struct words no_reading = {"field out of order",
+    "Here the file has #, and the weather before it has no reading, which would close its step. Ask the manager for "
+    "@, or to leave that weather out, and to write the stick anew."};
+static const struct words bad_inverter = {"value out of range",
+    "A value of # is smaller or larger than it may be, or its cut-out is above its cut-in. Ask the manager to correct "
+    "# and to write the stick anew."};
+static const struct words bad_curve = {"value out of range",
+    "The points of # are fewer than 2 or more than 16, or their x do not rise from each to the next, or a value is "
+    "smaller or larger than it may be. Ask the manager to correct this curve and to write the stick anew."};
+static const struct words bad_weather = {"reading not usable",
+    "The irradiance or the temperature is no number or is beyond 100,000, or the irradiance is below 0. Ask the "
+    "manager for the weather of @, and have it entered again or left out; without it the step has no sun."};
+
+/* What stands before a place: how many units and inverters, how many curves right before it, and the last tag, which
+** is 0 where nothing does.
+*/
+struct before {
+    unsigned units, inverters, curves;
+    uint8_t last;
+};
+
+/* All fields before the place of a refusal are good. */
+static struct before fields_before(const struct stick *stick)
+{
+    struct before before = {0, 0, 0, 0};
+    uint64_t place = stick->place;
+    for (uint64_t at = 0; at < place && place - at >= HEADER; at += HEADER + said_length(stick, at)) {
+        before.last = stick->bytes[at];
+        before.units += before.last == UNIT_TAG;
+        before.inverters += before.last == INVERTER_TAG;
+        before.curves = before.last == CURVE_TAG ? before.curves + 1 : 0;
+    }
+    return before;
+}
+
+/* The tag of the refused field; 0 where its tag and length are not there. */
+static uint8_t refused_tag(const struct stick *stick)
+{
+    return stick->place < stick->len && stick->len - stick->place >= HEADER ? stick->bytes[stick->place] : 0;
+}
+
+static int has_steps_before(const struct before *before)
+{
+    return before->last == POWER_TAG || before->last == MISSING_TAG || before->last == WEATHER_TAG;
+}
+
+static const struct words *order_words(uint8_t tag, const struct before *before)
+{
+    if (tag == INVERTER_TAG && before->inverters == YB_MOST_INVERTERS && before->curves == 2)
+        return &one_too_many;
+    if ((tag == INVERTER_TAG || tag == CURVE_TAG) && has_steps_before(before))
+        return &after_steps;
+    return tag == END_TAG && before->last == WEATHER_TAG ? &no_reading : &refusals[YB_OUT_OF_ORDER];
+}
+
+static const struct words *words_of(const struct stick *stick, const struct before *before)
+{
+    uint8_t tag = refused_tag(stick);
+    uint32_t number = stick->number < sizeof refusals / sizeof refusals[0] ? stick->number : 0;
+    if (number == YB_OUT_OF_ORDER)
+        return order_words(tag, before);
+    if (number == YB_OUT_OF_RANGE && tag == INVERTER_TAG)
+        return &bad_inverter;
+    if (number == YB_OUT_OF_RANGE && tag == CURVE_TAG)
+        return &bad_curve;
+    return number == YB_NOT_USABLE && tag == WEATHER_TAG ? &bad_weather : &refusals[number];
+}
+
+/* The unit or the inverter of a number, counted from the first. */
+static void print_counted(unsigned number, const char *what)
+{
+    static const char *const ends[] = {"th", "st", "nd", "rd"};
+    printf("the %u%s %s", number, number % 10 > 3 || number / 10 % 10 == 1 ? "th" : ends[number % 10], what);
+}
+
+/* The curve that stands, or should stand, behind what stands before. */
+static void print_curve(const struct before *before)
+{
+    int is_temperature = before->last == INVERTER_TAG, is_efficiency = before->curves == 1;
+    if (!is_temperature && !is_efficiency) {
+        printf("a curve");
+        return;
+    }
+    print_counted(before->inverters, "inverter's ");
+    printf("%s curve", is_temperature ? "temperature" : "efficiency");
+}
+
+static void print_field(uint8_t tag, const struct before *before)
+{
+    switch (tag) {
+    case FLEET_TAG:
+        printf("the fleet");
+        break;
+    case UNIT_TAG:
+        print_counted(before->units + 1, "unit");
+        break;
+    case SETTINGS_TAG:
+        printf("the settings");
+        break;
+    case POWER_TAG:
+    case MISSING_TAG:
+        printf("a reading");
+        break;
+    case INVERTER_TAG:
+        print_counted(before->inverters + 1, "inverter");
+        break;
+    case CURVE_TAG:
+        print_curve(before);
+        break;
+    case WEATHER_TAG:
+        printf("a weather");
+        break;
+    case END_TAG:
+        printf("the end");
+        break;
+    default:
+        printf("a field");
+        break;
+    }
+}
+
+/* What may stand behind the units: how many the fleet counts is not read here, but one of two things is due, and it
+** is not what was refused.
+*/
+static void print_behind_units(uint8_t tag, const struct before *before)
+{
+    if (tag != UNIT_TAG)
+        print_counted(before->units + 1, "unit");
+    if (tag != UNIT_TAG && tag != SETTINGS_TAG)
+        printf(" or ");
+    if (tag != SETTINGS_TAG)
+        printf("the settings");
+}
+
+static void print_behind_settings(const struct before *before)
+{
+    printf("%sa step or the end", before->inverters < YB_MOST_INVERTERS ? "an inverter, " : "");
+}
+
+static void print_due(uint8_t tag, const struct before *before)
+{
+    switch (before->last) {
+    case 0:
+        printf("the fleet");
+        break;
+    case FLEET_TAG:
+        print_counted(1, "unit");
+        break;
+    case UNIT_TAG:
+        print_behind_units(tag, before);
+        break;
+    case SETTINGS_TAG:
+        print_behind_settings(before);
+        break;
+    case INVERTER_TAG:
+        print_curve(before);
+        break;
+    case CURVE_TAG:
+        if (before->curves == 1)
+            print_curve(before);
+        else
+            print_behind_settings(before);
+        break;
+    case WEATHER_TAG:
+        printf("the reading that follows a weather");
+        break;
+    default:
+        printf("a step or the end");
+        break;
+    }
+}
+
+static void print_row(uint32_t steps)
+{
+    if (steps == 0)
+        printf("the first row of readings");
+    else
+        printf("the row of readings after the first %" PRIu32, steps);
+}
+
+const char *refusal_name(const struct stick *stick)
+{
+    struct before before = fields_before(stick);
+    return words_of(stick, &before)->name;
+}
+
+void print_advice(const struct stick *stick)
+{
+    struct before before = fields_before(stick);
+    uint8_t tag = refused_tag(stick);
+    printf("    ");
+    for (const char *at = words_of(stick, &before)->advice; *at != '\0'; at++)
+        switch (*at) {
+        case '#':
+            print_field(tag, &before);
+            break;
+        case '!':
+            print_due(tag, &before);
+            break;
+        case '@':
+            print_row(stick->steps);
+            break;
+        default:
+            putchar(*at);
+            break;
+        }
+    putchar('\n');
+}

@@ -1,0 +1,72 @@
+/* The inverters' lines of the summary, and one for the roof, which is all of them. */
+#include <inttypes.h>
+#include <string.h>
+
+#include "import_summary.h"
+
+/* The columns of a line; its first is its name. */
+enum { ROOF_COLUMNS = 9 };
+
+/* One step of an inverter, or the sum of one step of the roof. */
+static void see_power(struct roof_line *line, uint32_t step, int64_t watts)
+{
+    if (watts > line->out) {
+        line->out = watts;
+        line->out_step = step;
+    }
+}
+
+/* No inverter gives more than its array. */
+static void see_energy(struct roof_line *line, const struct solar *s, uint32_t seconds)
+{
+    line->given += (joules)s->watts * seconds;
+    line->unused += (joules)(s->dc - (uint64_t)s->watts) * seconds;
+}
+
+void see_roof(struct roof_line *lines, const struct run *run, uint32_t seconds)
+{
+    struct roof_line *roof = &lines[run->inverters];
+    for (uint32_t step = 0; step < run->steps; step++) {
+        int64_t watts = 0;
+        int on = 0;
+        for (unsigned i = 0; i < run->inverters; i++) {
+            struct solar s = solar_at(run, step, i);
+            see_power(&lines[i], step, s.watts);
+            see_energy(&lines[i], &s, seconds);
+            see_energy(roof, &s, seconds);
+            lines[i].on += s.on ? seconds : 0;
+            watts += s.watts;
+            on |= s.on;
+        }
+        see_power(roof, step, watts);
+        roof->on += on ? seconds : 0;
+    }
+}
+
+/* Where no power was given there is no step that gave the most. */
+static void line_texts(row cells, const struct roof_line *line)
+{
+    kw_text(cells[1], line->out);
+    snprintf(cells[2], CELL, "%" PRIu32, line->out_step);
+    if (line->out == 0)
+        strcpy(cells[2], "-");
+    energy_texts(cells[3], cells[4], line->given);
+    time_texts(cells[5], cells[6], line->on);
+    energy_texts(cells[7], cells[8], line->unused);
+}
+
+void print_roof(const struct roof_line *lines, const struct run *run)
+{
+    static const char *const heading[ROOF_COLUMNS] = {"inverter", "out_kW", "at_step", "out_J", "out_kWh", "on_s",
+        "on_h", "unused_J", "unused_kWh"};
+    static row rows[ROWS];
+    for (int k = 0; k < ROOF_COLUMNS; k++)
+        strcpy(rows[0][k], heading[k]);
+    for (unsigned i = 0; i <= run->inverters; i++) {
+        snprintf(rows[i + 1][0], CELL, "%u", i);
+        line_texts(rows[i + 1], &lines[i]);
+    }
+    strcpy(rows[run->inverters + 1][0], "roof");
+    putchar('\n');
+    print_rows(rows, run->inverters + 2, ROOF_COLUMNS);
+}

@@ -1,0 +1,2 @@
+-- Laws about the loop over the inverters.
+pub mod LoopLaws

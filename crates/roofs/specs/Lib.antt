@@ -1,0 +1,3 @@
+-- One step of every inverter.
+pub mod Roofs
+pub mod Posts

@@ -1,0 +1,88 @@
+-- The roofs of an accepted file lie where the code finds them, in their ranges, and are those that the file says; and every step's sun is in its range.
+-- Assumes nothing.
+use mathlib.Core.Path.{_≡_, refl, sym, ap, ap₂, _∙_, subst⁻¹}
+use mathlib.Core.Bool.{Bool, true, false, cond}
+use mathlib.Core.List.{List}
+use Prim.Native.Nat.{ℕ, _+_, _*_, _≤_, _<_}
+use native.Mathlib.Nat.{le-trans, le-of-eq}
+use native.Mathlib.Omega.{arith}
+use lib.Dec.{eqb}
+use lib.ListN.{length}
+use lib.Seq.{ext-getD}
+use Rattle.whole.proofs.Choice.{by-test}
+use Rattle.whole.proofs.OverLaws.{each-length}
+use Rattle.parts.specs.Header.{header, tagAt}
+use Rattle.solar.specs.declared.Sun.{Sun}
+use Rattle.solar.specs.declared.Weather.{Weather}
+use Rattle.solar.specs.declared.Sky.{Sky}
+use Rattle.solar.specs.declared.Sky.the-variants.{Clear, Unknown}
+use Rattle.solar.specs.Roof.{Roof, roofIn}
+use Rattle.solar.specs.Weather.{dark, skyOf, sunOr}
+use Rattle.solar.specs.Posts.{roofBy, Roofed, Shining}
+use Rattle.solar.proofs.SkyLaws.{sky-shining}
+use Rattle.site.specs.Site.{noRoof, roofOf}
+use Rattle.stick.specs.Fields.{inverterAt, weatherAt}
+use Rattle.stick.specs.Site.{roofsOf, sunAt}
+use Rattle.stick.specs.Posts.{Accepted, roofBytes, roofPlace, stepsPlace, sunBefore, stepAt}
+use Rattle.stick.proofs.SiteProved.{accepted, roofed, roof-is}
+use Rattle.roofs.specs.Roofs.{lit, onAfter}
+use Rattle.roofs.specs.Posts.{roofHere, roofsHere, RoofsThere}
+use Rattle.roofs.proofs.LoopLaws.{here-count, here-at}
+
+place-of : (file : List ℕ) (i : ℕ) → roofPlace file 0 + roofBytes * i ≡ roofPlace file i
+place-of file i = omega arith
+
+module _ (file : List ℕ) (z : Accepted file) where
+  -- roof i, as the code has it
+  here-is : (i : ℕ) → i < length (roofsOf file) → roofHere file (roofPlace file i) ≡ roofOf (roofsOf file) i
+  unfolding roofHere
+  here-is i l = sym (roof-is file z i l)
+
+  pub roofs-are : roofsHere file (roofPlace file 0) (length (roofsOf file)) ≡ roofsOf file
+  roofs-are =
+      ext-getD noRoof (roofsHere file (roofPlace file 0) (length (roofsOf file))) (roofsOf file) (here-count (length (roofsOf file)) file (roofPlace file 0))
+      (λ i l.
+      let k : i < length (roofsOf file) = le-trans l (le-of-eq (here-count (length (roofsOf file)) file (roofPlace file 0))) in
+      here-at (length (roofsOf file)) file (roofPlace file 0) i k ∙ ap (roofHere file) (place-of file i) ∙ here-is i k)
+
+  pub roofs-there : (n first : ℕ) → n ≡ length (roofsOf file) → first ≡ roofPlace file 0 → RoofsThere file first n
+  unfolding stepsPlace roofHere
+  roofs-there n first en ef =
+      let far : roofPlace file (length (roofsOf file)) < length file = accepted file z .further in
+      record {
+        few = le-trans (le-of-eq en) (roofed file z .few);
+        within = omega (arith, en, ef, far);
+        there = λ i l.
+            let k : i < length (roofsOf file) = le-trans l (le-of-eq en) in
+            let e : first + roofBytes * i ≡ roofPlace file i = omega (arith, ef) in
+            let t = accepted file z .roofs i k in
+            subst⁻¹ (λ (p : ℕ). Roofed (inverterAt file (p + header)) file (p + 25) (p + 157)) e
+            (record {
+              roof-in = ap roofIn (here-is i k) ∙ roofed file z .each i k;
+              warm-there = let b = t .bytes in omega arith;
+              efficiency-there = let b = t .bytes in omega arith;
+            });
+      }
+
+-- ---- a step's sun
+dark-shines : Shining dark
+dark-shines = record { irradiance-small = omega arith; temperature-small = omega arith }
+
+sky-shines : (w : Weather) → Shining (sunOr (skyOf w))
+sky-shines w = go (skyOf w) refl
+  where
+    go : (k : Sky) → skyOf w ≡ k → Shining (sunOr k)
+    go (Clear s) e = sky-shining w s e
+    go Unknown e = dark-shines
+
+pub sun-shines : (file : List ℕ) (at : ℕ) → Shining (stepAt file at .sun)
+unfolding stepAt sunBefore sunAt
+sun-shines file at = by-test Shining (eqb (tagAt file at) 8) (sunOr (skyOf (weatherAt file (at + header)))) dark (λ t. sky-shines (weatherAt file (at + header))) (λ t. dark-shines)
+
+-- ---- by what the code has read
+pub roofs-read : (file : List ℕ) → Accepted file → (n first : ℕ) → n ≡ length (roofsOf file) → first ≡ roofPlace file 0 → roofsHere file first n ≡ roofsOf file
+roofs-read file z n first en ef = ap₂ (λ (p m : ℕ). roofsHere file p m) ef en ∙ roofs-are file z
+
+pub on-length : (roofs : List Roof) (s : Sun) (on : List Bool) → length (onAfter roofs s on) ≡ length on
+unfolding onAfter
+on-length roofs s on = each-length (λ (i : ℕ) (was : Bool). lit roofs s i was .on) on

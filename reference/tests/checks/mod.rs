@@ -1,0 +1,120 @@
+//! What the tests share that check files: the frames of files that grow, and a tally of the answers.
+
+use std::collections::BTreeMap;
+
+use crate::host::Host;
+use yesbrulka_reference::stick::{self, Answer};
+
+/// Files go over in frames of about this many bytes.
+const FRAME: usize = 1 << 20;
+
+/// The bytes of a check's answer and of a value part's.
+pub const ANSWER: usize = 17;
+
+fn word(bytes: &[u8], at: usize) -> u32 {
+    u32::from_le_bytes(bytes[at..at + 4].try_into().expect("four bytes"))
+}
+
+pub fn long(bytes: &[u8], at: usize) -> u64 {
+    u64::from_le_bytes(bytes[at..at + 8].try_into().expect("eight bytes"))
+}
+
+/// The bytes of a file or the first and last ones of it, for a message.
+pub fn shown(file: &[u8]) -> String {
+    let hex = |bytes: &[u8]| bytes.iter().map(|byte| format!("{byte:02X}")).collect::<String>();
+    match file.len() {
+        0..=400 => hex(file),
+        n => format!("{} .. {} ({n} bytes)", hex(&file[..200]), hex(&file[n - 100..])),
+    }
+}
+
+/// Where the check of a file ended: the refusal's number, and the tag that it was for, where there is one.
+pub type Arm = (u32, Option<u8>);
+
+fn arm(file: &[u8], answer: Answer) -> Arm {
+    let tag = match answer.number {
+        0 | 8 | 9 => None,
+        _ => file.get(answer.place as usize).copied(),
+    };
+    (answer.number, tag)
+}
+
+/// A host, the frame that grows for it, and what its answers were.
+pub struct Comparison {
+    host: Host,
+    payload: Vec<u8>,
+    files: Vec<(Vec<u8>, Answer)>,
+    arms: BTreeMap<Arm, u32>,
+    all: u32,
+    wrong: u32,
+}
+
+impl Comparison {
+    pub fn start() -> Comparison {
+        Comparison {
+            host: Host::start(),
+            payload: Vec::new(),
+            files: Vec::new(),
+            arms: BTreeMap::new(),
+            all: 0,
+            wrong: 0,
+        }
+    }
+
+    /// Checks a file with the archive and with the reference; gives the reference's answer.
+    pub fn check(&mut self, file: impl Into<Vec<u8>>) -> Answer {
+        let file = file.into();
+        let answer = stick::check(&file);
+        self.add(file, answer)
+    }
+
+    /// The same, of a file whose answer's number is known beforehand.
+    pub fn check_is(&mut self, number: u32, file: impl Into<Vec<u8>>) -> Answer {
+        let file = file.into();
+        let answer = stick::check(&file);
+        assert_eq!(answer.number, number, "the reference on {}", shown(&file));
+        self.add(file, answer)
+    }
+
+    fn add(&mut self, file: Vec<u8>, answer: Answer) -> Answer {
+        self.payload.extend((file.len() as u32).to_le_bytes());
+        self.payload.extend_from_slice(&file);
+        *self.arms.entry(arm(&file, answer)).or_default() += 1;
+        self.files.push((file, answer));
+        if self.payload.len() > FRAME {
+            self.compare();
+        }
+        answer
+    }
+
+    fn compare(&mut self) {
+        let answer = self.host.call(b'C', &self.payload);
+        assert_eq!(answer.len(), ANSWER * self.files.len(), "an answer for each file");
+        for ((file, expected), answer) in self.files.drain(..).zip(answer.chunks(ANSWER)) {
+            let got = Answer { number: word(answer, 0), place: long(answer, 4), steps: word(answer, 12) };
+            let disturbed = answer[16] != 0;
+            self.all += 1;
+            if got != expected || disturbed {
+                self.wrong += 1;
+                if self.wrong <= 10 {
+                    let written = if disturbed { ", lent memory changed" } else { "" };
+                    eprintln!("{}\n  archive   {got:?}{written}\n  reference {expected:?}", shown(&file));
+                }
+            }
+        }
+        self.payload.clear();
+    }
+
+    /// Compares what is left, and gives how often each arm was met.
+    pub fn end(mut self) -> BTreeMap<Arm, u32> {
+        self.compare();
+        assert!(self.host.end().0.success(), "the host ended badly");
+        assert_eq!(self.wrong, 0, "wrong answers of {}", self.all);
+        println!("{} files", self.all);
+        self.arms
+    }
+}
+
+pub fn met(arms: &BTreeMap<Arm, u32>, number: u32) -> u32 {
+    arms.iter().filter(|((n, _), _)| *n == number).map(|(_, count)| count).sum()
+}

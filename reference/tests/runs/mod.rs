@@ -1,0 +1,343 @@
+//! What the tests share that run files: the frames of rooms and files that grow, what the runs must leave, and a tally
+//! of what was met in them.
+
+use std::collections::BTreeMap;
+
+use crate::host::Host;
+use yesbrulka_reference::reading::Reading;
+use yesbrulka_reference::samples::{sticks, Draw};
+use yesbrulka_reference::season::{self, Record, SolarRecord, Step};
+use yesbrulka_reference::solar::Inverter;
+use yesbrulka_reference::stick::Run;
+use yesbrulka_reference::storage::Unit;
+use yesbrulka_reference::whole::largest_leg;
+
+/// Files and rooms go over in frames of about this many bytes.
+const FRAME: usize = 1 << 20;
+
+/// The bytes of an answer before those of the room.
+pub const ANSWER: usize = 13;
+
+/// What was met, and how often. A test says what it must have met, so that it cannot go on passing over
+/// inputs that no longer show anything.
+#[derive(Default)]
+pub struct Met(BTreeMap<(&'static str, u32), u32>);
+
+impl Met {
+    pub fn note(&mut self, what: &'static str, which: u32) {
+        *self.0.entry((what, which)).or_default() += 1;
+    }
+
+    pub fn note_if(&mut self, holds: bool, what: &'static str) {
+        if holds {
+            self.note(what, 0);
+        }
+    }
+
+    /// Each of these was met more than so often.
+    pub fn more_than(&self, count: u32, what: &'static str, which: impl IntoIterator<Item = u32>) {
+        for which in which {
+            let met = self.0.get(&(what, which)).copied().unwrap_or(0);
+            assert!(met > count, "{what} {which} was met only {met} times");
+        }
+    }
+
+    /// Each of these was met more than so often, of those that have no number.
+    pub fn all_of(&self, count: u32, list: &[&'static str]) {
+        list.iter().for_each(|what| self.more_than(count, what, [0]));
+    }
+
+    fn run(&mut self, run: &Run, steps: &[Step]) {
+        self.note("units", run.site.units.len() as u32);
+        self.note("mode", run.site.settings.mode.into());
+        self.note("phase", run.site.phase.into());
+        self.note("mode and phase", u32::from(run.site.settings.mode) * 10 + u32::from(run.site.phase));
+        let missing = |reading: Option<&Reading>| matches!(reading, Some(Reading::Missing));
+        self.note_if(steps.is_empty(), "no steps");
+        self.note_if(missing(run.readings.first()), "first reading missing");
+        self.note_if(missing(run.readings.last()), "last reading missing");
+        let mut stored: Vec<u64> = run.site.units.iter().map(|unit| unit.stored).collect();
+        for (k, step) in steps.iter().enumerate() {
+            match step.passed {
+                Some(passed) => {
+                    self.note("rule", passed.rule.into());
+                    self.note_if(passed.rule == 4 && passed.changed, "an exhausted fleet stopped");
+                }
+                None => self.note_if(step.records.iter().any(|r| r.request != 0), "requests stood"),
+            }
+            let charges = run.site.settings.mode == 3;
+            for (i, (unit, record)) in run.site.units.iter().zip(&step.records).enumerate() {
+                if step.passed.is_some_and(|passed| passed.rule == 6) {
+                    let helpless = if charges { stored[i] == unit.rated } else { stored[i] <= unit.reserve };
+                    assert!(!helpless || record.request == 0);
+                    self.note_if(helpless && charges, "full and not asked");
+                    self.note_if(helpless && !charges, "empty and not asked");
+                }
+                let before = if k == 0 { 0 } else { steps[k - 1].records[i].request };
+                self.note_if(record.request.unsigned_abs() < before.unsigned_abs(), "a request taken back");
+                self.unit_step(unit, stored[i], record);
+                stored[i] = record.stepped.stored;
+            }
+        }
+        self.roof(run, steps);
+    }
+
+    /// What the weather and the inverters came to.
+    fn roof(&mut self, run: &Run, steps: &[Step]) {
+        self.note("inverters", run.site.inverters.len() as u32);
+        let mut on = vec![false; run.site.inverters.len()];
+        for (k, step) in steps.iter().enumerate() {
+            let weather = run.weather_of(k).is_some();
+            self.note_if(weather, "a weather");
+            self.note_if(weather && on.is_empty(), "a weather without inverters");
+            self.note_if(weather && step.passed.is_none(), "a weather and no reading");
+            for (i, inverter) in run.site.inverters.iter().enumerate() {
+                self.note_if(!weather && on[i], "on before a step without weather");
+                self.solar_step(inverter, on[i], &step.solar[i]);
+                on[i] = step.solar[i].produced.on;
+            }
+        }
+    }
+
+    /// What decided an inverter's step.
+    fn solar_step(&mut self, inverter: &Inverter, before: bool, record: &SolarRecord) {
+        let made = record.produced;
+        let (dc, kva) = (u128::from(made.dc) * 10_000, u128::from(inverter.kva));
+        let (cut_in, cut_out) = (u128::from(inverter.cut_in) * kva, u128::from(inverter.cut_out) * kva);
+        let held = cut_out <= dc && dc <= cut_in;
+        self.note_if(made.on && !before, "turned on");
+        self.note_if(!made.on && before, "turned off");
+        self.note_if(held && made.on, "held on");
+        self.note_if(held && !made.on, "held off");
+        self.note_if(dc == cut_in, "at cut-in");
+        self.note_if(dc == cut_out, "at cut-out");
+        if made.on {
+            let asked = inverter.ac(made.dc).min(inverter.most_watts());
+            let vars = inverter.var_request.unsigned_abs();
+            self.note("inverter's priority", inverter.priority.into());
+            self.note_if(asked < inverter.ac(made.dc), "watts cut by the limit");
+            self.note_if((made.watts as u64) < asked, "watts cut by the inverter's circle");
+            self.note_if(made.vars.unsigned_abs() < vars, "an inverter's vars cut");
+            self.note_if(made.vars < 0, "an inverter's vars below zero");
+        }
+    }
+
+    /// What decided a unit's step. The classes of a unit that is asked and is cut are of those whose request
+    /// the circle left something of.
+    fn unit_step(&mut self, unit: &Unit, stored: u64, record: &Record) {
+        let Record { request, stepped, .. } = *record;
+        let asked = request.unsigned_abs().min(unit.kva);
+        let vars = unit.var_request.unsigned_abs();
+        let size = match unit.priority {
+            0 => asked,
+            _ => asked.min(largest_leg(unit.kva, vars.min(unit.kva))),
+        };
+        let given = stepped.watts.unsigned_abs();
+        let still = stepped.stored == stored;
+        self.note("priority", unit.priority.into());
+        self.note_if(request.unsigned_abs() == unit.rating, "a request at its rating");
+        self.note_if(request.unsigned_abs() > unit.kva, "a request beyond S");
+        self.note_if(size < asked, "watts cut by vars");
+        self.note_if(stepped.vars.unsigned_abs() < vars, "vars cut");
+        self.note_if(stepped.vars < 0, "vars below zero");
+        self.note_if(stepped.watts == 0, "neither gave nor took");
+        if request > 0 && size > 0 {
+            self.note_if(!still && given == size, "gave it all");
+            self.note_if(!still && given < size, "ran empty");
+            self.note_if(still && stored >= unit.reserve, "was empty");
+            assert!(stored >= unit.reserve, "no run asks a unit below its reserve");
+        }
+        if request < 0 && size > 0 {
+            self.note_if(!still && given == size, "took it all");
+            self.note_if(!still && given < size, "ran full");
+            self.note_if(still && stored == unit.rated, "was full");
+            self.note_if(still && stored < unit.rated, "had too little room");
+        }
+    }
+}
+
+/// What the lent room of a run holds before the call.
+pub fn lent_room(length: usize, fill: u8) -> Vec<u8> {
+    (0..length).map(|i| fill.wrapping_add((7 * i) as u8)).collect()
+}
+
+/// What a run must leave: its number, the room needed, and the room's bytes.
+struct Expected {
+    file: Vec<u8>,
+    number: u32,
+    needed: u64,
+    room: Vec<u8>,
+}
+
+impl Expected {
+    /// The answer's first difference from it, for a message; none where there is none.
+    fn difference(&self, answer: &[u8]) -> Option<String> {
+        let needed = u64::from_le_bytes(answer[..8].try_into().expect("eight bytes"));
+        let number = u32::from_le_bytes(answer[8..12].try_into().expect("four bytes"));
+        let room = &answer[ANSWER..];
+        if (number, needed) != (self.number, self.needed) {
+            return Some(format!(
+                "number {number}, room needed {needed}; the reference {}, {}",
+                self.number, self.needed
+            ));
+        }
+        if answer[12] != 0 {
+            return Some("the file or a guard was written".to_string());
+        }
+        let at = (0..room.len()).find(|&at| room[at] != self.room[at])?;
+        let from = at / 40 * 40;
+        let part = |bytes: &[u8]| hex(&bytes[from..bytes.len().min(from + 40)]);
+        Some(format!(
+            "number {number}: byte {at} of the room\n  archive   {}\n  reference {}",
+            part(room),
+            part(&self.room)
+        ))
+    }
+}
+
+fn hex(bytes: &[u8]) -> String {
+    bytes.iter().map(|byte| format!("{byte:02X}")).collect()
+}
+
+/// A room's length beside what a file needs.
+#[derive(Clone, Copy)]
+#[allow(dead_code)] // not every test lends rooms of every kind
+pub enum Room {
+    Exact,
+    OneShort,
+    Empty,
+    Longer(usize),
+    Of(usize),
+}
+
+impl Room {
+    /// Mostly exact or longer, so that there is a result.
+    pub fn any(draw: &mut Draw) -> Room {
+        let longer = draw.below(120) as usize;
+        let any = draw.below(400) as usize;
+        let longer = Room::Longer(longer);
+        draw.one_of(&[
+            Room::Exact,
+            Room::Exact,
+            longer,
+            longer,
+            Room::Exact,
+            longer,
+            Room::OneShort,
+            Room::Of(any),
+        ])
+    }
+
+    fn length(self, needed: u64) -> usize {
+        let needed = needed as usize;
+        match self {
+            Room::Exact => needed,
+            Room::OneShort => needed.saturating_sub(1),
+            Room::Empty => 0,
+            Room::Longer(more) => needed + more,
+            Room::Of(length) => length,
+        }
+    }
+}
+
+/// A host, the frame that grows for it, and what its answers were.
+pub struct Comparison {
+    host: Host,
+    draw: Draw,
+    payload: Vec<u8>,
+    runs: Vec<Expected>,
+    size: usize,
+    met: Met,
+    all: u32,
+    wrong: u32,
+}
+
+impl Comparison {
+    /// The seed is that of the rooms' fills.
+    pub fn start(seed: u64) -> Comparison {
+        Comparison {
+            host: Host::start(),
+            draw: Draw::from_seed(seed),
+            payload: Vec::new(),
+            runs: Vec::new(),
+            size: 0,
+            met: Met::default(),
+            all: 0,
+            wrong: 0,
+        }
+    }
+
+    /// Runs a file with the archive and with the reference.
+    pub fn run(&mut self, file: impl Into<Vec<u8>>, room: Room) -> u32 {
+        let file = file.into();
+        let needed = season::room_needed(&file);
+        let length = room.length(needed);
+        let fill = self.draw.any() as u8;
+        let mut room = lent_room(length, fill);
+        let number = match season::accepted(&file, length) {
+            Ok(run) => {
+                let steps = season::steps(&run);
+                let result = season::result(&steps);
+                room[..result.len()].copy_from_slice(&result);
+                self.met.run(&run, &steps);
+                self.met.note_if(length == result.len(), "an exact room");
+                self.met.note_if(length > result.len(), "a longer room");
+                0
+            }
+            Err(answer) => {
+                self.met.note_if(answer.number == 11 && length as u64 + 1 == needed, "a room one short");
+                self.met.note_if(answer.number == 11 && length == 0, "an empty room");
+                answer.number
+            }
+        };
+        self.met.note("number", number);
+        self.payload.extend((length as u32).to_le_bytes());
+        self.payload.push(fill);
+        self.payload.extend((file.len() as u32).to_le_bytes());
+        self.payload.extend_from_slice(&file);
+        self.size += file.len() + 2 * length;
+        self.runs.push(Expected { file, number, needed, room });
+        if self.size > FRAME {
+            self.compare();
+        }
+        number
+    }
+
+    /// The same of a run that is not refused, but for its room.
+    pub fn run_of(&mut self, run: &Run, room: Room) {
+        let number = self.run(sticks::file(run), room);
+        assert!(number == 0 || number == 11, "the reference refused a run: {number}");
+    }
+
+    fn compare(&mut self) {
+        let answer = self.host.call(b'R', &self.payload);
+        let mut rest = &answer[..];
+        for expected in self.runs.drain(..) {
+            let length = ANSWER + expected.room.len();
+            assert!(rest.len() >= length, "an answer for each run");
+            let (answer, after) = rest.split_at(length);
+            rest = after;
+            self.all += 1;
+            if let Some(difference) = expected.difference(answer) {
+                self.wrong += 1;
+                if self.wrong <= 5 {
+                    let file = &expected.file[..expected.file.len().min(400)];
+                    eprintln!("{} ({} bytes)\n  {difference}", hex(file), expected.file.len());
+                }
+            }
+        }
+        assert!(rest.is_empty(), "no answer but for a run");
+        self.payload.clear();
+        self.size = 0;
+    }
+
+    /// Compares what is left, of no fewer runs than these, and gives what was met.
+    pub fn end(mut self, least: u32) -> Met {
+        self.compare();
+        assert!(self.host.end().0.success(), "the host ended badly");
+        assert_eq!(self.wrong, 0, "wrong answers of {}", self.all);
+        assert!(self.all >= least, "{} runs", self.all);
+        println!("{} runs", self.all);
+        self.met
+    }
+}
