@@ -193,15 +193,18 @@ static struct answer make_overlong(void)
 }
 
 /* Unit i of a year's fleet: no two neighbours are alike in power, losses, vars or priority. The energies are those of
-** many weeks, since no mode brings back what another moved; the smallest store is empty or full in the spring.
+** many weeks, since no mode brings back what another moved; the smallest store is empty or full in the spring. Where
+** vars come first, they do so at every unit, and leave a fifth of the circle's radius to the watts.
 */
-static void put_year_unit(int i, int mode)
+static void put_year_unit(int i, int mode, int vars_first)
 {
     uint64_t rated = (mode == 3 ? 4000000000u : 9000000000u) * (uint64_t)(4 - i % 4) + 1000000000u * (uint64_t)(i % 7);
     uint32_t rating = 8000 + 500 * (uint32_t)(i % 5);
     uint32_t kva = rating + rating / 10;
     /* None, some, or so many that the circle cuts them. */
     int32_t vars = i % 3 == 0 ? 0 : i % 3 == 1 ? (int32_t)kva / 3 : -(int32_t)kva * 9 / 10;
+    if (vars_first)
+        vars = (int32_t)kva * 98 / 100;
     put_head(0x02, 49);
     put(rated, 8); /* rated, reserve and stored energy */
     put(rated / 10, 8);
@@ -214,7 +217,7 @@ static void put_year_unit(int i, int mode)
     put(9400 + 100 * (uint64_t)(i % 5), 2); /* efficiencies: inverter, charge, discharge */
     put(9500 + 100 * (uint64_t)(i % 4), 2);
     put(9500 + 100 * (uint64_t)(i % 3), 2);
-    put(i % 4 == 2, 1); /* priority */
+    put(vars_first || i % 4 == 2, 1); /* priority */
 }
 
 /* A curve whose x and y change by the same from each point to the next. */
@@ -285,14 +288,14 @@ static void put_hour(uint32_t step, int units, uint64_t *state)
 /* Makes the file of a year in mode 1, which gives at the peaks, or 3, which takes in the valleys. Without inverters
 ** there is no weather.
 */
-static void make_year(int units, int inverters, int mode)
+static void make_year(int units, int inverters, int mode, int vars_first)
 {
     uint64_t state = 2, sky = 3;
     uint32_t each = (uint32_t)units;
     file_len = 0;
     put_fleet(units, HOUR);
     for (int i = 0; i < units; i++)
-        put_year_unit(i, mode);
+        put_year_unit(i, mode, vars_first);
     put_settings(mode, (mode == 3 ? 3200 : 4800) * each, 300 * each, 400);
     for (int i = 0; i < inverters; i++)
         put_year_inverter(i);
@@ -497,14 +500,14 @@ static void show_year(int units, int inverters)
     printf("  %5zu  %5zu  %3zu", 100 * asked / all, 100 * moved / all, solar == 0 ? 0 : 100 * on / solar);
 }
 
-static int show_run(int units, int inverters, int mode)
+static int show_run(int units, int inverters, int mode, int vars_first)
 {
-    make_year(units, inverters, mode);
+    make_year(units, inverters, mode, vars_first);
     if (!same_result(units, inverters, mode))
         return 0;
     struct pair pair = measure(time_run, time_ref_run);
     double steps = (double)(units + inverters) * YEAR;
-    printf("%5d  %9d  %4d", units, inverters, mode);
+    printf("%5d  %9d  %4d  %5s", units, inverters, mode, vars_first ? "first" : "mixed");
     show_year(units, inverters);
     printf("  |  %8.1f  %9.1f  %7.4f", pair.archive.median / steps, pair.reference.median / steps, pair.ratio);
     printf("  |  %8.1f  %9.1f  %7.4f\n", pair.archive.least / steps, pair.reference.least / steps,
@@ -513,7 +516,7 @@ static int show_run(int units, int inverters, int mode)
     return 1;
 }
 
-/* The runs of a year for each fleet, without inverters and with them. */
+/* The runs of a year for each fleet: without inverters, with them, and with vars that come first. */
 static int show_runs(void)
 {
     static const int fleets[] = {1, 8, 64}, roofs[] = {8, 64};
@@ -522,17 +525,19 @@ static int show_runs(void)
         "rounds.\n", YEAR, ROUNDS);
     printf("The ratio under median is the median of the rounds' own; asked and moved are the parts in a hundred of\n"
         "the year in which a unit was asked for power, and in which its store moved; on, those in which an inverter\n"
-        "was on.\n\n");
-    printf("%41s  |  %-28s  |  least\n", "", "median");
-    printf("%5s  %9s  %4s  %5s  %5s  %3s", "units", "inverters", "mode", "asked", "moved", "on");
+        "was on. Where vars come first, at every unit, the circle leaves the watts less than most requests.\n\n");
+    printf("%48s  |  %-28s  |  least\n", "", "median");
+    printf("%5s  %9s  %4s  %5s  %5s  %5s  %3s", "units", "inverters", "mode", "vars", "asked", "moved", "on");
     for (int i = 0; i < 2; i++)
         printf("  |  %8s  %9s  %7s", "archive", "reference", "ratio");
     printf("\n");
     for (size_t i = 0; i < sizeof fleets / sizeof fleets[0]; i++)
         for (int mode = 1; mode <= 3; mode += 2)
-            right &= show_run(fleets[i], 0, mode);
+            right &= show_run(fleets[i], 0, mode, 0);
     for (size_t i = 0; i < sizeof roofs / sizeof roofs[0]; i++)
-        right &= show_run(roofs[i], roofs[i], 1);
+        right &= show_run(roofs[i], roofs[i], 1, 0);
+    for (size_t i = 0; i < sizeof fleets / sizeof fleets[0]; i++)
+        right &= show_run(fleets[i], 0, 1, 1);
     return right;
 }
 

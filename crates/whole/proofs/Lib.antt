@@ -3,5 +3,6 @@ pub mod Choice
 pub mod SignLaws
 pub mod QuotientLaws
 pub mod LargestLaws
+mod BitLaws
 pub mod CircleLaws
 pub mod OverLaws

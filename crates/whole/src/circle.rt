@@ -6,7 +6,7 @@ ghost use Rattle.whole.specs.Circle.{wattsIn, varsIn};
 use super::order;
 use super::sign;
 
-// The largest whole x with x * x + y * y <= s * s, by bisection; 0 where y is above s.
+// The largest whole x with x * x + y * y <= s * s, bit by bit from the top; 0 where y is above s.
 pub fn leg(s: u32, y: u32) -> u32
     ensures { λ r. ⌜ r ≡ legOf s y ⌝ }
 {
@@ -16,14 +16,13 @@ pub fn leg(s: u32, y: u32) -> u32
     let radius = s as u64;
     let side = y as u64;
     let room = radius * radius - side * side;
+    let mut bits = (65 - u64::leading_zeros(room)) / 2;
     let mut low: u64 = 0;
-    let mut high: u64 = radius + 1;
-    while 1 < high - low {
-        let middle = low + (high - low) / 2;
-        if middle * middle <= room {
-            low = middle;
-        } else {
-            high = middle;
+    while 0 < bits {
+        bits -= 1;
+        let next = low + (1u64 << bits);
+        if next * next <= room {
+            low = next;
         }
     }
     low as u32

@@ -1,20 +1,21 @@
--- The bisection keeps low² ≤ room < high², where room is what y leaves of the circle. When high is low + 1, low is the leg.
--- No product wraps: middle is at most s, and s² fits 64 bits.
-use mathlib.Core.Path.{_≡_, sym, subst}
-use Prim.Native.Nat.{ℕ, suc, _+_, _-_, _*_, _≤_, _<_}
-use native.Mathlib.Nat.{lt-of-le-of-lt}
-use native.Mathlib.Numerals.{add-one}
+-- The loop keeps: low passes, and low with all the bits that are still to be tried is too large (`Found`). No bit left, low is the leg.
+-- What is tried stays below 2³², so that its square fits 64 bits.
+use mathlib.Core.Path.{_≡_, sym, ap, _∙_}
+use Prim.Native.Nat.{ℕ, _+_, _-_, _*_, _%_, _^_, _≤_, _<_}
+use native.Mathlib.Nat.{lt-of-le-of-lt, lt-of-lt-of-le, sub-le}
 use native.Mathlib.Omega.{arith}
-use Rattle.whole.proofs.LargestLaws.{square-le, square-suc, square-fits, leg-is, leg-none}
+use lib.Pow.{pow-mono}
+use lib.Count.{leading-le}
+use Rattle.whole.proofs.LargestLaws.{square-le, square-fits, leg-none}
+use Rattle.whole.proofs.BitLaws.{Found, none-tried, bit, fits, kept, left, all-tried}
 use Rattle.whole.proofs.circle.leg.Statement.{statement}
 use Rattle.whole.proofs.circle.leg.Tie as tie
 
 abbrev Inv-loop : tie.InvT-loop
-Inv-loop s y radius side room low₀ high₀ low high =
-    (low < high) × (high ≤ s + 1) × (low * low ≤ s * s - y * y) × (s * s - y * y < high * high)
+Inv-loop s y radius side room bits₀ low₀ bits low = Found (s * s - y * y) bits low
 
 abbrev μ-loop : tie.MeasureT-loop
-μ-loop s y radius side room low₀ high₀ low high = high - low
+μ-loop s y radius side room bits₀ low₀ bits low = bits
 
 returns : tie.Need-returns Inv-loop μ-loop
 returns c = sym (leg-none (c .before .args .s) (c .before .args .y) (c .if1 .taken))
@@ -28,47 +29,89 @@ mul-room-2 c = record { fits = square-fits (c .before .args .y) (c .before .fits
 sub-room : tie.Need-sub-room Inv-loop μ-loop
 sub-room c = square-le (c .if1 .left)
 
-add-high : tie.Need-add-high Inv-loop μ-loop
-add-high c = omega arith
+sub-bits : tie.Need-sub-bits Inv-loop μ-loop
+sub-bits c = let s = c .before .args in let l = leading-le 64 (s .s * s .s - s .y * s .y) in omega arith
 
 loop-holds : tie.Need-loop-holds Inv-loop μ-loop
 loop-holds c =
-    let e : suc (c .before .args .s) * suc (c .before .args .s) ≡ c .before .args .s * c .before .args .s + c .before .args .s + c .before .args .s + 1 = square-suc (c .before .args .s) in
-    (omega arith, omega arith, omega arith, rw add-one (omega arith))
+    let s = c .before .args in
+    none-tried (s .s * s .s - s .y * s .y) (lt-of-le-of-lt (sub-le (s .s * s .s) (s .y * s .y)) (square-fits (s .s) (c .before .fits .s .fits)))
 
-sub-loop : tie.Need-sub-loop Inv-loop μ-loop
-sub-loop c = omega arith
+sub-bits-2 : tie.Need-sub-bits-2 Inv-loop μ-loop
+sub-bits-2 c = omega arith
 
-sub-middle : tie.Need-sub-middle Inv-loop μ-loop
-sub-middle c = omega arith
+some : (c : tie.In-loop Inv-loop μ-loop) → 0 < c .before .loop .bits
+some c = let t = c .loop-test .taken in omega (arith, t)
 
-add-middle : tie.Need-add-middle Inv-loop μ-loop
-add-middle c = omega arith
+-- what is left of the circle, and what is tried of it
+abbrev room-of : tie.In-loop Inv-loop μ-loop → ℕ
+room-of c = let s = c .before .before .before .args in s .s * s .s - s .y * s .y
+
+abbrev next-of : tie.In-loop Inv-loop μ-loop → ℕ
+next-of c = let l = c .before .loop in l .low + (1 * 2 ^ (l .bits - 1)) % 2 ^ 64
+
+next-is : (c : tie.In-loop Inv-loop μ-loop) → next-of c ≡ c .before .loop .low + 2 ^ (c .before .loop .bits - 1)
+next-is c =
+    let l = c .before .loop in
+    ap (λ (n : ℕ). l .low + n) (bit (room-of c) (l .bits) (l .low) (l .inv) (some c))
+
+cast-next : tie.Need-cast-next Inv-loop μ-loop
+cast-next c =
+    let l = c .before .loop in
+    let t = some c in
+    let few = l .inv .few in
+    omega arith
+
+shl-next : tie.Need-shl-next Inv-loop μ-loop
+shl-next c =
+    let l = c .before .loop in
+    let t = some c in
+    let few = l .inv .few in
+    omega arith
+
+add-next : tie.Need-add-next Inv-loop μ-loop
+add-next c =
+    let l = c .before .loop in
+    let t = some c in
+    record { fits = lt-of-lt-of-le (fits (room-of c) (l .bits) (l .low) (l .inv) t (next-of c) (next-is c)) (omega arith) }
 
 mul-if2 : tie.Need-mul-if2 Inv-loop μ-loop
-mul-if2 c = record { fits = lt-of-le-of-lt (square-le (omega arith)) (square-fits (c .before .before .before .args .s) (c .before .before .before .fits .s .fits)) }
+mul-if2 c =
+    let l = c .before .loop in
+    let t = some c in
+    record { fits = square-fits (next-of c) (fits (room-of c) (l .bits) (l .low) (l .inv) t (next-of c) (next-is c)) }
 
 loop-less : tie.Need-loop-less Inv-loop μ-loop
 loop-less c = omega arith
 
 loop-again : tie.Need-loop-again Inv-loop μ-loop
-loop-again c = (omega arith, omega arith, c .if2 .taken, c .before .before .loop .inv .3)
+loop-again c =
+    let i = c .before in
+    let l = i .before .loop in
+    kept (room-of i) (l .bits) (l .low) (l .inv) (some i) (next-of i) (next-is i) (c .if2 .taken)
 
 loop-less-2 : tie.Need-loop-less-2 Inv-loop μ-loop
 loop-less-2 c = omega arith
 
 loop-again-2 : tie.Need-loop-again-2 Inv-loop μ-loop
-loop-again-2 c = (omega arith, omega arith, c .before .before .loop .inv .2, c .if2 .left)
+loop-again-2 c =
+    let i = c .before in
+    let l = i .before .loop in
+    left (room-of i) (l .bits) (l .low) (l .inv) (some i) (next-of i) (next-is i) (c .if2 .left)
 
 cast-result : tie.Need-cast-result Inv-loop μ-loop
-cast-result c = omega arith
+cast-result c =
+    let l = c .before .loop in
+    let n = l .inv .narrow in
+    let p : 1 ≤ 2 ^ l .bits = pow-mono {i = 0} {j = l .bits} (omega arith) in
+    omega arith
 
 returns-2 : tie.Need-returns-2 Inv-loop μ-loop
 returns-2 c =
-    let s = c .before .before .before in
-    let next : c .before .loop .high ≡ suc (c .before .loop .low) = omega arith in
-    sym (leg-is (s .args .s) (s .args .y) (c .before .loop .low) (c .before .before .if1 .left) (c .before .loop .inv .2)
-    (subst (λ (h : ℕ). s .args .s * s .args .s - s .args .y * s .args .y < h * h) next (c .before .loop .inv .3)))
+    let l = c .before .loop in
+    let s = c .before .before .before .args in
+    let none : l .bits ≡ 0 = let t = c .loop-test .left in omega arith in
+    sym (all-tried (s .s) (s .y) (l .bits) (l .low) (c .before .before .if1 .left) none (l .inv))
 
 pub leg-spec : {M : Type 1} → statement M
 leg-spec =
@@ -80,11 +123,12 @@ leg-spec =
     mul-room
     mul-room-2
     sub-room
-    add-high
+    sub-bits
     loop-holds
-    sub-loop
-    sub-middle
-    add-middle
+    sub-bits-2
+    cast-next
+    shl-next
+    add-next
     mul-if2
     loop-less
     loop-again
