@@ -5,6 +5,7 @@
 #include <string.h>
 
 #include "test_surface.h"
+#include "test_surface_file.h"
 #include "yesbrulka.h"
 
 void check_file(const uint8_t *file, size_t len, uint32_t number, uint64_t place, uint32_t steps)
@@ -67,13 +68,7 @@ static void test_check_after(void)
 /* The file with one byte changed. */
 static void test_check_changed(void)
 {
-    static const struct {
-        size_t at;
-        uint8_t byte;
-        uint32_t number;
-        uint64_t place;
-        uint32_t steps;
-    } changes[] = {
+    static const struct change changes[] = {
         {0, 0x00, 2, 0, 0}, {0, 0xFF, 2, 0, 0}, {0, 0x02, 3, 0, 0}, {1, 1, 3, 0, 0}, {2, 5, 3, 0, 0},
         /* edition, unit count, seconds */
         {3, 0, 5, 0, 0}, {3, 2, 5, 0, 0}, {4, 0, 5, 0, 0}, {4, 65, 5, 0, 0}, {4, 255, 5, 0, 0}, {4, 2, 4, 61, 0},
@@ -97,12 +92,7 @@ static void test_check_changed(void)
         {136, 0x05, 3, 136, 4}, {138, 0, 3, 136, 4}, {142, 3, 7, 136, 4}, {142, 5, 7, 136, 4}, {139, 1, 7, 136, 4},
         {140, 1, 7, 136, 4},
     };
-    for (size_t i = 0; i < sizeof changes / sizeof changes[0]; i++) {
-        uint8_t file[sizeof complete];
-        memcpy(file, complete, sizeof complete);
-        file[changes[i].at] = changes[i].byte;
-        check_file(file, sizeof file, changes[i].number, changes[i].place, changes[i].steps);
-    }
+    check_changes(complete, sizeof complete, changes, sizeof changes / sizeof changes[0]);
 }
 
 /* Fields of the file in another order, by their numbers from 0. */

@@ -1,4 +1,4 @@
-/* Complete files of any fleet, with values that are drawn. */
+/* Complete files of any fleet, with values that are drawn, and files with one byte changed. */
 #include <string.h>
 
 #include "test_surface.h"
@@ -156,4 +156,14 @@ void draw_file(struct file *file, size_t units)
         .phase = (uint8_t)draw(6),
     };
     write_file(file);
+}
+
+void check_changes(const uint8_t *file, size_t len, const struct change *changes, size_t count)
+{
+    uint8_t changed[MOST_FILE];
+    for (size_t i = 0; i < count; i++) {
+        memcpy(changed, file, len);
+        changed[changes[i].at] = changes[i].byte;
+        check_file(changed, len, changes[i].number, changes[i].place, changes[i].steps);
+    }
 }

@@ -1,4 +1,4 @@
-/* Complete files of any fleet, for the calls that say what a file holds. */
+/* Complete files of any fleet, for the calls that say what a file holds, and files with one byte changed. */
 #ifndef TEST_SURFACE_FILE_H
 #define TEST_SURFACE_FILE_H
 
@@ -44,6 +44,18 @@ void write_file(struct file *file);
 ** then, and else anything between.
 */
 void draw_file(struct file *file, size_t units);
+
+/* A byte of a file that is changed, and the check's number, place and steps then. */
+struct change {
+    size_t at;
+    uint8_t byte;
+    uint32_t number;
+    uint64_t place;
+    uint32_t steps;
+};
+
+/* Check a file, of at most MOST_FILE bytes, with each of the changes alone. */
+void check_changes(const uint8_t *file, size_t len, const struct change *changes, size_t count);
 
 /* A number below a bound, the next of a row that is the same in every run. */
 uint64_t draw(uint64_t bound);

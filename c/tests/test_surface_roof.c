@@ -3,6 +3,7 @@
 #include <string.h>
 
 #include "test_surface.h"
+#include "test_surface_file.h"
 #include "test_surface_roof.h"
 #include "yesbrulka.h"
 
@@ -67,13 +68,7 @@ static void test_roof_cut(void)
 /* The file with one byte changed. */
 static void test_roof_changed(void)
 {
-    static const struct {
-        size_t at;
-        uint8_t byte;
-        uint32_t number;
-        uint64_t place;
-        uint32_t steps;
-    } changes[] = {
+    static const struct change changes[] = {
         /* the inverter: tag and length, array, S, cut-in, cut-out, limit, var request, priority */
         {76, 0x0D, 2, 76, 0}, {76, 0x07, 3, 76, 0}, {76, 0x02, 3, 76, 0}, {77, 1, 3, 76, 0}, {78, 18, 3, 76, 0},
         {78, 20, 3, 76, 0}, {79, 6, 5, 76, 0}, {79, 0x80, 5, 76, 0}, {79, 5, 0, 462, 4}, {83, 6, 5, 76, 0},
@@ -100,15 +95,10 @@ static void test_roof_changed(void)
         {403, 0x05, 3, 403, 1}, {406, 0x7F, 6, 403, 1}, {449, 0x04, 3, 449, 2}, {452, 0x08, 3, 452, 3},
         {461, 3, 7, 455, 4}, {461, 5, 7, 455, 4},
     };
-    for (size_t i = 0; i < sizeof changes / sizeof changes[0]; i++) {
-        uint8_t file[ROOF_LEN];
-        put_roof(file);
-        file[changes[i].at] = changes[i].byte;
-        check_file(file, ROOF_LEN, changes[i].number, changes[i].place, changes[i].steps);
-    }
-    /* A double of the least size below 0 is 0. */
     uint8_t file[ROOF_LEN];
     put_roof(file);
+    check_changes(file, ROOF_LEN, changes, sizeof changes / sizeof changes[0]);
+    /* A double of the least size below 0 is 0. */
     memcpy(file + 365, "\x80\0\0\0\0\0\0\1", 8);
     check_file(file, ROOF_LEN, 0, ROOF_LEN, 4);
 }

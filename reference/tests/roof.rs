@@ -318,21 +318,7 @@ fn files_with_their_fields_in_another_order() {
         kinds.push(sticks::reading_field(&Reading::Missing));
         kinds.push(sticks::reading_field(&sticks::power_reading(&mut draw)));
         kinds.extend([sticks::end_field(2), sticks::end_field(0)]);
-        for at in 0..fields.len() {
-            let (before, after) = fields.split_at(at);
-            files.check(sticks::bytes(&[before, &after[1..]].concat()));
-            files.check(sticks::bytes(&[before, &after[..1], after].concat()));
-            for other in 0..fields.len() {
-                let mut fields = fields.clone();
-                fields.swap(at, other);
-                files.check(sticks::bytes(&fields));
-            }
-            for kind in kinds.chunks(1) {
-                files.check(sticks::bytes(&[before, kind, &after[1..]].concat()));
-                files.check(sticks::bytes(&[before, kind, after].concat()));
-                files.check(sticks::bytes(&[before, kind].concat()));
-            }
-        }
+        files.check_orders(&fields, fields.len(), &kinds);
     }
     for _ in 0..15_000 {
         files.check(roofs::shuffled_file(&mut draw));

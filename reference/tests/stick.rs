@@ -130,21 +130,7 @@ fn files_with_their_fields_in_another_order() {
             .chain([sticks::end_field(3), sticks::end_field(0)])
             .chain(of_roofs.clone())
             .collect();
-        for at in 0..fields.len() {
-            let (before, after) = fields.split_at(at);
-            files.check(sticks::bytes(&[before, &after[1..]].concat()));
-            files.check(sticks::bytes(&[before, &after[..1], after].concat()));
-            for other in 0..fields.len().min(12) {
-                let mut fields = fields.clone();
-                fields.swap(at, other);
-                files.check(sticks::bytes(&fields));
-            }
-            for kind in kinds.chunks(1) {
-                files.check(sticks::bytes(&[before, kind, &after[1..]].concat()));
-                files.check(sticks::bytes(&[before, kind, after].concat()));
-                files.check(sticks::bytes(&[before, kind].concat()));
-            }
-        }
+        files.check_orders(&fields, fields.len().min(12), &kinds);
     }
     for _ in 0..15_000 {
         files.check(sticks::shuffled_file(&mut draw));

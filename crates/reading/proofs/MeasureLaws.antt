@@ -22,7 +22,7 @@ use Rattle.reading.specs.Conversion.{nearest, mostWatts, within, wattsOf
 use Rattle.reading.specs.Choice.{largerOf, smallerOf, choiceOf, chosenOf, measureOf}
 
 -- ---- a converted power
-abbrev Small : Watts → Type 0
+abbrev pub Small : Watts → Type 0
 Small Refused = 0 ≤ 0
 Small (Whole w) = natAbs w ≤ mostWatts
 
@@ -33,7 +33,7 @@ within-small s size =
     (λ t. le-trans (le-of-eq (size-signed s size)) (leb-true size mostWatts t))
     (λ t. omega arith)
 
-watts-small : (x : Float) → Small (wattsOf x)
+pub watts-small : (x : Float) → Small (wattsOf x)
 unfolding wattsOf
 watts-small nan = omega arith
 watts-small (inf s) = omega arith

@@ -6,11 +6,13 @@ use mathlib.Core.Path.{_≡_}
 use lib.IntN.{ℤ}
 use lib.ListN.{length}
 use Rattle.stick.specs.Check.{checkOf}
-use Rattle.stick.specs.Site.{siteOf, roofsOf}
+use Rattle.stick.specs.Site.{siteOf, roofsOf, stepsOf}
 use Rattle.stick.specs.Posts.{Accepted}
 use Rattle.site.specs.Site.{count}
 use Rattle.fleet.specs.declared.Frame.{Frame}
+use Rattle.fleet.specs.Step.{standing}
 use Rattle.fleet.specs.Posts.{Ready, Held, siteIn}
+use Rattle.season.specs.Run.{resultFrom}
 
 -- a file that the check accepts with so many steps
 pub record Counted (file : List ℕ) (steps : ℕ) : Type 0 where
@@ -30,3 +32,7 @@ pub record Loaded (file : List ℕ) (f : Frame) (rows : List (List ℕ)) (stored
   pub site-is : siteIn f rows ≡ siteOf file
   pub held : Held (siteIn f rows) stored requests
   pub flags : length on ≡ length (roofsOf file)
+
+-- the result of a file's steps, by its site in a frame and rows and from what stands
+abbrev pub resultIn : List ℕ → Frame → List (List ℕ) → List ℕ → List ℤ → List Bool → List ℕ
+resultIn file f rows stored requests on = resultFrom (siteIn f rows) (roofsOf file) 0 (standing stored requests) on (stepsOf file)

@@ -1,16 +1,13 @@
 ghost use mathlib.Core.Path.{_≡_};
-ghost use mathlib.Core.Bool.{cond, _&&_};
+ghost use mathlib.Core.Bool.{_&&_};
 ghost use Prim.Native.Nat.{_≤_};
-ghost use lib.Dec.{leb, eqb};
+ghost use lib.Dec.{eqb};
 ghost use lib.ListN.{length};
 ghost use Rattle.whole.specs.Interval.{between};
 ghost use Rattle.curve.specs.Ranges.{pointsOf};
 ghost use Rattle.curve.specs.Layout.{pointsAt};
-ghost use Rattle.solar.specs.declared.Lit.the-variants.{RefusedBy};
-ghost use Rattle.solar.specs.Roof.{roofIn};
-ghost use Rattle.solar.specs.Weather.{skyOf};
-ghost use Rattle.solar.specs.Posts.{roofBy};
-ghost use Rattle.solar.specs.Answers.{listsOf, litBy, litOf, roofOf};
+ghost use Rattle.solar.specs.Posts.{roofBy, litIn};
+ghost use Rattle.solar.specs.Answers.{listsOf, litOf, roofOf};
 use super::Inverter;
 use super::Lit;
 use super::Sky;
@@ -45,7 +42,7 @@ fn lay_both(warm_x: &[i32], warm_y: &[i32], eff_x: &[i32], eff_y: &[i32], room: 
 // that cannot be used (6).
 fn step_in(v: Inverter, bytes: &[u8], on: u8, w: Weather) -> Lit
     requires { ⌜ length (now bytes) ≡ 258 ⌝ }
-    ensures { λ r. ⌜ r ≡ cond (roofIn (roofBy v (now (bytes .entry)) 0 129) && leb on 1) (litBy (roofBy v (now (bytes .entry)) 0 129) (eqb on 1) (skyOf w)) (RefusedBy 5) ⌝ }
+    ensures { λ r. ⌜ r ≡ litIn (roofBy v (now (bytes .entry)) 0 129) on w ⌝ }
 {
     if !(ranges::roof_in(v, bytes, 0, 129) & (on <= 1)) {
         return Lit::RefusedBy(5);
@@ -70,7 +67,7 @@ fn step_over(
     requires { ⌜ length (now «warm_y») ≡ length (now «warm_x») ⌝ }
     requires { ⌜ length (now «eff_x») ≤ 16 ⌝ }
     requires { ⌜ length (now «eff_y») ≡ length (now «eff_x») ⌝ }
-    ensures { λ r. ⌜ r ≡ cond (roofIn (roofOf v (listsOf (now («warm_x» .entry)) (now («warm_y» .entry)) (now («eff_x» .entry)) (now («eff_y» .entry)))) && leb on 1) (litBy (roofOf v (listsOf (now («warm_x» .entry)) (now («warm_y» .entry)) (now («eff_x» .entry)) (now («eff_y» .entry)))) (eqb on 1) (skyOf w)) (RefusedBy 5) ⌝ }
+    ensures { λ r. ⌜ r ≡ litIn (roofOf v (listsOf (now («warm_x» .entry)) (now («warm_y» .entry)) (now («eff_x» .entry)) (now («eff_y» .entry)))) on w ⌝ }
 {
     let mut room = [0u8; 258];
     lay_both(warm_x, warm_y, eff_x, eff_y, &mut room);

@@ -21,7 +21,7 @@ use Rattle.solar.specs.declared.Inverter.{Inverter}
 use Rattle.solar.specs.declared.Weather.{Weather}
 use Rattle.solar.specs.declared.Given.{Given}
 use Rattle.solar.specs.declared.Lit.{Lit}
-use Rattle.solar.specs.Answers.{Lists, listsOf, litCall}
+use Rattle.solar.specs.Answers.{listsOf, litOf, litCall}
 use Rattle.storage.specs.declared.Outcome.{Outcome}
 use Rattle.storage.specs.declared.Stepped.{Stepped}
 use Rattle.storage.specs.Answers.{stepCall}
@@ -111,11 +111,12 @@ inverterOf array kva cut-in cut-out limit var priority = record {
   priority = priority;
 }
 
-abbrev pub listsLent : Lent (List ℤ) → Lent (List ℤ) → Lent (List ℤ) → Lent (List ℤ) → Lists
-listsLent warm-x warm-y eff-x eff-y = listsOf (held warm-x) (held warm-y) (held eff-x) (held eff-y)
-
 abbrev pub weatherOf : Float → Float → Weather
 weatherOf irradiance temperature = record { irradiance = irradiance; temperature = temperature }
+
+abbrev pub litLent : Inverter → Lent (List ℤ) → Lent (List ℤ) → Lent (List ℤ) → Lent (List ℤ) → ℕ → Float → Float → Lit
+litLent v warm-x warm-y eff-x eff-y on irradiance temperature =
+    litOf v (listsOf (held warm-x) (held warm-y) (held eff-x) (held eff-y)) on (weatherOf irradiance temperature)
 
 pub record LitSeen (a : Lit) (number on on′ : ℕ) (watts watts′ vars vars′ : ℤ) (dc dc′ : ℕ) : Type 0 where
   pub number-is : number ≡ numberOf (litCall a)

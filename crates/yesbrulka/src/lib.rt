@@ -8,14 +8,13 @@ ghost use Rattle.reading.specs.Conversion.{wattsOf, wattsCall};
 ghost use Rattle.unit.specs.declared.Unit.{Unit};
 ghost use Rattle.controller.specs.Answers.{passAnswer, passLeaves};
 ghost use Rattle.settling.specs.Answers.{studyAnswer, studyLeaves, studyCall};
-ghost use Rattle.solar.specs.Answers.{litOf};
 ghost use Rattle.storage.specs.Step.{steppedOf};
 ghost use Rattle.site.specs.declared.Head.{Head};
 ghost use Rattle.stick.specs.Check.{checkOf};
 ghost use Rattle.parts.specs.Parts.{partStart, partSize};
 ghost use Rattle.season.specs.Answers.{roomOf, runAnswer, runLeaves};
 ghost use Rattle.ask.specs.Says.{unitsSaid, invertersSaid, secondsSaid, fileStudy, fileStudyLeaves, fileStudyCall};
-ghost use Rattle.yesbrulka.specs.Calls.{held, left, fleetLent, settingsOf, PassTold, trialOf, StudyTold, unitOf, StepTold, inverterOf, listsLent, weatherOf, LitTold, headSaid, unitSaid};
+ghost use Rattle.yesbrulka.specs.Calls.{held, left, fleetLent, settingsOf, PassTold, trialOf, StudyTold, unitOf, StepTold, inverterOf, litLent, LitTold, headSaid, unitSaid};
 use ask::HeadAnswer;
 use ask::UnitAnswer;
 use controller::PassAnswer;
@@ -256,7 +255,7 @@ pub extern "C" fn yb_solar(
     vars: &mut i32,
     dc: &mut u64,
 ) -> u32
-    ensures { λ r. ⌜ LitTold (litOf (inverterOf array kva «cut_in» «cut_out» limit «var_request» priority) (listsLent «warm_x» «warm_y» «eff_x» «eff_y») on (weatherOf irradiance temperature)) r «on_after» watts vars dc ⌝ }
+    ensures { λ r. ⌜ LitTold (litLent (inverterOf array kva «cut_in» «cut_out» limit «var_request» priority) «warm_x» «warm_y» «eff_x» «eff_y» on irradiance temperature) r «on_after» watts vars dc ⌝ }
 {
     let v = Inverter {
         array,

@@ -569,6 +569,29 @@ fn solar_cases(cases: &mut Cases) {
     }
 }
 
+/// The file with another field in the place of one.
+fn instead(fields: &[Field], at: usize, field: Field) -> Vec<u8> {
+    let mut fields = fields.to_vec();
+    fields[at] = field;
+    sticks::bytes(&fields)
+}
+
+/// A field left out, said twice, of one of the tags or of another length, and any of them in its place as the last.
+fn field_cases(cases: &mut Cases, fields: &[Field], at: usize, tags: &[u8], draw: &mut Draw) {
+    cases.check(&sticks::bytes(&[&fields[..at], &fields[at + 1..]].concat()));
+    cases.check(&sticks::bytes(&[&fields[..=at], &fields[at..]].concat()));
+    for &tag in tags {
+        cases.check(&instead(fields, at, Field { tag, ..fields[at].clone() }));
+    }
+    let lengths = sticks::bad_lengths(fields[at].tag);
+    for length in [lengths[0], lengths[1], draw.one_of(&lengths)] {
+        cases.check(&instead(fields, at, Field { length, ..fields[at].clone() }));
+    }
+    for other in fields.chunks(1) {
+        cases.check(&sticks::bytes(&[&fields[..at], other].concat()));
+    }
+}
+
 /// Files are small, to keep the stored ones so; those of number 12 are too large to be among them.
 fn check_cases(cases: &mut Cases) {
     let mut draw = Draw::from_seed(10);
@@ -588,25 +611,9 @@ fn check_cases(cases: &mut Cases) {
         cases.check(&[&file, after].concat());
     }
     // Each field left out, said twice, of another tag or length, or any of them after any number of others.
-    let without_one = |at: usize| [&fields[..at], &fields[at + 1..]].concat();
-    let instead = |at: usize, field: Field| {
-        let mut fields = fields.clone();
-        fields[at] = field;
-        sticks::bytes(&fields)
-    };
     for at in 0..fields.len() {
-        cases.check(&sticks::bytes(&without_one(at)));
-        cases.check(&sticks::bytes(&[&fields[..=at], &fields[at..]].concat()));
-        for tag in [0, 6, 9, 0x7E, 0x81, 0xFF, draw.any() as u8] {
-            cases.check(&instead(at, Field { tag, ..fields[at].clone() }));
-        }
-        let lengths = sticks::bad_lengths(fields[at].tag);
-        for length in [lengths[0], lengths[1], draw.one_of(&lengths)] {
-            cases.check(&instead(at, Field { length, ..fields[at].clone() }));
-        }
-        for other in &fields {
-            cases.check(&sticks::bytes(&[&fields[..at], std::slice::from_ref(other)].concat()));
-        }
+        let tags = [0, 6, 9, 0x7E, 0x81, 0xFF, draw.any() as u8];
+        field_cases(cases, &fields, at, &tags, &mut draw);
     }
     // Values at the ends of their ranges and beside them.
     let short = sticks::with(&run, |run| run.readings.truncate(1));
@@ -617,18 +624,18 @@ fn check_cases(cases: &mut Cases) {
         cases.check(&sticks::file(&sticks::with(&short, change)));
     }
     for fleet in sticks::bad_fleets(&run) {
-        cases.check(&instead(0, fleet));
+        cases.check(&instead(&fields, 0, fleet));
     }
     // Counts that a fleet may have, but not this one.
     for count in [2, 3, 63, 64] {
-        cases.check(&instead(0, sticks::fleet_field(1, count, run.site.seconds)));
+        cases.check(&instead(&fields, 0, sticks::fleet_field(1, count, run.site.seconds)));
     }
     for (i, bits) in sticks::bad_powers(&mut draw).into_iter().enumerate() {
         let bad = sticks::bad_reading(i % 3, bits, &mut draw);
         cases.check(&sticks::file(&sticks::with(&short, |run| run.readings.push(bad))));
     }
     for count in sticks::bad_counts(3) {
-        cases.check(&instead(fields.len() - 1, sticks::end_field(count)));
+        cases.check(&instead(&fields, fields.len() - 1, sticks::end_field(count)));
     }
     // Several things wrong at once, foreign bytes, and fleets of other sizes.
     for _ in 0..120 {
@@ -662,26 +669,10 @@ fn roof_check_cases(cases: &mut Cases) {
     for length in 76..=file.len() {
         cases.check(&file[..length]);
     }
-    let instead = |at: usize, field: Field| {
-        let mut fields = fields.clone();
-        fields[at] = field;
-        sticks::bytes(&fields)
-    };
     // From the inverter on, each field left out, said twice, of another tag or length, or any of them after any
     // number of others.
     for at in 3..fields.len() {
-        cases.check(&sticks::bytes(&[&fields[..at], &fields[at + 1..]].concat()));
-        cases.check(&sticks::bytes(&[&fields[..=at], &fields[at..]].concat()));
-        for tag in [9, 0x0C, 0x86] {
-            cases.check(&instead(at, Field { tag, ..fields[at].clone() }));
-        }
-        let lengths = sticks::bad_lengths(fields[at].tag);
-        for length in [lengths[0], lengths[1], draw.one_of(&lengths)] {
-            cases.check(&instead(at, Field { length, ..fields[at].clone() }));
-        }
-        for other in &fields {
-            cases.check(&sticks::bytes(&[&fields[..at], std::slice::from_ref(other)].concat()));
-        }
+        field_cases(cases, &fields, at, &[9, 0x0C, 0x86], &mut draw);
     }
     // A weather behind the last reading, and two in one step.
     let weather = roofs::weather_field(Weather { irradiance: 0.0, temperature: -5.0 });
@@ -697,7 +688,7 @@ fn roof_check_cases(cases: &mut Cases) {
     let curves = [&run.site.inverters[0].warm, &run.site.inverters[0].eff];
     for (which, curve) in curves.into_iter().enumerate() {
         for bad in roofs::bad_curves(curve, &mut draw) {
-            cases.check(&instead(4 + which, bad));
+            cases.check(&instead(&fields, 4 + which, bad));
         }
     }
     for step in 0..2 {

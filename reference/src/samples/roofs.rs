@@ -317,17 +317,7 @@ pub fn shuffled_file(draw: &mut Draw) -> Vec<u8> {
             fields.truncate(first_inverter(&run) + draw.below(4) as usize);
             fields.extend((0..draw.below(7)).map(|_| any_field(draw)));
         }
-        1 => {
-            let first = draw.below(fields.len() as u64) as usize;
-            fields.rotate_left(first);
-        }
-        _ => {
-            for _ in 0..1 + draw.below(3) {
-                let [from, to] = [(); 2].map(|()| draw.below(fields.len() as u64) as usize);
-                let field = fields.remove(from);
-                fields.insert(to, field);
-            }
-        }
+        way => sticks::reorder(&mut fields, way == 1, draw),
     }
     sticks::bytes(&fields)
 }

@@ -400,22 +400,26 @@ pub fn damaged_file(draw: &mut Draw) -> Vec<u8> {
     file
 }
 
+/// Lets the fields begin at any of them, with those before it put last, or moves up to three of them.
+pub fn reorder(fields: &mut Vec<Field>, turn: bool, draw: &mut Draw) {
+    if turn {
+        let first = draw.below(fields.len() as u64) as usize;
+        fields.rotate_left(first);
+        return;
+    }
+    for _ in 0..1 + draw.below(3) {
+        let [from, to] = [(); 2].map(|()| draw.below(fields.len() as u64) as usize);
+        let field = fields.remove(from);
+        fields.insert(to, field);
+    }
+}
+
 /// Fields of the list in any order, with good values for the most part.
 pub fn shuffled_file(draw: &mut Draw) -> Vec<u8> {
     let mut fields = fields(&small_run(draw));
     match draw.below(4) {
         0 => fields = (0..draw.below(9)).map(|_| any_field(draw)).collect(),
-        1 => {
-            let first = draw.below(fields.len() as u64) as usize;
-            fields.rotate_left(first);
-        }
-        _ => {
-            for _ in 0..1 + draw.below(3) {
-                let [from, to] = [(); 2].map(|()| draw.below(fields.len() as u64) as usize);
-                let field = fields.remove(from);
-                fields.insert(to, field);
-            }
-        }
+        way => reorder(&mut fields, way == 1, draw),
     }
     bytes(&fields)
 }

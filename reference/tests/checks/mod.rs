@@ -3,6 +3,7 @@
 use std::collections::BTreeMap;
 
 use crate::host::Host;
+use yesbrulka_reference::samples::sticks::{self, Field};
 use yesbrulka_reference::stick::{self, Answer};
 
 /// Files go over in frames of about this many bytes.
@@ -74,6 +75,25 @@ impl Comparison {
         let answer = stick::check(&file);
         assert_eq!(answer.number, number, "the reference on {}", shown(&file));
         self.add(file, answer)
+    }
+
+    /// Checks each field left out, repeated and exchanged with the first ones, and each kind put in at each place.
+    pub fn check_orders(&mut self, fields: &[Field], first: usize, kinds: &[Field]) {
+        for at in 0..fields.len() {
+            let (before, after) = fields.split_at(at);
+            self.check(sticks::bytes(&[before, &after[1..]].concat()));
+            self.check(sticks::bytes(&[before, &after[..1], after].concat()));
+            for other in 0..first {
+                let mut fields = fields.to_vec();
+                fields.swap(at, other);
+                self.check(sticks::bytes(&fields));
+            }
+            for kind in kinds.chunks(1) {
+                self.check(sticks::bytes(&[before, kind, &after[1..]].concat()));
+                self.check(sticks::bytes(&[before, kind, after].concat()));
+                self.check(sticks::bytes(&[before, kind].concat()));
+            }
+        }
     }
 
     fn add(&mut self, file: Vec<u8>, answer: Answer) -> Answer {
