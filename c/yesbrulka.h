@@ -164,7 +164,7 @@ uint32_t yb_run(const uint8_t *file, size_t file_len, uint8_t *room, size_t room
 /* Convert a phase power from kW to whole watts.
 **
 ** Stores in *watts the whole number nearest to 1000 times the exact value of kw; a value midway between
-** two goes to the one further from zero. The result is within -100,000,000 to 100,000,000 W, and minus
+** two goes to the even one, as meters do. The result is within -100,000,000 to 100,000,000 W, and minus
 ** zero gives 0.
 **
 ** Returns 0, or 6 if kw is a NaN or an infinity or if the result would lie outside that range. *watts is

@@ -71,7 +71,8 @@ static void refused(double kw)
 static void test_figures(void)
 {
     accepted(1.5, 1500);
-    accepted(0.0625, 63);
+    accepted(0.0625, 62);
+    accepted(0.1875, 188);
     accepted(0x1p-11, 0);
     accepted(0x1p-10, 1);
     accepted(100000, 100000000);
@@ -94,7 +95,7 @@ static void test_ties(void)
     for (int32_t n = 1; n < 1600000; n = 3 * n + 2) {
         double tie = n / 16.0;
         int32_t below = (int32_t)(INT64_C(125) * n / 2);
-        accepted(tie, below + 1);
+        accepted(tie, below + below % 2);
         accepted(further(tie), below + 1);
         accepted(nearer(tie), below);
     }
@@ -109,6 +110,8 @@ static void test_range_ends(void)
     accepted(nearer(100000), 100000000);
     accepted(further(100000), 100000000);
     accepted(100000.00049, 100000000);
+    accepted(double_of(UINT64_C(0x40F86A00020C49BA)), 100000000);
+    refused(double_of(UINT64_C(0x40F86A00020C49BB)));
     refused(100000.00051);
     refused(100000.001);
     refused(131072);
@@ -146,7 +149,7 @@ static void test_powers_of_two(void)
         if (e < -10)
             accepted(r, 0);
         else if (e < 0)
-            accepted(r, (1000 + (1 << -e >> 1)) >> -e);
+            accepted(r, (1000 + (1 << -e >> 1) - 1 + (1000 >> -e & 1)) >> -e);
         else if (e <= 16)
             accepted(r, 1000 << e);
         else

@@ -29,7 +29,8 @@ refused='kW: refused 6 (reading not usable)'
 usage='usage: watts KW..'
 
 check 0 '1.5 kW: 1500 W' '' 1.5
-check 0 $'0.0625 kW: 63 W\n-0.0625 kW: -63 W' '' 0.0625 -0.0625
+check 0 $'0.0625 kW: 62 W\n-0.0625 kW: -62 W' '' 0.0625 -0.0625
+check 0 $'0.1875 kW: 188 W\n-0.1875 kW: -188 W' '' 0.1875 -0.1875
 check 0 $'0x1p-11 kW: 0 W\n0x1p-10 kW: 1 W' '' 0x1p-11 0x1p-10
 check 0 $'100000 kW: 100000000 W\n-1e5 kW: -100000000 W' '' 100000 -1e5
 check 0 $'-0 kW: 0 W\n1e-400 kW: 0 W' '' -0 1e-400

@@ -83,7 +83,8 @@ pub fn nans() -> Vec<u64> {
 /// Zeros, subnormal ends, infinities, the largest double and the document's figures, each with its
 /// neighbours and of both signs.
 pub fn corners() -> Vec<u64> {
-    let figures = [1.5, 0.0625, 1.0 / 2_048.0, 1.0 / 1_024.0, 100_000.0, 100_000.062_5, 0.0005, 0.001, 1.0];
+    let figures =
+        [1.5, 0.0625, 0.1875, 1.0 / 2_048.0, 1.0 / 1_024.0, 100_000.0, 100_000.062_5, 0.0005, 0.001, 1.0];
     let mut found = vec![0, 1, FRACTION >> 1, FRACTION, FRACTION + 1, INFINITY - 1, INFINITY];
     found.extend(figures.iter().map(|r: &f64| r.to_bits()));
     both_signs(&found.iter().flat_map(|&bits| beside(bits)).collect::<Vec<_>>())

@@ -296,7 +296,7 @@ mod tests {
     #[test]
     fn a_weather_is_converted_as_powers_are() {
         let sun = |irradiance, temperature| weather(irradiance, temperature).converted();
-        assert_eq!(sun(0.0625, -0.0625), Ok(Sun { irradiance: 63, temperature: -63 }));
+        assert_eq!(sun(0.0625, -0.0625), Ok(Sun { irradiance: 62, temperature: -62 }));
         assert_eq!(sun(-0.0001, 1e5), Ok(Sun { irradiance: 0, temperature: 100_000_000 }));
         assert_eq!(sun(-0.0, -1e5), Ok(Sun { irradiance: 0, temperature: -100_000_000 }));
         assert_eq!(sun(1e5, -0.0), Ok(Sun { irradiance: 100_000_000, temperature: 0 }));

@@ -43,10 +43,12 @@ fn compare_watts(patterns: &[u64]) {
 
 #[test]
 fn watts_of_the_documents_figures() {
-    let figures = [1.5, 0.0625, -0.0625, 1.0 / 2_048.0, 1.0 / 1_024.0, 100_000.0, 100_000.062_5];
-    let answers = [(0, 1_500), (0, 63), (0, -63), (0, 0), (0, 1), (0, 100_000_000), (6, LEFT_ALONE)];
+    let figures =
+        [1.5, 0.0625, -0.0625, 0.1875, -0.1875, 1.0 / 2_048.0, 1.0 / 1_024.0, 100_000.0, 100_000.062_5];
+    let whole = [1_500, 62, -62, 188, -188, 0, 1, 100_000_000].map(|watts| (0, watts));
+    let answers = [&whole[..], &[(6, LEFT_ALONE)]].concat();
     let patterns = figures.map(f64::to_bits);
-    assert_eq!(patterns.map(expected), answers);
+    assert_eq!(patterns.map(expected)[..], answers);
     compare_watts(&patterns);
 }
 
@@ -93,7 +95,7 @@ fn watts_where_they_are_neither_none_nor_too_many() {
 fn watts_at_ties_and_beside_them() {
     let mut draw = Draw::from_seed(104);
     let mut patterns = Vec::new();
-    for sixteenths in (1..20_000).step_by(2) {
+    for sixteenths in (1..20_000).chain(1_580_001..1_600_000).step_by(2) {
         let tie = (f64::from(sixteenths) / 16.0).to_bits();
         patterns.extend(samples::both_signs(&samples::beside(tie)));
     }
@@ -109,6 +111,19 @@ fn watts_around_the_ends_of_the_range() {
     let mut draw = Draw::from_seed(105);
     let patterns: Vec<u64> = (0..150_000).map(|_| samples::near_the_end(&mut draw)).collect();
     compare_watts(&patterns);
+}
+
+/// The last double of each sign that is accepted, and the first that is refused. No tie lies there, so
+/// that they are where they would be if ties went away from zero.
+#[test]
+fn watts_at_the_last_accepted_and_the_first_refused() {
+    let (last, first) = (0x40F8_6A00_020C_49BA, 0x40F8_6A00_020C_49BB);
+    for sign in [0, 1 << 63] {
+        let answers = [last, first].map(|bits| reading::watts(f64::from_bits(bits | sign)));
+        let most = if sign == 0 { 100_000_000 } else { -100_000_000 };
+        assert_eq!(answers, [Ok(most), Err(6)]);
+    }
+    compare_watts(&samples::both_signs(&[samples::beside(last), samples::beside(first)].concat()));
 }
 
 /// The comparison is worth nothing if the host answers frames that it has not understood.

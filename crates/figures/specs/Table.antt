@@ -62,8 +62,10 @@ unfolding kilowatts leg pass study step run missingOnce noSteps bytes
 table =
     -- A1 to A4
     row (kilowatts 0x3ff8_0000_0000_0000) (values (pos 1500 ∷ []))
-    ∷ row (kilowatts 0x3fb0_0000_0000_0000) (values (pos 63 ∷ []))
-    ∷ row (kilowatts 0xbfb0_0000_0000_0000) (values (negℤ (pos 63) ∷ []))
+    ∷ row (kilowatts 0x3fb0_0000_0000_0000) (values (pos 62 ∷ []))
+    ∷ row (kilowatts 0xbfb0_0000_0000_0000) (values (negℤ (pos 62) ∷ []))
+    ∷ row (kilowatts 0x3fc8_0000_0000_0000) (values (pos 188 ∷ []))
+    ∷ row (kilowatts 0xbfc8_0000_0000_0000) (values (negℤ (pos 188) ∷ []))
     ∷ row (kilowatts 0x3f40_0000_0000_0000) (values (pos 0 ∷ []))
     ∷ row (kilowatts 0x3f50_0000_0000_0000) (values (pos 1 ∷ []))
     ∷ row (kilowatts 0x40f8_6a00_0000_0000) (values (pos 100000000 ∷ []))

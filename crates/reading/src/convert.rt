@@ -5,13 +5,16 @@ ghost use Rattle.reading.specs.Conversion.{nearest, wattsOf};
 use super::Watts;
 
 // n / 2^(places + 1) to the nearest whole number by the tie rule: one place less is cut off, then
-// one is added and the sum halved.
+// one is added and the sum halved, which sends a tie up. Where the lower neighbour is even, n goes
+// in less one, which sends it down and changes nothing else.
 fn rounded(n: u64, places: u64) -> u64
+    requires { ⌜ 0 < n ⌝ }
     requires { ⌜ n < 2 ^ 63 ⌝ }
     requires { ⌜ places < 64 ⌝ }
     ensures { λ r. ⌜ r ≡ nearest n (2 ^ (places + 1)) ⌝ }
 {
-    ((n >> places) + 1) / 2
+    let odd = (n >> places) / 2 % 2;
+    (((n - 1 + odd) >> places) + 1) / 2
 }
 
 // The whole watts of a kW double, by its bit pattern: sign, exponent's field and digits. A field
