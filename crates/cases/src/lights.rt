@@ -10,7 +10,7 @@ pub fn light(v: &[u8]) {
         return say::unknown();
     }
     let on = octets::u8_at(v, 293);
-    let i = stick::inverter_at(v, 0);
+    let i = fields::inverter_at(v, 0);
     if !(solar::roof_in(i, v, 19, 148) & (on <= 1)) {
         return say::refusal(5);
     }

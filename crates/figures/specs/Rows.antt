@@ -22,8 +22,8 @@ use Rattle.storage.specs.declared.Outcome.{Outcome}
 use Rattle.storage.specs.Step.{steppedOf}
 use Rattle.storage.specs.Answers.{stepCall}
 use Rattle.stick.specs.declared.Answer.{Answer}
-use Rattle.stick.specs.declared.State.{State}
-use Rattle.stick.specs.Fields.{atSteps, stateOf}
+use Rattle.fields.specs.declared.State.{State}
+use Rattle.fields.specs.Fields.{atSteps, stateOf}
 use Rattle.stick.specs.Check.{fieldAt, takenCall, checkOf}
 use Rattle.season.specs.Answers.{runAnswer, runLeaves}
 

@@ -5,7 +5,7 @@ use lib.ListN.{length}
 use Rattle.parts.specs.Header.{header}
 use Rattle.solar.specs.Roof.{Roof}
 use Rattle.solar.specs.Posts.{roofBy, Roofed}
-use Rattle.stick.specs.Fields.{inverterAt}
+use Rattle.fields.specs.Fields.{inverterAt}
 use Rattle.stick.specs.Posts.{roofBytes}
 
 -- a roof as it lies at a place of bytes, an inverter field and its two curve fields; and so many, one behind the other

@@ -6,7 +6,7 @@ ghost use Rattle.octets.specs.BigEndian.{laid};
 ghost use Rattle.parts.specs.Header.{header};
 ghost use Rattle.solar.specs.Step.{stepOf};
 ghost use Rattle.solar.specs.Posts.{Roofed, Shining};
-ghost use Rattle.stick.specs.Fields.{inverterAt};
+ghost use Rattle.fields.specs.Fields.{inverterAt};
 ghost use Rattle.roofs.specs.Roofs.{onAfter, roofsBy};
 ghost use Rattle.records.specs.Records.{roofRecordBytes};
 ghost use Rattle.roofs.specs.Posts.{RoofsThere, roofHere, roofsHere};
@@ -31,7 +31,7 @@ fn light(bytes: &[u8], at: usize, on: bool, s: Sun) -> Given
             dc: 0,
         };
     }
-    let v = stick::inverter_at(bytes, at + 3);
+    let v = fields::inverter_at(bytes, at + 3);
     solar::step_within(v, bytes, at + 25, at + 157, on, s)
 }
 

@@ -21,7 +21,7 @@ use Rattle.solar.specs.Weather.{dark, skyOf, sunOr}
 use Rattle.solar.specs.Posts.{roofBy, Roofed, Shining}
 use Rattle.solar.proofs.SkyLaws.{sky-shining}
 use Rattle.site.specs.Site.{noRoof, roofOf}
-use Rattle.stick.specs.Fields.{inverterAt, weatherAt}
+use Rattle.fields.specs.Fields.{inverterAt, weatherAt}
 use Rattle.stick.specs.Site.{roofsOf, sunAt}
 use Rattle.stick.specs.Posts.{Accepted, roofBytes, roofPlace, stepsPlace, sunBefore, stepAt}
 use Rattle.stick.proofs.SiteProved.{accepted, roofed, roof-is}

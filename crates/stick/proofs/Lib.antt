@@ -1,6 +1,4 @@
--- Laws about the run file's fields, its check, what an accepted file says and where, and rows of its units.
-pub mod FieldLaws
-pub mod TakenLaws
+-- Laws about the run file's check, what an accepted file says and where, and rows of its units.
 pub mod WalkLaws
 pub mod PlaceLaws
 pub mod SaidLaws

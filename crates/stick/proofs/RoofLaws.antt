@@ -13,14 +13,14 @@ use Rattle.curve.specs.Layout.{curveIn}
 use Rattle.solar.specs.Roof.{inverterIn, warmBounds, efficiencyBounds}
 use Rattle.solar.specs.Weather.{dark}
 use Rattle.parts.specs.Header.{header, tagAt, past}
-use Rattle.stick.specs.declared.State.{State}
-use Rattle.stick.specs.declared.Taken.{Taken}
-use Rattle.stick.specs.declared.Taken.the-variants.{Next, Stop}
-use Rattle.stick.specs.Fields.{atEnd, atSteps, atInverters, atTemperature, atEfficiency, only, another, kinds, sizeIn, sizeOf, headOf, standsIn, allowed, inverterAt, fiveUnless, valueOf, tooMany, refusedBy, stateOf, roofAfter, stateAfter, takenBy}
+use Rattle.fields.specs.declared.State.{State}
+use Rattle.fields.specs.declared.Taken.{Taken}
+use Rattle.fields.specs.declared.Taken.the-variants.{Next, Stop}
+use Rattle.fields.specs.Fields.{atEnd, atSteps, atInverters, atTemperature, atEfficiency, only, another, kinds, sizeIn, sizeOf, headOf, standsIn, allowed, inverterAt, fiveUnless, valueOf, tooMany, refusedBy, stateOf, roofAfter, stateAfter, takenBy}
 use Rattle.stick.specs.Check.{answer, fieldAt, ends, takenCall, goes, walk}
 use Rattle.stick.specs.Site.{having, stepsIn}
 use Rattle.stick.specs.Posts.{roofBytes}
-use Rattle.stick.proofs.FieldLaws.{warm-alone, efficiency-alone}
+use Rattle.fields.proofs.FieldLaws.{warm-alone, efficiency-alone}
 use Rattle.stick.proofs.WalkLaws.{whole, OnTheWay}
 use Rattle.stick.proofs.PlaceLaws.{from, Passed, picked, left-out, closes-none}
 use Rattle.stick.proofs.SaidLaws.{accepted-test, every, bytes-follow, One, one, Waited, waited}

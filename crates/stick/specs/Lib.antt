@@ -1,5 +1,4 @@
--- The run file: its fields, the check of any bytes, and what an accepted file says: a site and its steps.
-pub mod Fields
+-- The run file: the check of any bytes, and what an accepted file says: a site and its steps.
 pub mod Check
 pub mod Site
 pub mod Accepted
