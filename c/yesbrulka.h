@@ -125,10 +125,13 @@ uint64_t yb_value_len(const uint8_t *file, size_t file_len, uint64_t place);
 ** energy; power rating, kVA rating, idle loss and var request; weight; the efficiencies of inverter, charge and
 ** discharge; priority. All are within the ranges that yb_step has for them.
 **
-** Returns 0, or the first of these that holds:
+** yb_var_limits stores how many vars that unit may provide and how many it may absorb, each 0 to its kVA rating; in a
+** file of edition 1 both are the kVA rating.
+**
+** Both return 0, or the first of these that holds:
 **     the number of yb_check
 **    10  the file's fleet has no such unit
-** The twelve are written only when 0 is returned.
+** The twelve, and the two, are written only when 0 is returned.
 */
 uint32_t yb_units(const uint8_t *file, size_t file_len);
 uint32_t yb_inverters(const uint8_t *file, size_t file_len);
@@ -138,6 +141,7 @@ uint32_t yb_settings(const uint8_t *file, size_t file_len, uint8_t *mode, int32_
 uint32_t yb_unit(const uint8_t *file, size_t file_len, uint32_t unit, uint64_t *rated, uint64_t *reserve,
     uint64_t *stored, uint32_t *rating, uint32_t *kva, uint32_t *idle_loss, int32_t *var_request, uint16_t *weight,
     uint16_t *inverter, uint16_t *charge, uint16_t *discharge, uint8_t *priority);
+uint32_t yb_var_limits(const uint8_t *file, size_t file_len, uint32_t unit, uint32_t *provide, uint32_t *absorb);
 
 /* Run a file: take its steps in turn, each one pass of the controller (none where the reading is missing), one step of
 ** every unit and one of every inverter, and write the result file.
@@ -243,7 +247,11 @@ uint32_t yb_study(const uint8_t *file, size_t file_len, int64_t load, uint32_t b
 ** the energy lost, in J. A unit that cannot do what it is asked, or is asked nothing, idles: *watts is then its
 ** draw, negative, and the store stays as it is.
 **
-** Returns 0, or the first of these that holds:
+** yb_step_as does so for a unit of an edition, 1 or 2. From edition 2 on the unit provides at most provide vars and
+** absorbs at most absorb, each 0 to kva; in edition 1 the two are not looked at, and both limits are kva. yb_step is
+** yb_step_as in edition 1.
+**
+** Both return 0, or the first of these that holds:
 **     5  a value is outside its range
 **    10  the request is beyond the rating
 ** The four are written only when 0 is returned.
@@ -252,6 +260,10 @@ uint32_t yb_step(uint32_t seconds, uint64_t rated, uint64_t reserve, uint64_t st
     uint32_t rating, uint32_t kva, uint32_t idle_loss, int32_t var_request, uint16_t weight,
     uint16_t inverter, uint16_t charge, uint16_t discharge, uint8_t priority, int32_t request,
     int32_t *watts, int32_t *vars, uint64_t *stored_after, uint64_t *loss);
+uint32_t yb_step_as(uint8_t edition, uint32_t seconds, uint64_t rated, uint64_t reserve, uint64_t stored,
+    uint32_t rating, uint32_t kva, uint32_t idle_loss, int32_t var_request, uint16_t weight,
+    uint16_t inverter, uint16_t charge, uint16_t discharge, uint8_t priority, uint32_t provide, uint32_t absorb,
+    int32_t request, int32_t *watts, int32_t *vars, uint64_t *stored_after, uint64_t *loss);
 
 /* Take one solar inverter through one step, in a weather.
 **

@@ -1,8 +1,8 @@
 /* What the parts of the import tool share; each part says at its start what it does.
 **
-** What a stick says is asked of the library, and nothing here reads a stick's values by itself. The library's answers
-** are proved, but nothing here trusts them with memory: a place or a size that cannot be about the file is a fault, is
-** told, and ends the command.
+** What a stick says is asked of the library, and nothing here reads a stick's values by itself, but for two that no
+** call tells: the edition, and the S of a unit that was refused. The library's answers are proved, but nothing here
+** trusts them with memory: a place or a size that cannot be about the file is a fault, is told, and ends the command.
 */
 #ifndef IMPORT_H
 #define IMPORT_H
@@ -26,7 +26,7 @@ struct stick {
     unsigned units, inverters;
 };
 
-/* The settings of a complete stick, and one of its units. */
+/* The settings of a complete stick, one of its units, and the vars that this may provide and absorb. */
 struct settings {
     uint8_t mode;
     int32_t target;
@@ -41,6 +41,10 @@ struct unit {
     int32_t var_request;
     uint16_t weight, inverter, charge, discharge;
     uint8_t priority;
+};
+
+struct limits {
+    uint32_t provide, absorb;
 };
 
 /* The run over a complete stick: the result file's bytes, to be freed. */
@@ -63,11 +67,20 @@ int fault(const char *name);
 /* Read and check a file. Gives what came of it; where it FAILED, that is told. */
 int ask(struct stick *stick, const char *name);
 
+/* A big-endian number of that many bytes. */
+uint64_t number_at(const uint8_t *bytes, int width);
+
 /* A field's tag and the two bytes of its length are its header. Give the length that a field says, at a place where
 ** its header is there.
 */
 enum { HEADER = 3 };
 unsigned said_length(const struct stick *stick, uint64_t place);
+
+/* The edition that the fleet names, which is a stick's first field; 0 where there is no fleet, or it is refused. From
+** the edition of limits on a unit has var limits of its own, and its field ends with them.
+*/
+enum { LIMITS_EDITION = 2 };
+unsigned edition_of(const struct stick *stick);
 
 /* Print a file's line and, of a refused one, what to do about it; and with show the refused field's bytes. */
 void print_answer(const struct stick *stick, int show);
@@ -75,11 +88,12 @@ void print_answer(const struct stick *stick, int show);
 /* Ask for a complete file; of a refused one print the answer, and on standard error what was not done. */
 int ask_complete(struct stick *stick, const char *name, const char *not_done);
 
-/* Ask for what a complete stick says: its settings, and the values of a unit, counted from 0. Gives COMPLETE, or
-** FAILED where the library refuses that, which is a fault and is told.
+/* Ask for what a complete stick says: its settings, and the values and the var limits of a unit, counted from 0. Gives
+** COMPLETE, or FAILED where the library refuses that, which is a fault and is told.
 */
 int ask_settings(struct settings *settings, const struct stick *stick);
 int ask_unit(struct unit *unit, const struct stick *stick, unsigned which);
+int ask_limits(struct limits *limits, const struct stick *stick, unsigned which);
 
 /* import_advice.c */
 

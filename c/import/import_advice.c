@@ -4,7 +4,9 @@
 #include "import.h"
 #include "yesbrulka.h"
 
-/* What is read of a stick here, to name a field: its tag, and the length to get to the next one. */
+/* What is read of a stick here, to name a field: its tag, and the length to get to the next one; and the S of a unit
+** whose limits it bounds.
+*/
 enum {
     FLEET_TAG = 0x01,
     UNIT_TAG = 0x02,
@@ -17,8 +19,14 @@ enum {
     END_TAG = 0x7F
 };
 
+/* The lengths of a unit without var limits, which is also the one before any fleet, and of one with them; and where its
+** S stands in both.
+*/
+enum { UNIT_BYTES = 49, LIMITED_UNIT_BYTES = 57, UNIT_S = 28, UNIT_S_WIDTH = 4 };
+
 /* What stands in the file's line, and what the person should know and do. In the second, # is the field that is
-** meant, ! what should be in its place, and @ the row of the readings.
+** meant, ! what should be in its place, @ the row of the readings, and ~ the fleet's edition; of a unit, % is the
+** length that it says, & the one that it should have, and $ its S.
 */
 struct words {
     const char *name, *advice;
@@ -63,7 +71,24 @@ static const struct words refusals[] = {
         "for each part."},
 };
 
-/* What more is known where a refusal is about a roof or its weather. */
+/* What more is known where a refusal is about the edition or about a unit, whose length and limits go by it. */
+static const struct words bad_fleet = {"value out of range",
+    "The edition of # is not 1 or 2, or its units are not 1 to 64, or its seconds are not 1 to 86,400. Ask the manager "
+    "to correct # and to write the stick anew, in edition 1 or 2."};
+static const struct words no_fleet = {"wrong length",
+    "The file begins with #, whose length is % and not &: the fleet, which comes first, is not there. Copy the stick "
+    "again; if it stays so, ask the manager for a new one."};
+static const struct words other_edition = {"wrong length",
+    "The length of # is %, and in edition ~, which the fleet names, it is &: fleet and units are not of one edition. "
+    "Copy the stick again; if it stays so, ask the manager to write it anew, all of it in one edition."};
+static const struct words no_unit_length = {"wrong length",
+    "The length of # is %, and in edition ~ it is &: bytes were changed or lost here. Copy the stick again; if it "
+    "stays so, ask the manager for a new one."};
+static const struct words bad_limited_unit = {"value out of range",
+    "A value of # is smaller or larger than it may be, or its provide limit or its absorb limit is above its S, which "
+    "is $ VA. Ask the manager to correct # and to write the stick anew."};
+
+/* The same where it is about a roof or its weather. */
 static const struct words one_too_many = {"field out of order",
     "Here the file has #, and a stick holds at most 64. Ask the manager to write the stick anew with no more "
     "inverters than that."};
@@ -125,16 +150,52 @@ static const struct words *order_words(uint8_t tag, const struct before *before)
     return tag == END_TAG && before->last == WEATHER_TAG ? &no_reading : &refusals[YB_OUT_OF_ORDER];
 }
 
+static unsigned unit_length(const struct stick *stick)
+{
+    return edition_of(stick) < LIMITS_EDITION ? UNIT_BYTES : LIMITED_UNIT_BYTES;
+}
+
+/* The unit's length is not its own; it may be that of another edition. */
+static const struct words *unit_length_words(const struct stick *stick)
+{
+    unsigned said = said_length(stick, stick->place);
+    if (edition_of(stick) == 0)
+        return &no_fleet;
+    return said == UNIT_BYTES || said == LIMITED_UNIT_BYTES ? &other_edition : &no_unit_length;
+}
+
+/* Where the unit has limits, and they are there. */
+static int has_limits(const struct stick *stick)
+{
+    return edition_of(stick) >= LIMITS_EDITION && stick->len - stick->place >= HEADER + LIMITED_UNIT_BYTES;
+}
+
+static const struct words *range_words(const struct stick *stick, uint8_t tag)
+{
+    switch (tag) {
+    case FLEET_TAG:
+        return &bad_fleet;
+    case UNIT_TAG:
+        return has_limits(stick) ? &bad_limited_unit : &refusals[YB_OUT_OF_RANGE];
+    case INVERTER_TAG:
+        return &bad_inverter;
+    case CURVE_TAG:
+        return &bad_curve;
+    default:
+        return &refusals[YB_OUT_OF_RANGE];
+    }
+}
+
 static const struct words *words_of(const struct stick *stick, const struct before *before)
 {
     uint8_t tag = refused_tag(stick);
     uint32_t number = stick->number < sizeof refusals / sizeof refusals[0] ? stick->number : 0;
     if (number == YB_OUT_OF_ORDER)
         return order_words(tag, before);
-    if (number == YB_OUT_OF_RANGE && tag == INVERTER_TAG)
-        return &bad_inverter;
-    if (number == YB_OUT_OF_RANGE && tag == CURVE_TAG)
-        return &bad_curve;
+    if (number == YB_WRONG_LENGTH && tag == UNIT_TAG)
+        return unit_length_words(stick);
+    if (number == YB_OUT_OF_RANGE)
+        return range_words(stick, tag);
     return number == YB_NOT_USABLE && tag == WEATHER_TAG ? &bad_weather : &refusals[number];
 }
 
@@ -250,6 +311,21 @@ static void print_row(uint32_t steps)
         printf("the row of readings after the first %" PRIu32, steps);
 }
 
+/* The edition, and the numbers of a unit's field, by what marks them. */
+static uint64_t marked_number(char mark, const struct stick *stick)
+{
+    switch (mark) {
+    case '~':
+        return edition_of(stick);
+    case '%':
+        return said_length(stick, stick->place);
+    case '&':
+        return unit_length(stick);
+    default:
+        return number_at(stick->bytes + stick->place + HEADER + UNIT_S, UNIT_S_WIDTH);
+    }
+}
+
 const char *refusal_name(const struct stick *stick)
 {
     struct before before = fields_before(stick);
@@ -271,6 +347,12 @@ void print_advice(const struct stick *stick)
             break;
         case '@':
             print_row(stick->steps);
+            break;
+        case '~':
+        case '%':
+        case '&':
+        case '$':
+            printf("%" PRIu64, marked_number(*at, stick));
             break;
         default:
             putchar(*at);

@@ -31,6 +31,14 @@ void time_texts(char *whole, char *hours, uint64_t seconds)
     thousandths_text(hours, ((joules)1000 * seconds + 1800) / 3600);
 }
 
+void begin_rows(row *rows, const char *const *heading, int columns, unsigned count)
+{
+    for (int k = 0; k < columns; k++)
+        strcpy(rows[0][k], heading[k]);
+    for (unsigned i = 0; i < count; i++)
+        snprintf(rows[i + 1][0], CELL, "%u", i);
+}
+
 void print_rows(row *rows, unsigned count, int columns)
 {
     int width[COLUMNS] = {0};

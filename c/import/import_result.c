@@ -91,15 +91,7 @@ static int other_result(const struct difference *found, const struct run *run, c
     return REFUSED;
 }
 
-/* A big-endian number of that many bytes, a signed one of four, and a double. */
-static uint64_t number_at(const uint8_t *bytes, int width)
-{
-    uint64_t number = 0;
-    for (int i = 0; i < width; i++)
-        number = number << 8 | bytes[i];
-    return number;
-}
-
+/* A signed number of four bytes, and a double. */
 static int32_t signed_at(const uint8_t *bytes)
 {
     uint32_t number = (uint32_t)number_at(bytes, 4);

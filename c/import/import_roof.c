@@ -60,12 +60,9 @@ void print_roof(const struct roof_line *lines, const struct run *run)
     static const char *const heading[ROOF_COLUMNS] = {"inverter", "out_kW", "at_step", "out_J", "out_kWh", "on_s",
         "on_h", "unused_J", "unused_kWh"};
     static row rows[ROWS];
-    for (int k = 0; k < ROOF_COLUMNS; k++)
-        strcpy(rows[0][k], heading[k]);
-    for (unsigned i = 0; i <= run->inverters; i++) {
-        snprintf(rows[i + 1][0], CELL, "%u", i);
+    begin_rows(rows, heading, ROOF_COLUMNS, run->inverters);
+    for (unsigned i = 0; i <= run->inverters; i++)
         line_texts(rows[i + 1], &lines[i]);
-    }
     strcpy(rows[run->inverters + 1][0], "roof");
     putchar('\n');
     print_rows(rows, run->inverters + 2, ROOF_COLUMNS);

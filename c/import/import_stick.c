@@ -47,9 +47,23 @@ int fault(const char *name)
     return failed(name, "the library's answer is not about this file; ", "keep it and tell the developers");
 }
 
+uint64_t number_at(const uint8_t *bytes, int width)
+{
+    uint64_t number = 0;
+    for (int i = 0; i < width; i++)
+        number = number << 8 | bytes[i];
+    return number;
+}
+
 unsigned said_length(const struct stick *stick, uint64_t place)
 {
-    return (unsigned)stick->bytes[place + 1] << 8 | stick->bytes[place + 2];
+    return (unsigned)number_at(stick->bytes + place + 1, 2);
+}
+
+/* The edition is the fleet's first value. */
+unsigned edition_of(const struct stick *stick)
+{
+    return stick->place > HEADER ? stick->bytes[HEADER] : 0;
 }
 
 /* The value bytes of the refused field, 16 a row, each row with the place of its first byte. */
@@ -153,5 +167,11 @@ int ask_unit(struct unit *unit, const struct stick *stick, unsigned which)
     uint32_t number = yb_unit(stick->bytes, stick->len, which, &unit->rated, &unit->reserve, &unit->stored,
         &unit->rating, &unit->kva, &unit->idle_loss, &unit->var_request, &unit->weight, &unit->inverter,
         &unit->charge, &unit->discharge, &unit->priority);
+    return number == 0 ? COMPLETE : fault(stick->name);
+}
+
+int ask_limits(struct limits *limits, const struct stick *stick, unsigned which)
+{
+    uint32_t number = yb_var_limits(stick->bytes, stick->len, which, &limits->provide, &limits->absorb);
     return number == 0 ? COMPLETE : fault(stick->name);
 }

@@ -1,5 +1,5 @@
-/* import summary: what a planner asks of a result, a line for each unit and one for the fleet, and beneath them a line
-** for each inverter and one for the roof.
+/* import summary: what a planner asks of a result, a line for each unit and one for the fleet; beneath them, where the
+** units have var limits, a line of these for each; and a line for each inverter and one for the roof.
 */
 #include <inttypes.h>
 #include <stdlib.h>
@@ -99,12 +99,9 @@ static void print_lines(const struct line *lines, const struct run *run)
     static const char *const heading[COLUMNS] = {"unit", "request_W", "out_kW", "in_kW", "out_J", "out_kWh", "in_J",
         "in_kWh", "loss_J", "loss_kWh", "low_J", "at_step", "not_met"};
     static row rows[ROWS];
-    for (int k = 0; k < COLUMNS; k++)
-        strcpy(rows[0][k], heading[k]);
-    for (unsigned i = 0; i <= run->units; i++) {
-        snprintf(rows[i + 1][0], CELL, "%u", i);
+    begin_rows(rows, heading, COLUMNS, run->units);
+    for (unsigned i = 0; i <= run->units; i++)
         line_texts(rows[i + 1], &lines[i], run->steps);
-    }
     strcpy(rows[run->units + 1][0], "fleet");
     print_rows(rows, run->units + 2, COLUMNS);
 }
@@ -126,6 +123,7 @@ static void print_settings(const struct stick *stick, uint32_t seconds, const st
 int summary_command(const char *file, const char *result)
 {
     static struct line lines[YB_MOST_UNITS + 1];
+    static struct var_line vars[YB_MOST_UNITS];
     static struct roof_line roof[YB_MOST_INVERTERS + 1];
     struct stick stick;
     struct run run;
@@ -134,15 +132,21 @@ int summary_command(const char *file, const char *result)
     if (outcome != COMPLETE)
         return outcome;
     uint32_t seconds = yb_seconds(stick.bytes, stick.len);
+    int has_limits = edition_of(&stick) >= LIMITS_EDITION;
     see_run(lines, &run, seconds);
+    see_vars(vars, &run);
     see_roof(roof, &run, seconds);
     free(run.bytes);
     outcome = seconds != 0 ? ask_settings(&settings, &stick) : fault(file);
+    if (outcome == COMPLETE && has_limits)
+        outcome = ask_vars(vars, &stick);
     if (outcome != COMPLETE)
         return outcome;
     print_answer(&stick, 0);
     print_settings(&stick, seconds, &settings);
     print_lines(lines, &run);
+    if (has_limits)
+        print_vars(vars, &run);
     if (run.inverters != 0)
         print_roof(roof, &run);
     return COMPLETE;

@@ -1,4 +1,6 @@
-/* What the parts of the summary share: numbers as texts, set in columns, and the inverters' lines. */
+/* What the parts of the summary share: numbers as texts, set in columns, the units' var lines, and the inverters'
+** lines.
+*/
 #ifndef IMPORT_SUMMARY_H
 #define IMPORT_SUMMARY_H
 
@@ -19,8 +21,25 @@ typedef char row[COLUMNS][CELL];
 void energy_texts(char *whole, char *kwh, joules energy);
 void time_texts(char *whole, char *hours, uint64_t seconds);
 
+/* Begin rows: the heading's, and below it so many that are numbered from 0. */
+void begin_rows(row *rows, const char *const *heading, int columns, unsigned count);
+
 /* Set the first so many cells of rows in columns. */
 void print_rows(row *rows, unsigned count, int columns);
+
+/* import_vars.c */
+
+/* A unit's var line: what the stick says of it, and the most vars that it provided and absorbed in a step. */
+struct var_line {
+    struct unit unit;
+    struct limits limits;
+    int64_t out, in;
+};
+
+/* The lines as the run has them; what the stick says, which gives COMPLETE, or FAILED and is told; and their print. */
+void see_vars(struct var_line *lines, const struct run *run);
+int ask_vars(struct var_line *lines, const struct stick *stick);
+void print_vars(const struct var_line *lines, const struct run *run);
 
 /* import_roof.c */
 

@@ -289,14 +289,11 @@ static void call_settle(const uint8_t *payload, size_t length)
     }
 }
 
-/* 'S': any number of steps. Each is seconds u32, rated, reserve and stored u64, rating, kva and idle loss u32,
-** var request i32, weight, inverter, charge and discharge u16, priority u8, request i32; for each what it
-** left, watts and vars i32, stored after and loss u64.
-*/
-static void call_step(const uint8_t *payload, size_t length)
+/* Takes the steps of a payload, with an edition and var limits or without. */
+static void call_steps(struct rest rest, int as)
 {
-    struct rest rest = {payload, length, "op S: the payload is no row of steps"};
     while (rest.length != 0) {
+        uint8_t edition = as ? (uint8_t)take_number(&rest, 1) : 1;
         uint32_t seconds = (uint32_t)take_number(&rest, 4);
         uint64_t rated = take_number(&rest, 8);
         uint64_t reserve = take_number(&rest, 8);
@@ -310,15 +307,37 @@ static void call_step(const uint8_t *payload, size_t length)
         uint16_t charge = (uint16_t)take_number(&rest, 2);
         uint16_t discharge = (uint16_t)take_number(&rest, 2);
         uint8_t priority = (uint8_t)take_number(&rest, 1);
+        uint32_t provide = as ? (uint32_t)take_number(&rest, 4) : 0;
+        uint32_t absorb = as ? (uint32_t)take_number(&rest, 4) : 0;
         int32_t request = (int32_t)take_number(&rest, 4);
         int32_t *watts = lend_number(&lent[FIRST], sizeof *watts);
         int32_t *vars = lend_number(&lent[SECOND], sizeof *vars);
         uint64_t *stored_after = lend_number(&lent[THIRD], sizeof *stored_after);
         uint64_t *loss = lend_number(&lent[FOURTH], sizeof *loss);
-        uint32_t number = yb_step(seconds, rated, reserve, stored, rating, kva, idle_loss, var_request, weight,
-            inverter, charge, discharge, priority, request, watts, vars, stored_after, loss);
+        uint32_t number = as
+            ? yb_step_as(edition, seconds, rated, reserve, stored, rating, kva, idle_loss, var_request, weight,
+                inverter, charge, discharge, priority, provide, absorb, request, watts, vars, stored_after, loss)
+            : yb_step(seconds, rated, reserve, stored, rating, kva, idle_loss, var_request, weight, inverter, charge,
+                discharge, priority, request, watts, vars, stored_after, loss);
         put_left(number, FIRST, FOURTH);
     }
+}
+
+/* 'S': any number of steps. Each is seconds u32, rated, reserve and stored u64, rating, kva and idle loss u32,
+** var request i32, weight, inverter, charge and discharge u16, priority u8, request i32; for each what it
+** left, watts and vars i32, stored after and loss u64.
+*/
+static void call_step(const uint8_t *payload, size_t length)
+{
+    call_steps((struct rest){payload, length, "op S: the payload is no row of steps"}, 0);
+}
+
+/* 'A': any number of steps of an edition. Each is edition u8, what a step of 'S' is up to the priority, provide and
+** absorb u32, request i32; for each what it left, as there.
+*/
+static void call_step_as(const uint8_t *payload, size_t length)
+{
+    call_steps((struct rest){payload, length, "op A: the payload is no row of steps of an edition"}, 1);
 }
 
 /* A double by its bits. */
@@ -460,9 +479,17 @@ static void call_one_unit(const uint8_t *file, uint32_t unit)
     put_file_left(number, FIRST, TWELFTH);
 }
 
+/* The same of the unit's var limits. */
+static void call_one_limits(const uint8_t *file, uint32_t unit)
+{
+    uint32_t *provide = lend_number(&lent[FIRST], sizeof *provide);
+    uint32_t *absorb = lend_number(&lent[SECOND], sizeof *absorb);
+    put_file_left(yb_var_limits(file, lent_file.length, unit, provide, absorb), FIRST, SECOND);
+}
+
 /* 'U': any number of files and units of them. Each is a count u32, that many unit numbers, u32, and the file;
-** for each unit number what it left: rated, reserve and stored u64, rating, kva and idle loss u32, var request
-** i32, weight, inverter, charge and discharge u16, priority u8.
+** for each unit number what yb_unit left: rated, reserve and stored u64, rating, kva and idle loss u32, var request
+** i32, weight, inverter, charge and discharge u16, priority u8; and what yb_var_limits left: provide and absorb u32.
 */
 static void call_unit(const uint8_t *payload, size_t length)
 {
@@ -471,8 +498,11 @@ static void call_unit(const uint8_t *payload, size_t length)
         uint64_t count = take_number(&rest, 4);
         const uint8_t *numbers = take(&rest, 4 * count);
         const uint8_t *file = take_file(&rest);
-        for (uint64_t i = 0; i < count; i++)
-            call_one_unit(file, (uint32_t)number_at(numbers + 4 * i, 4));
+        for (uint64_t i = 0; i < count; i++) {
+            uint32_t unit = (uint32_t)number_at(numbers + 4 * i, 4);
+            call_one_unit(file, unit);
+            call_one_limits(file, unit);
+        }
     }
 }
 
@@ -524,6 +554,7 @@ static const struct {
     {'P', call_pass},
     {'T', call_settle},
     {'S', call_step},
+    {'A', call_step_as},
     {'I', call_solar},
     {'C', call_check},
     {'V', call_value},

@@ -3,9 +3,10 @@
 **
 ** A file that begins like a run file is complete, with the units and the steps that its fleet and its last four
 ** bytes say, and with as many inverters as the highest byte of its seconds says, which is no part of the seconds here;
-** its units are all alike, and its run is a row of numbers. Steps of 0 to 7 seconds are for answers that the library
+** its units are all alike, and its run is a row of numbers. Steps of 0 to 8 seconds are for answers that the library
 ** never gives: such a step itself, a room of another size, a run that is refused, a power that is none, settings that
-** are refused, a last unit that is refused, an inverter's power that is none, and one above that of its array.
+** are refused, a last unit that is refused, an inverter's power that is none, one above that of its array, and var
+** limits of the last unit that are refused.
 **
 ** Any other file is read as seven decimal numbers with blanks between them, and these are the answers, in this
 ** order: the check's number, place and steps, the start and the length of the value part, the units, and the inverters.
@@ -102,6 +103,15 @@ uint32_t yb_unit(const uint8_t *file, size_t file_len, uint32_t unit, uint64_t *
     *var_request = -3;
     *weight = *inverter = *charge = *discharge = 4;
     *priority = 0;
+    return 0;
+}
+
+uint32_t yb_var_limits(const uint8_t *file, size_t file_len, uint32_t unit, uint32_t *provide, uint32_t *absorb)
+{
+    if (unit + (yb_seconds(file, file_len) == 8) >= yb_units(file, file_len))
+        return 10;
+    *provide = 1;
+    *absorb = 0;
     return 0;
 }
 

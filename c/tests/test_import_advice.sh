@@ -134,7 +134,6 @@ END
         advised "The length of $words is not the one that its tag has"
     done <<'END'
 0 0 the fleet
-113 0 the 3rd unit
 165 0 the settings
 180 0 the 1st inverter
 202 0 the 1st inverter's temperature curve

@@ -100,6 +100,25 @@ sum of requests 3 W, reading left 997 W: not within half the band (2 W) of the t
         call table "$stick" "$work/bad"
         good like "$status $output" "1 *: byte $place (*) is not there*"
     done
+    # The same in edition 2, with the stand-in's limits and its largest vars.
+    patch "$stick" 3 02
+    call summary "$stick" "$result"
+    good test "$status|$error|$(wc -l <"$work/output")" = '0||17'
+    good test "$(sed -n '8,12p' "$work/output")" = '
+unit  S_VA  request_var  provide_var  absorb_var     out_var  in_var
+   0     2           -3            1           0  2139062143       0
+   1     2           -3            1           0  2139062143       0
+   2     2           -3            1           0  2139062143       0'
+    # A last unit that is refused, and its limits, for which a stick of edition 1 is not asked.
+    for line in 5 8; do
+        patch "$stick" 3 01 03 "0200000$line"
+        call run "$stick" "$result"
+        call summary "$stick" "$result"
+        good test "$status|$error|$(wc -l <"$work/output")" = '0||12'
+        patch "$stick" 3 02
+        check 2 '' "import: $stick: $fault" summary "$stick" "$result"
+    done
+    patch "$stick" 3 01
     # A room of another size, a run that is refused, powers that are none, and one above that of its array.
     for line in '1 run' '2 run' '3 table' '6 table' '7 table' '6 summary' '7 summary'; do
         patch "$stick" 5 "0200000${line% *}"

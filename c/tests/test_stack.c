@@ -17,6 +17,7 @@ enum { STACK = 1 << 20, EDGE = 65536, MOST = 65536 };
 enum { UNITS = 64, STEPS = 8760, HEAD = 9 + 52 * UNITS + 15, FILE_LEN = HEAD + 27 * STEPS + 7 };
 enum { INVERTERS = 64, INVERTER = 22 + 132 + 132, ROOF_HEAD = HEAD + INVERTER * INVERTERS };
 enum { ROOF_LEN = ROOF_HEAD + (19 + 27) * STEPS + 7, TOO_LONG = 2097153 };
+enum { LIMITS = 8, LIMITED_LEN = FILE_LEN + LIMITS * UNITS };
 enum { RESULT_LEN = 40 * UNITS * STEPS + 7, ROOF_RESULT_LEN = (40 * UNITS + 29 * INVERTERS) * STEPS + 7 };
 
 static uint8_t *stack;
@@ -80,10 +81,12 @@ static void put(uint8_t *bytes, uint64_t number, int width)
         bytes[i] = (uint8_t)number;
 }
 
-/* The unit's field: each is another, with watts or vars first, and half of them with vars that touch the limit. */
-static void put_unit(uint8_t *field, unsigned unit)
+/* The unit's field: each is another, with watts or vars first, and half of them with vars that touch the limit. Gives
+** the place behind it, and in edition 2 behind its var limits.
+*/
+static uint8_t *put_unit(uint8_t *field, uint8_t edition, unsigned unit)
 {
-    put(field, 0x020031, 3);
+    put(field, edition == 1 ? 0x020031 : 0x020039, 3);
     put(field + 3, UINT64_C(10000000000000) - unit, 8);
     put(field + 11, 1000 * unit, 8);
     put(field + 19, UINT64_C(100000000000) * (unit + 1), 8);
@@ -96,6 +99,11 @@ static void put_unit(uint8_t *field, unsigned unit)
     put(field + 47, 9100 + unit, 2);
     put(field + 49, 9200 + unit, 2);
     put(field + 51, unit % 2, 1);
+    if (edition == 1)
+        return field + 52;
+    put(field + 52, 1000000 * unit, 4);
+    put(field + 56, 90000000 - 1000000 * unit, 4);
+    return field + 52 + LIMITS;
 }
 
 /* A curve of 16 points between two x, and its y between 0 and the most. */
@@ -130,21 +138,24 @@ static void put_double(uint8_t *bytes, double number)
     put(bytes, bits, 8);
 }
 
-/* The fleet, the units and the settings. */
-static void put_head(uint8_t mode)
+/* The fleet, the units and the settings. Gives the place behind them. */
+static uint8_t *put_head(uint8_t edition, uint8_t mode)
 {
+    uint8_t *at = file + 9;
     memset(file, 0, sizeof file);
-    put(file, 0x01000601, 4);
+    put(file, 0x010006, 3);
+    put(file + 3, edition, 1);
     put(file + 4, UNITS, 1);
     put(file + 5, 3600, 4);
     for (unsigned i = 0; i < UNITS; i++)
-        put_unit(file + 9 + 52 * i, i);
-    put(file + HEAD - 15, 0x03000C, 3);
-    put(file + HEAD - 12, mode, 1);
-    put(file + HEAD - 11, (uint32_t)(mode == 3 ? 5000 : 10000), 4);
-    put(file + HEAD - 7, 1000, 4);
-    put(file + HEAD - 3, 1000, 2);
-    put(file + HEAD - 1, 0, 1);
+        at = put_unit(at, edition, i);
+    put(at, 0x03000C, 3);
+    put(at + 3, mode, 1);
+    put(at + 4, (uint32_t)(mode == 3 ? 5000 : 10000), 4);
+    put(at + 8, 1000, 4);
+    put(at + 12, 1000, 2);
+    put(at + 14, 0, 1);
+    return at + 15;
 }
 
 /* Readings up and down, from less than a watt to the largest. */
@@ -171,19 +182,24 @@ static void put_end(uint8_t *field)
     put(field + 3, STEPS, 4);
 }
 
-/* A complete file without inverters and weather. */
+/* A complete file without inverters and weather, of either edition. */
+static void put_edition(uint8_t edition, uint8_t mode)
+{
+    uint8_t *at = put_head(edition, mode);
+    for (unsigned step = 0; step < STEPS; step++, at += 27)
+        put_reading(at, step);
+    put_end(at);
+}
+
 static void put_file(uint8_t mode)
 {
-    put_head(mode);
-    for (unsigned step = 0; step < STEPS; step++)
-        put_reading(file + HEAD + 27 * step, step);
-    put_end(file + FILE_LEN - 7);
+    put_edition(1, mode);
 }
 
 /* One with as many inverters as there can be, and weather in every step. */
 static void put_roof_file(uint8_t mode)
 {
-    put_head(mode);
+    put_head(1, mode);
     for (unsigned i = 0; i < INVERTERS; i++)
         put_inverter(file + HEAD + INVERTER * i, i);
     for (unsigned step = 0; step < STEPS; step++) {
@@ -292,27 +308,63 @@ static uint32_t ask_unit(size_t len, uint32_t unit)
 }
 
 /* Every unit, one that is not there, and refused files. */
-static void call_unit(void)
+static void expect_units(uint32_t (*ask)(size_t len, uint32_t unit), size_t len)
 {
     for (uint32_t unit = 0; unit < UNITS; unit++)
-        expect(ask_unit(FILE_LEN, unit), 0);
-    expect(ask_unit(FILE_LEN, UNITS), 10);
-    expect(ask_unit(FILE_LEN, UINT32_MAX), 10);
-    expect(ask_unit(FILE_LEN - 8, 0), 1);
-    expect(ask_unit(TOO_LONG, 0), 12);
+        expect(ask(len, unit), 0);
+    expect(ask(len, UNITS), 10);
+    expect(ask(len, UINT32_MAX), 10);
+    expect(ask(len - 8, 0), 1);
+    expect(ask(TOO_LONG, 0), 12);
 }
 
-/* The check of the longest head and a step's two fields, which the other calls about a file make as well. */
+static void call_unit(void)
+{
+    expect_units(ask_unit, FILE_LEN);
+}
+
+static uint32_t ask_limits(size_t len, uint32_t unit)
+{
+    uint32_t provide, absorb;
+    return yb_var_limits(file, len, unit, &provide, &absorb);
+}
+
+/* In either edition. */
+static void call_var_limits(void)
+{
+    put_edition(2, 1);
+    expect_units(ask_limits, LIMITED_LEN);
+    put_file(1);
+    expect_units(ask_limits, FILE_LEN);
+}
+
+/* The check of a complete file of any length, what the file says, and the check of it cut. */
+static void expect_complete(size_t len, uint64_t room)
+{
+    expect(yb_check(file, len), 0);
+    expect(yb_check_place(file, len), len);
+    expect(yb_check_steps(file, len), STEPS);
+    expect(yb_run_room(file, len), room);
+    expect(yb_units(file, len), UNITS);
+    expect(ask_unit(len, UNITS - 1), 0);
+    expect(yb_check(file, len - 8), 1);
+}
+
+/* The same in edition 2, and a limit beyond its unit's S. */
+static void call_limited_check(void)
+{
+    put_edition(2, 1);
+    expect_complete(LIMITED_LEN, RESULT_LEN);
+    put(file + 9 + 56, 90000001, 4);
+    expect(yb_check(file, LIMITED_LEN), 5);
+    put_file(1);
+}
+
+/* The same with the longest head and a step's two fields, which the other calls about a file check as well. */
 static void call_roof_check(void)
 {
     put_roof_file(1);
-    expect(yb_check(file, ROOF_LEN), 0);
-    expect(yb_check_place(file, ROOF_LEN), ROOF_LEN);
-    expect(yb_check_steps(file, ROOF_LEN), STEPS);
-    expect(yb_run_room(file, ROOF_LEN), ROOF_RESULT_LEN);
-    expect(yb_units(file, ROOF_LEN), UNITS);
-    expect(ask_unit(ROOF_LEN, UNITS - 1), 0);
-    expect(yb_check(file, ROOF_LEN - 8), 1);
+    expect_complete(ROOF_LEN, ROOF_RESULT_LEN);
     put_file(1);
 }
 
@@ -333,7 +385,19 @@ static void call_run(void)
     expect(yb_run(file, FILE_LEN - 8, result, RESULT_LEN), 1);
 }
 
-/* The same with 64 inverters. */
+/* The same in edition 2. */
+static void call_limited_run(void)
+{
+    for (uint8_t mode = 1; mode <= 3; mode++) {
+        put_edition(2, mode);
+        expect(yb_run(file, LIMITED_LEN, result, RESULT_LEN), 0);
+    }
+    expect(yb_run(file, LIMITED_LEN, result, RESULT_LEN - 1), 11);
+    expect(yb_run(file, LIMITED_LEN - 8, result, RESULT_LEN), 1);
+    put_file(1);
+}
+
+/* The same in edition 1 with 64 inverters. */
 static void call_roof_run(void)
 {
     for (uint8_t mode = 1; mode <= 3; mode++) {
@@ -413,6 +477,23 @@ static void call_step(void)
         }
 }
 
+/* The same in every edition, with limits above and below the vars, and refused for the edition and for a limit. */
+static void call_step_as(void)
+{
+    static const uint32_t limits[] = {0, 99999999, 100000000};
+    for (uint8_t edition = 0; edition <= 3; edition++)
+        for (int i = 0; i < 3; i++)
+            for (int32_t request = -100000000; request <= 100000000; request += 50000000) {
+                int32_t watts, vars;
+                uint64_t after, loss;
+                uint8_t priority = (uint8_t)(request / 50000000 & 1);
+                expect(yb_step_as(edition, 86400, UINT64_C(10000000000000), 1, UINT64_C(5000000000000), 100000000,
+                    99999999, 77777, -60000000, 10000, 9999, 8888, 7777, priority, limits[2 - i], limits[i], request,
+                    &watts, &vars, &after, &loss),
+                    edition == 1 || (edition == 2 && i == 1) ? 0 : 5);
+            }
+}
+
 /* On and off, with watts or vars first, in every part of curves of 16 points, and refused in every way. */
 static void call_solar(void)
 {
@@ -463,15 +544,19 @@ static const struct {
     {"yb_seconds", call_seconds},
     {"yb_settings", call_settings},
     {"yb_unit", call_unit},
+    {"yb_var_limits", call_var_limits},
+    {"the check and what a file says, in edition 2", call_limited_check},
     {"the check and what a file says, with 64 inverters", call_roof_check},
     {"yb_run_room", call_run_room},
     {"yb_run", call_run},
+    {"yb_run in edition 2", call_limited_run},
     {"yb_run with 64 inverters", call_roof_run},
     {"yb_watts", call_watts},
     {"yb_pass", call_pass},
     {"yb_settle", call_settle},
     {"yb_study", call_study},
     {"yb_step", call_step},
+    {"yb_step_as", call_step_as},
     {"yb_solar", call_solar},
 };
 

@@ -27,25 +27,44 @@ void check_file(const uint8_t *file, size_t len, uint32_t number, uint64_t place
 
 static void test_check_complete(void)
 {
-    uint8_t file[sizeof complete];
+    uint8_t file[sizeof complete], limited[sizeof complete + MORE];
     check_file(complete, sizeof complete, 0, 143, 4);
     /* No steps at all. */
     memcpy(file, complete, 76);
     memcpy(file + 76, "\x7F\0\4\0\0\0\0", 7);
     check_file(file, 83, 0, 83, 0);
+    check_file(limited, put_limited(limited, file, 83, 5000, 0), 0, 91, 0);
+}
+
+/* The fields of the complete file by their places, and its end; and those of the same in edition 2. */
+enum { FIELDS = 8 };
+static const size_t fields[] = {0, 9, 61, 76, 103, 106, 133, 136, 143};
+static const size_t limited_fields[] = {0, 9, 69, 84, 111, 114, 141, 144, 151};
+
+/* The same with limits, which may be 0 to 5,000, the S of its unit. */
+static size_t put_complete(uint8_t *file, uint32_t provide, uint32_t absorb)
+{
+    return put_limited(file, complete, sizeof complete, provide, absorb);
+}
+
+static void check_cut(const uint8_t *file, const size_t *places)
+{
+    uint32_t steps = 0;
+    for (int field = 0; field < FIELDS; field++) {
+        check_file(file, places[field], 8, places[field], steps);
+        for (size_t len = places[field] + 1; len < places[field + 1]; len++)
+            check_file(file, len, 1, places[field], steps);
+        steps += field >= 3;
+    }
 }
 
 /* Bytes that run out are no end. */
 static void test_check_cut(void)
 {
-    static const size_t fields[] = {0, 9, 61, 76, 103, 106, 133, 136, 143};
-    uint32_t steps = 0;
-    for (int field = 0; field < 8; field++) {
-        check_file(complete, fields[field], 8, fields[field], steps);
-        for (size_t len = fields[field] + 1; len < fields[field + 1]; len++)
-            check_file(complete, len, 1, fields[field], steps);
-        steps += field >= 3;
-    }
+    uint8_t limited[sizeof complete + MORE];
+    check_cut(complete, fields);
+    put_complete(limited, 5000, 0);
+    check_cut(limited, limited_fields);
     if (yb_check(NULL, 0) != 8 || yb_check_place(NULL, 0) != 0 || yb_check_steps(NULL, 0) != 0) {
         wrong++;
         fprintf(stderr, "no file at all: not 8 at 0 after 0\n");
@@ -71,14 +90,16 @@ static void test_check_changed(void)
     static const struct change changes[] = {
         {0, 0x00, 2, 0, 0}, {0, 0xFF, 2, 0, 0}, {0, 0x02, 3, 0, 0}, {1, 1, 3, 0, 0}, {2, 5, 3, 0, 0},
         /* edition, unit count, seconds */
-        {3, 0, 5, 0, 0}, {3, 2, 5, 0, 0}, {4, 0, 5, 0, 0}, {4, 65, 5, 0, 0}, {4, 255, 5, 0, 0}, {4, 2, 4, 61, 0},
-        {4, 64, 4, 61, 0}, {8, 0, 5, 0, 0}, {6, 2, 5, 0, 0}, {5, 0x80, 5, 0, 0}, {6, 1, 0, 143, 4},
+        {3, 0, 5, 0, 0}, {3, 2, 3, 9, 0}, {3, 3, 5, 0, 0}, {3, 4, 5, 0, 0}, {3, 255, 5, 0, 0}, {4, 0, 5, 0, 0},
+        {4, 65, 5, 0, 0}, {4, 255, 5, 0, 0}, {4, 2, 4, 61, 0}, {4, 64, 4, 61, 0}, {8, 0, 5, 0, 0}, {6, 2, 5, 0, 0},
+        {5, 0x80, 5, 0, 0}, {6, 1, 0, 143, 4},
         /* the unit */
-        {9, 0x7E, 2, 9, 0}, {9, 0x01, 3, 9, 0}, {11, 48, 3, 9, 0}, {12, 1, 5, 9, 0}, {20, 1, 5, 9, 0},
-        {25, 0x0F, 5, 9, 0}, {28, 0x80, 5, 9, 0}, {33, 0x10, 5, 9, 0}, {36, 0xFF, 5, 9, 0}, {40, 0xFF, 5, 9, 0},
-        {44, 1, 5, 9, 0}, {46, 0x20, 5, 9, 0}, {46, 0x11, 0, 143, 4}, {48, 0x80, 5, 9, 0}, {48, 0x7F, 5, 9, 0},
-        {48, 0xFF, 0, 143, 4}, {52, 0x40, 5, 9, 0}, {53, 0, 5, 9, 0}, {54, 0, 5, 9, 0}, {54, 0x28, 5, 9, 0},
-        {56, 0, 5, 9, 0}, {58, 0, 5, 9, 0}, {60, 1, 0, 143, 4}, {60, 2, 5, 9, 0}, {60, 255, 5, 9, 0},
+        {9, 0x7E, 2, 9, 0}, {9, 0x01, 3, 9, 0}, {11, 48, 3, 9, 0}, {11, 57, 3, 9, 0}, {12, 1, 5, 9, 0},
+        {20, 1, 5, 9, 0}, {25, 0x0F, 5, 9, 0}, {28, 0x80, 5, 9, 0}, {33, 0x10, 5, 9, 0}, {36, 0xFF, 5, 9, 0},
+        {40, 0xFF, 5, 9, 0}, {44, 1, 5, 9, 0}, {46, 0x20, 5, 9, 0}, {46, 0x11, 0, 143, 4}, {48, 0x80, 5, 9, 0},
+        {48, 0x7F, 5, 9, 0}, {48, 0xFF, 0, 143, 4}, {52, 0x40, 5, 9, 0}, {53, 0, 5, 9, 0}, {54, 0, 5, 9, 0},
+        {54, 0x28, 5, 9, 0}, {56, 0, 5, 9, 0}, {58, 0, 5, 9, 0}, {60, 1, 0, 143, 4}, {60, 2, 5, 9, 0},
+        {60, 255, 5, 9, 0},
         /* the settings */
         {61, 0x02, 3, 61, 0}, {64, 0, 5, 61, 0}, {64, 3, 0, 143, 4}, {64, 4, 5, 61, 0}, {65, 0x80, 5, 61, 0},
         {65, 0xFF, 0, 143, 4}, {69, 0xFF, 5, 61, 0}, {73, 4, 5, 61, 0}, {75, 5, 0, 143, 4}, {75, 6, 5, 61, 0},
@@ -95,10 +116,83 @@ static void test_check_changed(void)
     check_changes(complete, sizeof complete, changes, sizeof changes / sizeof changes[0]);
 }
 
+/* Limits of any size, of a unit whose S is 5,000. */
+static void test_check_limits(void)
+{
+    static const uint32_t within[] = {0, 1, 4999, 5000}, beyond[] = {5001, 100000000, UINT32_C(1) << 31, UINT32_MAX};
+    uint8_t file[sizeof complete + MORE];
+    for (int i = 0; i < 4; i++)
+        for (int j = 0; j < 4; j++) {
+            check_file(file, put_complete(file, within[i], within[j]), 0, 151, 4);
+            check_file(file, put_complete(file, within[i], beyond[j]), 5, 9, 0);
+            check_file(file, put_complete(file, beyond[i], within[j]), 5, 9, 0);
+            check_file(file, put_complete(file, beyond[i], beyond[j]), 5, 9, 0);
+        }
+    /* The limits that an S of 4,999 does not hold, and those of a second unit. */
+    static const struct change changes[] = {{43, 0x87, 5, 9, 0}, {43, 0x88, 0, 151, 4}};
+    put_complete(file, 5000, 0);
+    check_changes(file, sizeof file, changes, 2);
+    put_complete(file, 0, 5000);
+    check_changes(file, sizeof file, changes, 2);
+    uint8_t two[sizeof file + 60];
+    memcpy(two, file, 69);
+    two[4] = 2;
+    memcpy(two + 69, file + 9, sizeof file - 9);
+    check_file(two, sizeof two, 0, 211, 4);
+    two[69 + 59]++;
+    check_file(two, sizeof two, 5, 69, 0);
+}
+
+/* The file in edition 2 with one byte changed: its length is tested before its values. */
+static void test_check_limited(void)
+{
+    static const struct change changes[] = {
+        {3, 0, 5, 0, 0}, {3, 1, 3, 9, 0}, {3, 3, 5, 0, 0}, {3, 4, 5, 0, 0}, {3, 255, 5, 0, 0}, {4, 2, 4, 69, 0},
+        {10, 1, 3, 9, 0}, {11, 49, 3, 9, 0}, {11, 56, 3, 9, 0}, {11, 58, 3, 9, 0}, {60, 1, 0, 151, 4},
+        {60, 2, 5, 9, 0}, {61, 1, 5, 9, 0}, {64, 0xFF, 0, 151, 4}, {65, 1, 5, 9, 0}, {68, 0xFF, 0, 151, 4},
+        {69, 0x02, 3, 69, 0}, {72, 4, 5, 69, 0}, {87, 0x7F, 6, 84, 0}, {150, 3, 7, 144, 4},
+    };
+    uint8_t file[sizeof complete + MORE];
+    put_complete(file, 0, 0);
+    check_changes(file, sizeof file, changes, sizeof changes / sizeof changes[0]);
+    file[11] = 49;
+    file[12] = 1;
+    check_file(file, sizeof file, 3, 9, 0);
+}
+
+/* A unit where none may be has the length of its edition, and before any fleet that of edition 1, to be out of order.
+*/
+static void test_check_lone_unit(void)
+{
+    uint8_t file[2 * sizeof complete], limited[sizeof complete + MORE];
+    size_t len = put_complete(limited, 0, 0);
+    check_file(complete + 9, 52, 4, 0, 0);
+    check_file(complete + 9, 51, 1, 0, 0);
+    for (size_t cut = 3; cut <= 60; cut++)
+        check_file(limited + 9, cut, 3, 0, 0);
+    /* Behind the fleet's units, and behind the settings. */
+    for (int field = 2; field <= 3; field++) {
+        size_t place = fields[field], further = limited_fields[field];
+        memcpy(file, complete, place);
+        memcpy(file + place, complete + 9, 52);
+        check_file(file, place + 52, 4, place, 0);
+        memcpy(file + place, limited + 9, 60);
+        check_file(file, place + 60, 3, place, 0);
+        memcpy(file, limited, further);
+        memcpy(file + further, limited + 9, 60);
+        check_file(file, further + 60, 4, further, 0);
+        memcpy(file + further, complete + 9, 52);
+        check_file(file, further + 52, 3, further, 0);
+    }
+    /* Bytes behind the end are not looked at. */
+    memcpy(file, limited, len);
+    memcpy(file + len, complete + 9, 52);
+    check_file(file, len + 52, 9, len, 4);
+}
+
 /* Fields of the file in another order, by their numbers from 0. */
 static void test_check_order(void)
 {
-    static const size_t fields[] = {0, 9, 61, 76, 103, 106, 133, 136, 143};
     static const struct {
         const char *order;
         uint32_t number;
@@ -158,6 +252,9 @@ const struct test check_tests[] = {
     {"yb_check: files cut at every byte", test_check_cut},
     {"yb_check: bytes after the end", test_check_after},
     {"yb_check: single bytes changed", test_check_changed},
+    {"yb_check: var limits of any size", test_check_limits},
+    {"yb_check: edition 2, single bytes changed", test_check_limited},
+    {"yb_check: units of either length where none may be", test_check_lone_unit},
     {"yb_check: fields in another order", test_check_order},
     {"yb_check: as many steps and bytes as there can be", test_check_large},
     {NULL, NULL},

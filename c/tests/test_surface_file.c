@@ -1,4 +1,6 @@
-/* Complete files of any fleet, with values that are drawn, and files with one byte changed. */
+/* Complete files of any fleet, with values that are drawn, files of one unit in edition 2, and files with one byte
+** changed.
+*/
 #include <string.h>
 
 #include "test_surface.h"
@@ -25,17 +27,21 @@ static uint64_t draw_between(uint64_t least, uint64_t most)
     }
 }
 
-/* The bytes as they are put, the highest of a number first. */
-static uint8_t *put(uint8_t *at, uint64_t number, int width)
+uint8_t *put(uint8_t *at, uint64_t number, int width)
 {
     for (int i = width; i-- > 0; number >>= 8)
         at[i] = (uint8_t)number;
     return at + width;
 }
 
-static uint8_t *put_unit(uint8_t *at, const struct unit *unit)
+static uint8_t *put_limits(uint8_t *at, uint32_t provide, uint32_t absorb)
 {
-    at = put(at, 0x020031, 3);
+    return put(put(at, provide, 4), absorb, 4);
+}
+
+static uint8_t *put_unit(uint8_t *at, uint8_t edition, const struct unit *unit, const struct limits *limits)
+{
+    at = put(at, edition == 1 ? 0x020031 : 0x020039, 3);
     at = put(at, unit->rated, 8);
     at = put(at, unit->reserve, 8);
     at = put(at, unit->stored, 8);
@@ -47,7 +53,8 @@ static uint8_t *put_unit(uint8_t *at, const struct unit *unit)
     at = put(at, unit->inverter, 2);
     at = put(at, unit->charge, 2);
     at = put(at, unit->discharge, 2);
-    return put(at, unit->priority, 1);
+    at = put(at, unit->priority, 1);
+    return edition == 1 ? at : put_limits(at, limits->provide, limits->absorb);
 }
 
 static uint8_t *put_settings(uint8_t *at, const struct settings *settings)
@@ -102,11 +109,12 @@ static uint8_t *put_weather(uint8_t *at)
 
 void write_file(struct file *file)
 {
-    uint8_t *at = put(file->bytes, 0x01000601, 4);
+    uint8_t *at = put(file->bytes, 0x010006, 3);
+    at = put(at, file->edition, 1);
     at = put(at, file->units, 1);
     at = put(at, file->seconds, 4);
     for (size_t i = 0; i < file->units; i++)
-        at = put_unit(at, &file->unit[i]);
+        at = put_unit(at, file->edition, &file->unit[i], &file->limits[i]);
     at = put_settings(at, &file->settings);
     for (size_t i = 0; i < file->inverters; i++)
         at = put_inverter(at);
@@ -143,11 +151,15 @@ static struct unit draw_unit(void)
 
 void draw_file(struct file *file, size_t units)
 {
+    file->edition = 1;
     file->units = units;
     file->inverters = 0;
     file->seconds = (uint32_t)draw_between(1, 86400);
-    for (size_t i = 0; i < units; i++)
+    for (size_t i = 0; i < units; i++) {
         file->unit[i] = draw_unit();
+        file->limits[i].provide = (uint32_t)draw_between(0, file->unit[i].kva);
+        file->limits[i].absorb = (uint32_t)draw_between(0, file->unit[i].kva);
+    }
     file->settings = (struct settings){
         .mode = (uint8_t)(1 + draw(3)),
         .target = (int32_t)draw_between(0, 200000000) - 100000000,
@@ -156,6 +168,22 @@ void draw_file(struct file *file, size_t units)
         .phase = (uint8_t)draw(6),
     };
     write_file(file);
+}
+
+void set_edition(struct file *file, uint8_t edition)
+{
+    file->edition = edition;
+    write_file(file);
+}
+
+size_t put_limited(uint8_t *to, const uint8_t *file, size_t len, uint32_t provide, uint32_t absorb)
+{
+    enum { EDITION = 3, LENGTH = 11, UNIT_END = 61 };
+    memcpy(to, file, UNIT_END);
+    to[EDITION] = 2;
+    to[LENGTH] += MORE;
+    memcpy(put_limits(to + UNIT_END, provide, absorb), file + UNIT_END, len - UNIT_END);
+    return len + MORE;
 }
 
 void check_changes(const uint8_t *file, size_t len, const struct change *changes, size_t count)

@@ -1,20 +1,26 @@
-/* Complete files of any fleet, for the calls that say what a file holds, and files with one byte changed. */
+/* Complete files of any fleet, for the calls that say what a file holds, files of one unit in edition 2, and files with
+** one byte changed.
+*/
 #ifndef TEST_SURFACE_FILE_H
 #define TEST_SURFACE_FILE_H
 
 #include <stddef.h>
 #include <stdint.h>
 
-enum { MOST_UNITS = 64, MOST_INVERTERS = 64, MOST_HEAD = 9 + 52 * MOST_UNITS + 15 + 286 * MOST_INVERTERS };
+enum { MOST_UNITS = 64, MOST_INVERTERS = 64, MOST_HEAD = 9 + 60 * MOST_UNITS + 15 + 286 * MOST_INVERTERS };
 enum { MOST_FILE = MOST_HEAD + 27 + 19 + 3 + 7 };
 
-/* The values of a unit and the settings, in the order of the calls. */
+/* The values of a unit, its var limits and the settings, in the order of the calls. */
 struct unit {
     uint64_t rated, reserve, stored;
     uint32_t rating, kva, idle_loss;
     int32_t var_request;
     uint16_t weight, inverter, charge, discharge;
     uint8_t priority;
+};
+
+struct limits {
+    uint32_t provide, absorb;
 };
 
 struct settings {
@@ -26,24 +32,38 @@ struct settings {
 };
 
 /* What a file says, and its bytes: a head, a reading, a missing one with weather, and the end. Of the inverters, whose
-** values no call tells, there is only the number.
+** values no call tells, there is only the number. The limits stand in the bytes of an edition 2 file alone.
 */
 struct file {
+    uint8_t edition;
     size_t units, inverters;
     uint32_t seconds;
     struct unit unit[MOST_UNITS];
+    struct limits limits[MOST_UNITS];
     struct settings settings;
     uint8_t bytes[MOST_FILE];
     size_t len;
 };
 
+/* Put a number of so many bytes, the highest first. Gives the place behind it. */
+uint8_t *put(uint8_t *at, uint64_t number, int width);
+
 /* Write the bytes that say the rest. The values of the inverters are drawn. */
 void write_file(struct file *file);
 
-/* Draw a complete file of so many units, without inverters and weather. Each value is at its least or its most now and
-** then, and else anything between.
+/* Draw a complete file of edition 1 of so many units, without inverters and weather. Each value is at its least or its
+** most now and then, and else anything between.
 */
 void draw_file(struct file *file, size_t units);
+
+/* The same in another edition: the bytes are written anew. */
+void set_edition(struct file *file, uint8_t edition);
+
+/* Write a file of edition 1, whose fleet has one unit, anew in edition 2, with these limits of the unit. Gives its
+** length, which is MORE bytes more: the fields behind the unit are so much further.
+*/
+enum { MORE = 8 };
+size_t put_limited(uint8_t *to, const uint8_t *file, size_t len, uint32_t provide, uint32_t absorb);
 
 /* A byte of a file that is changed, and the check's number, place and steps then. */
 struct change {

@@ -6,6 +6,7 @@
 #include <sys/mman.h>
 
 #include "test_surface.h"
+#include "test_surface_file.h"
 #include "test_surface_roof.h"
 #include "yesbrulka.h"
 
@@ -119,6 +120,91 @@ static void test_run_figures(void)
     check_run(file, giving_file(file), giving_result, sizeof giving_result);
 }
 
+/* Where both limits are S an edition 2 file gives the result of edition 1; the units of the figures are asked no vars,
+** and give that result with any limits.
+*/
+static void test_run_wide_limits(void)
+{
+    uint8_t file[sizeof complete], limited[sizeof complete + MORE];
+    size_t len = giving_file(file);
+    check_run(limited, put_limited(limited, whole_case, sizeof whole_case, 100000000, 100000000), whole_result,
+        sizeof whole_result);
+    check_run(limited, put_limited(limited, file, len, 5000, 5000), giving_result, sizeof giving_result);
+    check_run(limited, put_limited(limited, file, len, 0, 0), giving_result, sizeof giving_result);
+}
+
+/* Figure D4 in a file of one unit, whose R and S are 1,000, and which is asked 1,000 W and 700 var or minus 700: vars
+** first and watts first with its limits, and vars first in edition 1; and what it gives in each of two steps.
+*/
+static const struct limited_run {
+    uint8_t edition;
+    int32_t var_request;
+    uint8_t priority;
+    uint32_t watts;
+    int32_t vars;
+    const char *kw;
+} limited_runs[] = {
+    {2, 700, 1, 800, 600, "\x3F\xE9\x99\x99\x99\x99\x99\x9A"},
+    {2, -700, 1, 953, -300, "\x3F\xEE\x7E\xF9\xDB\x22\xD0\xE5"},
+    {2, 700, 0, 1000, 0, "\x3F\xF0\0\0\0\0\0"},
+    {1, 700, 1, 714, 700, "\x3F\xE6\xD9\x16\x87\x2B\x02\x0C"},
+    {1, -700, 1, 714, -700, "\x3F\xE6\xD9\x16\x87\x2B\x02\x0C"},
+};
+
+/* A reading of 1 kW and a missing one. */
+static size_t limited_case(uint8_t *to, const struct limited_run *run)
+{
+    uint8_t file[sizeof complete];
+    memcpy(file, whole_case, 76);
+    put(file + 36, 1000, 4);
+    put(file + 40, 1000, 4);
+    put(file + 44, 0, 4);
+    put(file + 48, (uint32_t)run->var_request, 4);
+    file[60] = run->priority;
+    memcpy(file + 76, "\x04\0\x18\x3F\xF0\0\0\0\0\0\0", 11);
+    memset(file + 87, 0, 16);
+    memcpy(file + 103, "\x05\0\0\x7F\0\4\0\0\0\2", 10);
+    if (run->edition == 2)
+        return put_limited(to, file, 113, 600, 300);
+    memcpy(to, file, 113);
+    return 113;
+}
+
+/* Two steps of a minute, from 3,600,000 J and without losses. */
+static size_t limited_result(uint8_t *result, const struct limited_run *run)
+{
+    for (uint32_t step = 0; step < 2; step++) {
+        uint8_t *at = result + 40 * step;
+        memcpy(at, whole_result, 40);
+        put(at + 3, step, 4);
+        put(at + 8, 1000, 4);
+        memcpy(at + 12, run->kw, 8);
+        put(at + 20, (uint32_t)run->vars, 4);
+        put(at + 24, 3600000 - 60 * (step + 1) * run->watts, 8);
+        put(at + 32, 0, 8);
+    }
+    memcpy(result + 80, "\x1F\0\4\0\0\0\2", 7);
+    return 87;
+}
+
+static void test_run_limits(void)
+{
+    uint8_t file[sizeof complete + MORE], result[87];
+    for (size_t i = 0; i < sizeof limited_runs / sizeof limited_runs[0]; i++) {
+        size_t len = limited_case(file, &limited_runs[i]);
+        check_run(file, len, result, limited_result(result, &limited_runs[i]));
+        for (size_t cut = 0; cut < len; cut++)
+            refused_run(file, cut, yb_check(file, cut));
+    }
+    /* Limits beyond S. */
+    size_t len = limited_case(file, &limited_runs[0]);
+    file[63] = 0x04;
+    refused_run(file, len, 5);
+    file[63] = 0;
+    file[67] = 0x04;
+    refused_run(file, len, 5);
+}
+
 /* A unit that draws 1,000 W and an inverter of 8,000 VA, through four steps: 60 W of DC power, which is between cut-out
 ** and cut-in; 10,000 W, of which the limit leaves 5,000; 60 W again; and no weather.
 */
@@ -223,8 +309,8 @@ static void test_run_refused(void)
         size_t at;
         uint8_t byte;
         uint32_t number;
-    } changes[] = {{0, 0x7E, 2}, {2, 5, 3}, {4, 2, 4}, {3, 2, 5}, {4, 65, 5}, {53, 0, 5}, {64, 4, 5}, {79, 0x7F, 6},
-        {142, 3, 7}};
+    } changes[] = {{0, 0x7E, 2}, {2, 5, 3}, {4, 2, 4}, {3, 2, 3}, {3, 3, 5}, {4, 65, 5}, {53, 0, 5}, {64, 4, 5},
+        {79, 0x7F, 6}, {142, 3, 7}};
     for (size_t i = 0; i < sizeof changes / sizeof changes[0]; i++) {
         memcpy(file, complete, sizeof complete);
         file[changes[i].at] = changes[i].byte;
@@ -278,6 +364,8 @@ static void test_run_large(void)
 
 const struct test run_tests[] = {
     {"yb_run: the document's whole case, and figures D1 and D2 in a row", test_run_figures},
+    {"yb_run: edition 2, limits that change nothing", test_run_wide_limits},
+    {"yb_run: edition 2, figure D4, and edition 1 beside it", test_run_limits},
     {"yb_run: an inverter in four weathers", test_run_roof},
     {"yb_run: 64 units and 64 inverters", test_run_most_inverters},
     {"yb_run: no steps", test_run_no_steps},

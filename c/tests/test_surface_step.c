@@ -1,8 +1,9 @@
-/* The tests of yb_step. */
+/* The tests of yb_step and yb_step_as. */
 #include <inttypes.h>
 #include <stdio.h>
 
 #include "test_surface.h"
+#include "test_surface_file.h"
 #include "yesbrulka.h"
 
 /* A unit, the length of its step and its request, in the order of the call. */
@@ -16,6 +17,12 @@ struct step {
     int32_t request;
 };
 
+/* What yb_step_as takes beside it. */
+struct as {
+    uint8_t edition;
+    uint32_t provide, absorb;
+};
+
 /* The unit of the figures D1 to D3, with 500,000 J above its reserve. */
 static const struct step unit = {
     60, 1000000, 100000, 600000, 5000, 5000, 10, 0, 1, 9000, 8000, 8000, 0, 0,
@@ -27,18 +34,43 @@ static const struct step largest = {
     10000, 0, 0,
 };
 
-/* One step, made twice over different memory: the number, what it stores, and the words around it. */
-static void check_step(const struct step *s, uint32_t number, int32_t watts, int32_t vars, uint64_t after,
-    uint64_t loss)
+static uint32_t make_step(const struct as *as, const struct step *s, int32_t *watts, int32_t *vars, uint64_t *after,
+    uint64_t *loss)
+{
+    if (as == NULL)
+        return yb_step(s->seconds, s->rated, s->reserve, s->stored, s->rating, s->kva, s->idle_loss, s->var_request,
+            s->weight, s->inverter, s->charge, s->discharge, s->priority, s->request, watts, vars, after, loss);
+    return yb_step_as(as->edition, s->seconds, s->rated, s->reserve, s->stored, s->rating, s->kva, s->idle_loss,
+        s->var_request, s->weight, s->inverter, s->charge, s->discharge, s->priority, as->provide, as->absorb,
+        s->request, watts, vars, after, loss);
+}
+
+static void tell_call(const struct as *as, const struct step *s)
+{
+    if (as == NULL)
+        fprintf(stderr, "yb_step(");
+    else
+        fprintf(stderr, "yb_step_as in edition %u, limits %" PRIu32 " and %" PRIu32 " (", (unsigned)as->edition,
+            as->provide, as->absorb);
+    fprintf(stderr, "%" PRIu32 ", %" PRIu64 ", %" PRIu64 ", %" PRIu64 ", %" PRIu32 ", %" PRIu32 ", %" PRIu32
+        ", %" PRId32 ", %u, %u, %u, %u, %u, %" PRId32 "): ",
+        s->seconds, s->rated, s->reserve, s->stored, s->rating, s->kva, s->idle_loss, s->var_request,
+        (unsigned)s->weight, (unsigned)s->inverter, (unsigned)s->charge, (unsigned)s->discharge,
+        (unsigned)s->priority, s->request);
+}
+
+/* One step, made twice over different memory: the number, what it stores, and the words around it. It is a call of
+** yb_step, or else of yb_step_as.
+*/
+static void check_call(const struct as *as, const struct step *s, uint32_t number, int32_t watts, int32_t vars,
+    uint64_t after, uint64_t loss)
 {
     for (int i = 0; i < 2; i++) {
         int32_t fill = i == 0 ? 0x5A5A5A5A : -1;
         uint64_t long_fill = i == 0 ? UINT64_C(0x5A5A5A5A5A5A5A5A) : UINT64_MAX;
         int32_t w[3] = {fill, fill, fill}, v[3] = {fill, fill, fill};
         uint64_t a[3] = {long_fill, long_fill, long_fill}, l[3] = {long_fill, long_fill, long_fill};
-        uint32_t got = yb_step(s->seconds, s->rated, s->reserve, s->stored, s->rating, s->kva, s->idle_loss,
-            s->var_request, s->weight, s->inverter, s->charge, s->discharge, s->priority, s->request, &w[1], &v[1],
-            &a[1], &l[1]);
+        uint32_t got = make_step(as, s, &w[1], &v[1], &a[1], &l[1]);
         int stored = number == 0
             ? w[1] == watts && v[1] == vars && a[1] == after && l[1] == loss
             : w[1] == fill && v[1] == fill && a[1] == long_fill && l[1] == long_fill;
@@ -46,28 +78,51 @@ static void check_step(const struct step *s, uint32_t number, int32_t watts, int
             a[2] == long_fill && l[0] == long_fill && l[2] == long_fill;
         if (got != number || !stored || !around) {
             wrong++;
-            fprintf(stderr,
-                "yb_step(%" PRIu32 ", %" PRIu64 ", %" PRIu64 ", %" PRIu64 ", %" PRIu32 ", %" PRIu32 ", %" PRIu32
-                ", %" PRId32 ", %u, %u, %u, %u, %u, %" PRId32 "): number %" PRIu32 ", %" PRId32 " W, %" PRId32
-                " var, %" PRIu64 " J, lost %" PRIu64 " J; expected %" PRIu32 ", %" PRId32 ", %" PRId32 ", %" PRIu64
-                ", %" PRIu64 "%s\n",
-                s->seconds, s->rated, s->reserve, s->stored, s->rating, s->kva, s->idle_loss, s->var_request,
-                (unsigned)s->weight, (unsigned)s->inverter, (unsigned)s->charge, (unsigned)s->discharge,
-                (unsigned)s->priority, s->request, got, w[1], v[1], a[1], l[1], number, watts, vars, after, loss,
+            tell_call(as, s);
+            fprintf(stderr, "number %" PRIu32 ", %" PRId32 " W, %" PRId32 " var, %" PRIu64 " J, lost %" PRIu64
+                " J; expected %" PRIu32 ", %" PRId32 ", %" PRId32 ", %" PRIu64 ", %" PRIu64 "%s\n",
+                got, w[1], v[1], a[1], l[1], number, watts, vars, after, loss,
                 around ? "" : "; memory beside them changed");
         }
     }
 }
 
+/* The step of a unit without limits: yb_step; in edition 1 limits of any size, which are not looked at; and in edition
+** 2 limits of S.
+*/
+static void check_step(const struct step *s, uint32_t number, int32_t watts, int32_t vars, uint64_t after,
+    uint64_t loss)
+{
+    const struct as ways[] = {{1, 0, 0}, {1, 7, s->kva}, {1, s->kva + 1, 3}, {1, UINT32_MAX, UINT32_MAX},
+        {2, s->kva, s->kva}};
+    check_call(NULL, s, number, watts, vars, after, loss);
+    for (size_t i = 0; i < sizeof ways / sizeof ways[0]; i++)
+        check_call(&ways[i], s, number, watts, vars, after, loss);
+}
+
+static const int32_t any_requests[] = {0, 1, -1, 5001, INT32_MAX, INT32_MIN};
+enum { ANY_REQUESTS = sizeof any_requests / sizeof any_requests[0] };
+
 /* Refused with 5, whatever the request. */
 static void refused_step(const struct step *s)
 {
-    static const int32_t requests[] = {0, 1, -1, 5001, INT32_MAX, INT32_MIN};
     struct step step = *s;
-    for (size_t i = 0; i < sizeof requests / sizeof requests[0]; i++) {
-        step.request = requests[i];
+    for (int i = 0; i < ANY_REQUESTS; i++) {
+        step.request = any_requests[i];
         check_step(&step, 5, 0, 0, 0, 0);
     }
+}
+
+/* The same where it is the edition or a limit that is refused, with either priority. */
+static void refused_as(uint8_t edition, uint32_t provide, uint32_t absorb, const struct step *s)
+{
+    struct as as = {edition, provide, absorb};
+    struct step step = *s;
+    for (int i = 0; i < ANY_REQUESTS; i++)
+        for (step.priority = 0; step.priority <= 1; step.priority++) {
+            step.request = any_requests[i];
+            check_call(&as, &step, 5, 0, 0, 0, 0);
+        }
 }
 
 /* The unit with a request and a store. */
@@ -272,13 +327,112 @@ static void test_step_requests(void)
     }
 }
 
+/* The unit of figure D4, without losses and with limits of its own. */
+static const struct step limited = {
+    1, 1000000, 0, 500000, 5000, 1000, 0, 0, 1, 10000, 10000, 10000, 0, 0,
+};
+
+/* One step of it in edition 2, asked watts and vars: what it gives of both. */
+static void check_limited(struct limits limits, uint8_t priority, int32_t request, int32_t var_request, int32_t watts,
+    int32_t vars)
+{
+    struct as as = {2, limits.provide, limits.absorb};
+    struct step s = limited;
+    s.priority = priority;
+    s.request = request;
+    s.var_request = var_request;
+    check_call(&as, &s, 0, watts, vars, (uint64_t)(500000 - watts), 0);
+}
+
+/* Figure D4, and each direction with its own limit. */
+static void test_step_limits(void)
+{
+    static const struct limits d4 = {600, 300};
+    static const int32_t beyond[] = {700, 1000, 1001, 100000000};
+    for (uint8_t priority = 0; priority <= 1; priority++) {
+        for (int i = 0; i < 4; i++) {
+            check_limited(d4, priority, 0, beyond[i], 0, 600);
+            check_limited(d4, priority, 0, -beyond[i], 0, -300);
+        }
+        for (int32_t v = 598; v <= 602; v++)
+            check_limited(d4, priority, 0, v, 0, v < 600 ? v : 600);
+        for (int32_t v = -302; v <= 1; v++)
+            check_limited(d4, priority, 0, v, 0, v > -300 ? v : -300);
+    }
+    for (int sign = -1; sign <= 1; sign += 2) {
+        check_limited(d4, 1, sign * 1000, 700, sign * 800, 600);
+        check_limited(d4, 1, sign * 1000, -700, sign * 953, -300);
+        check_limited(d4, 1, sign * 1000, 300, sign * 953, 300);
+        check_limited(d4, 1, sign * 799, 700, sign * 799, 600);
+        check_limited(d4, 1, sign * 801, 700, sign * 800, 600);
+        /* Watts first: what the circle leaves, where it is less than the limit. */
+        check_limited(d4, 0, sign * 1000, 700, sign * 1000, 0);
+        check_limited(d4, 0, sign * 900, 700, sign * 900, 435);
+        check_limited(d4, 0, sign * 801, 700, sign * 801, 598);
+        check_limited(d4, 0, sign * 800, 700, sign * 800, 600);
+        check_limited(d4, 0, sign * 900, -700, sign * 900, -300);
+        check_limited(d4, 0, sign * 999, -700, sign * 999, -44);
+    }
+}
+
+/* Limits of nothing, of which one is enough to shut a direction; and limits of S, which leave the circle alone. */
+static void test_step_limit_ends(void)
+{
+    static const struct limits none = {0, 0}, provide = {1000, 0}, absorb = {0, 1000}, both = {1000, 1000};
+    for (int32_t v = 1; v <= 100000000; v *= 10)
+        for (int sign = -1; sign <= 1; sign += 2)
+            for (uint8_t priority = 0; priority <= 1; priority++) {
+                int32_t all = v < 1000 ? v : 1000;
+                check_limited(none, priority, sign * 1000, v, sign * 1000, 0);
+                check_limited(none, priority, sign * 1000, -v, sign * 1000, 0);
+                check_limited(absorb, priority, sign * 1000, v, sign * 1000, 0);
+                check_limited(provide, priority, sign * 1000, -v, sign * 1000, 0);
+                check_limited(none, priority, 0, sign * v, 0, 0);
+                check_limited(provide, priority, 0, v, 0, all);
+                check_limited(absorb, priority, 0, -v, 0, -all);
+                check_limited(both, priority, 0, sign * v, 0, sign * all);
+            }
+    check_limited(both, 1, 1000, 700, 714, 700);
+    check_limited(both, 1, 1000, 1001, 0, 1000);
+}
+
+/* Limits beyond S, and editions that there are not. */
+static void test_step_editions(void)
+{
+    static const uint32_t beyond[] = {1001, 1256, 100000000, 100000001, UINT32_C(1) << 31, UINT32_MAX};
+    static const uint8_t editions[] = {0, 3, 4, 127, 128, 255};
+    for (int i = 0; i < 6; i++) {
+        refused_as(2, beyond[i], 0, &limited);
+        refused_as(2, 0, beyond[i], &limited);
+        refused_as(2, beyond[i], beyond[i], &limited);
+        refused_as(editions[i], 600, 300, &limited);
+        refused_as(editions[i], 0, 0, &limited);
+        refused_as(editions[i], beyond[i], 1000, &limited);
+    }
+    /* The largest, and one beyond it. */
+    struct as as = {2, 100000000, 100000000};
+    struct step s = largest;
+    s.var_request = INT32_C(-100000000);
+    check_call(&as, &s, 0, 0, INT32_C(-100000000), UINT64_C(10000000000000), 0);
+    refused_as(2, 100000001, 0, &largest);
+    refused_as(2, 0, 100000001, &largest);
+    /* A request beyond the rating comes last. */
+    s = limited;
+    s.request = 5001;
+    as = (struct as){2, 1000, 0};
+    check_call(&as, &s, 10, 0, 0, 0, 0);
+}
+
 const struct test step_tests[] = {
-    {"yb_step: the document's figures D1 to D3 and E1", test_step_figures},
-    {"yb_step: idling", test_step_idling},
-    {"yb_step: the last joule", test_step_last_joule},
-    {"yb_step: the kVA circle and the priority", test_step_circle},
-    {"yb_step: the largest numbers", test_step_largest},
-    {"yb_step: values outside their ranges", test_step_values},
-    {"yb_step: requests beyond the rating", test_step_requests},
+    {"yb_step, yb_step_as: the document's figures D1 to D3 and E1", test_step_figures},
+    {"yb_step, yb_step_as: idling", test_step_idling},
+    {"yb_step, yb_step_as: the last joule", test_step_last_joule},
+    {"yb_step, yb_step_as: the kVA circle and the priority", test_step_circle},
+    {"yb_step, yb_step_as: the largest numbers", test_step_largest},
+    {"yb_step, yb_step_as: values outside their ranges", test_step_values},
+    {"yb_step, yb_step_as: requests beyond the rating", test_step_requests},
+    {"yb_step_as: figure D4, and var limits either way", test_step_limits},
+    {"yb_step_as: limits of nothing and of S", test_step_limit_ends},
+    {"yb_step_as: limits beyond S, and other editions", test_step_editions},
     {NULL, NULL},
 };

@@ -69,7 +69,7 @@ static void settle(struct study *right, const struct file *file, int64_t load, u
     }
 }
 
-/* The same, in every mode and with every phase choice. */
+/* The same, in every mode, with every phase choice and in every edition. */
 static void check_same(struct file *file, int64_t load, uint32_t budget)
 {
     struct study right;
@@ -77,7 +77,7 @@ static void check_same(struct file *file, int64_t load, uint32_t budget)
     for (uint8_t mode = 1; mode <= 3; mode++) {
         file->settings.mode = mode;
         file->settings.phase = (uint8_t)draw(6);
-        write_file(file);
+        set_edition(file, (uint8_t)(1 + draw(2)));
         check_study(file->bytes, file->len, load, budget, file->units, 0, &right);
     }
 }
@@ -86,7 +86,8 @@ static void check_same(struct file *file, int64_t load, uint32_t budget)
 static void figure_file(struct file *file)
 {
     static const struct unit unit = {1000, 100, 500, 100, 1000, 0, 0, 1, 10000, 10000, 10000, 0};
-    *file = (struct file){.units = 2, .seconds = 60, .unit = {unit, unit}, .settings = {1, 700, 20, 1000, 0}};
+    *file = (struct file){.edition = 1, .units = 2, .seconds = 60, .unit = {unit, unit},
+        .settings = {1, 700, 20, 1000, 0}};
     file->unit[1].rating = 1000;
     write_file(file);
 }
@@ -189,8 +190,8 @@ static void test_study_refused(void)
         size_t at;
         uint8_t byte;
         uint32_t number;
-    } changes[] = {{0, 0x7E, 2}, {2, 5, 3}, {4, 3, 4}, {3, 2, 5}, {4, 0, 5}, {4, 65, 5}, {53, 0, 5}, {116, 4, 5},
-        {127, 6, 5}, {131, 0x7F, 6}, {164, 3, 7}};
+    } changes[] = {{0, 0x7E, 2}, {2, 5, 3}, {4, 3, 4}, {3, 2, 3}, {3, 3, 5}, {4, 0, 5}, {4, 65, 5}, {53, 0, 5},
+        {116, 4, 5}, {127, 6, 5}, {131, 0x7F, 6}, {164, 3, 7}};
     enum { TOO_LONG = 2097153 };
     struct file file;
     uint8_t *bytes = calloc(1, TOO_LONG);

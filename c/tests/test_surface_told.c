@@ -1,4 +1,5 @@
-/* The tests of yb_units, yb_inverters, yb_seconds, yb_settings and yb_unit: what a complete file says. */
+/* The tests of yb_units, yb_inverters, yb_seconds, yb_settings, yb_unit and yb_var_limits: what a complete file says.
+*/
 #include <inttypes.h>
 #include <stdio.h>
 #include <stdlib.h>
@@ -8,7 +9,7 @@
 #include "test_surface_file.h"
 #include "yesbrulka.h"
 
-/* What yb_settings and yb_unit write, each number between two of its kind. */
+/* What yb_settings, yb_unit and yb_var_limits write, each number between two of its kind. */
 struct told_settings {
     uint8_t mode[3];
     int32_t target[3];
@@ -24,6 +25,17 @@ struct told_unit {
     uint16_t weight[3], inverter[3], charge[3], discharge[3];
     uint8_t priority[3];
 };
+
+struct told_limits {
+    uint32_t provide[3], absorb[3];
+};
+
+/* The memory of a call, and the same as it is due where nothing is written; another at the end of the pages. */
+static void paint(void *told, void *due, size_t len, int at_end)
+{
+    memset(told, at_end ? 0x5A : 0xFF, len);
+    memcpy(due, told, len);
+}
 
 /* The numbers of units and inverters and the seconds, of a file at the start and at the end of its pages; all three are
 ** 0 for a refused file.
@@ -49,8 +61,7 @@ static void check_settings(const uint8_t *file, size_t len, uint32_t number, con
 {
     for (int at_end = 0; at_end < 2; at_end++) {
         struct told_settings told, due;
-        memset(&told, at_end ? 0x5A : 0xFF, sizeof told);
-        memcpy(&due, &told, sizeof due);
+        paint(&told, &due, sizeof due, at_end);
         if (number == 0) {
             due.mode[1] = settings->mode;
             due.target[1] = settings->target;
@@ -92,8 +103,7 @@ static void check_unit(const uint8_t *file, size_t len, uint32_t which, uint32_t
 {
     for (int at_end = 0; at_end < 2; at_end++) {
         struct told_unit told, due;
-        memset(&told, at_end ? 0x5A : 0xFF, sizeof told);
-        memcpy(&due, &told, sizeof due);
+        paint(&told, &due, sizeof due, at_end);
         if (number == 0)
             put_unit(&due, unit);
         uint32_t got = yb_unit(lend(file, len, at_end), len, which, &told.rated[1], &told.reserve[1], &told.stored[1],
@@ -107,22 +117,67 @@ static void check_unit(const uint8_t *file, size_t len, uint32_t which, uint32_t
     }
 }
 
+/* The same for its var limits. */
+static void check_limits(const uint8_t *file, size_t len, uint32_t which, uint32_t number, const struct limits *limits)
+{
+    for (int at_end = 0; at_end < 2; at_end++) {
+        struct told_limits told, due;
+        paint(&told, &due, sizeof due, at_end);
+        if (number == 0) {
+            due.provide[1] = limits->provide;
+            due.absorb[1] = limits->absorb;
+        }
+        uint32_t got = yb_var_limits(lend(file, len, at_end), len, which, &told.provide[1], &told.absorb[1]);
+        if (got != number || memcmp(&told, &due, sizeof due) != 0) {
+            wrong++;
+            fprintf(stderr, "yb_var_limits, unit %" PRIu32 " of a file of %zu bytes: %" PRIu32 ", %" PRIu32 " and %"
+                PRIu32 "; expected %" PRIu32 ", %" PRIu32 " and %" PRIu32 "\n",
+                which, len, got, told.provide[1], told.absorb[1], number, due.provide[1], due.absorb[1]);
+        }
+    }
+}
+
+/* A unit that the file has; in edition 1 its S is both its limits. */
+static void check_there(const struct file *file, uint32_t which)
+{
+    const struct unit *unit = &file->unit[which];
+    struct limits kva = {unit->kva, unit->kva};
+    check_unit(file->bytes, file->len, which, 0, unit);
+    check_limits(file->bytes, file->len, which, 0, file->edition == 1 ? &kva : &file->limits[which]);
+}
+
+/* Nothing of a unit, for it is not there or its file is refused. */
+static void not_told(const uint8_t *file, size_t len, uint32_t which, uint32_t number)
+{
+    check_unit(file, len, which, number, NULL);
+    check_limits(file, len, which, number, NULL);
+}
+
 /* All of what a file says, and nothing of units that it has not. */
 static void check_told(const struct file *file)
 {
     check_site(file->bytes, file->len, (uint32_t)file->units, (uint32_t)file->inverters, file->seconds);
     check_settings(file->bytes, file->len, 0, &file->settings);
-    for (uint32_t which = 0; which < 256; which++)
-        if (which < file->units)
-            check_unit(file->bytes, file->len, which, 0, &file->unit[which]);
-        else
-            check_unit(file->bytes, file->len, which, 10, NULL);
+    for (uint32_t which = 0; which < file->units; which++)
+        check_there(file, which);
+    for (uint32_t which = (uint32_t)file->units; which < 256; which++)
+        not_told(file->bytes, file->len, which, 10);
     /* Numbers that a narrower count would take for one of the fleet. */
     for (int bit = 8; bit < 32; bit++)
         for (uint32_t low = 0; low < 2; low++)
-            check_unit(file->bytes, file->len, (UINT32_C(1) << bit) + low, 10, NULL);
-    check_unit(file->bytes, file->len, UINT32_MAX, 10, NULL);
-    check_unit(file->bytes, file->len, UINT32_MAX / 52, 10, NULL);
+            not_told(file->bytes, file->len, (UINT32_C(1) << bit) + low, 10);
+    not_told(file->bytes, file->len, UINT32_MAX, 10);
+    not_told(file->bytes, file->len, UINT32_MAX / 52, 10);
+    not_told(file->bytes, file->len, UINT32_MAX / 60, 10);
+}
+
+/* The same of the file in every edition. */
+static void check_editions(struct file *file)
+{
+    for (uint8_t edition = 1; edition <= 2; edition++) {
+        set_edition(file, edition);
+        check_told(file);
+    }
 }
 
 /* Nothing of a file that is not complete; its number comes before that of the unit. */
@@ -132,7 +187,14 @@ static void refused_told(const uint8_t *file, size_t len, uint32_t number)
     check_site(file, len, 0, 0, 0);
     check_settings(file, len, number, NULL);
     for (size_t i = 0; i < sizeof units / sizeof units[0]; i++)
-        check_unit(file, len, units[i], number, NULL);
+        not_told(file, len, units[i], number);
+}
+
+/* The file cut at every byte. */
+static void cut_told(const struct file *file)
+{
+    for (size_t len = 0; len < file->len; len++)
+        refused_told(file->bytes, len, yb_check(file->bytes, len));
 }
 
 static void test_told_complete(void)
@@ -141,7 +203,7 @@ static void test_told_complete(void)
     for (size_t units = 1; units <= 64; units += units < 4 || units > 61 ? 1 : 19)
         for (int times = 0; times < 3; times++) {
             draw_file(&file, units);
-            check_told(&file);
+            check_editions(&file);
         }
 }
 
@@ -153,15 +215,13 @@ static void test_told_roof(void)
         for (size_t units = 1; units <= 64; units += 63) {
             draw_file(&file, units);
             file.inverters = inverters;
-            write_file(&file);
-            check_told(&file);
+            check_editions(&file);
         }
     /* Cut at every byte, and one inverter too many. */
     draw_file(&file, 1);
     file.inverters = 2;
     write_file(&file);
-    for (size_t len = 0; len < file.len; len++)
-        refused_told(file.bytes, len, yb_check(file.bytes, len));
+    cut_told(&file);
     enum { HEAD = 76, INVERTER = 286 };
     uint8_t *bytes = calloc(1, HEAD + 65 * INVERTER + 7);
     if (bytes == NULL)
@@ -182,15 +242,16 @@ static void test_told_limits(void)
     static const struct unit least = {1, 0, 0, 1, 1, 0, -100000000, 1, 1000, 1000, 1000, 0};
     static const struct unit most = {UINT64_C(10000000000000), UINT64_C(10000000000000), UINT64_C(10000000000000),
         100000000, 100000000, 10000000, 100000000, 10000, 10000, 10000, 10000, 1};
-    struct file file = {.units = 2, .seconds = 1, .unit = {least, most}, .settings = {1, -100000000, 0, 1, 0}};
-    write_file(&file);
-    check_told(&file);
+    struct file file = {.units = 2, .seconds = 1, .unit = {least, most}, .limits = {{0, 1}, {0, 100000000}},
+        .settings = {1, -100000000, 0, 1, 0}};
+    check_editions(&file);
     file.seconds = 86400;
     file.unit[0] = most;
     file.unit[1] = least;
+    file.limits[0] = (struct limits){100000000, 0};
+    file.limits[1] = (struct limits){1, 0};
     file.settings = (struct settings){3, 100000000, 200000000, 1000, 5};
-    write_file(&file);
-    check_told(&file);
+    check_editions(&file);
 }
 
 /* The steps after the settings do not matter: none, and as many as there can be. */
@@ -202,17 +263,20 @@ static void test_told_steps(void)
     if (bytes == NULL)
         give_up("no memory for a large file");
     draw_file(&file, 1);
+    struct limits kva = {file.unit[0].kva, file.unit[0].kva};
     memcpy(bytes, file.bytes, HEAD);
     memcpy(bytes + HEAD, "\x7F\0\4\0\0\0\0", 7);
     check_site(bytes, HEAD + 7, 1, 0, file.seconds);
     check_settings(bytes, HEAD + 7, 0, &file.settings);
     check_unit(bytes, HEAD + 7, 0, 0, &file.unit[0]);
+    check_limits(bytes, HEAD + 7, 0, 0, &kva);
     for (int step = 0; step < STEPS; step++)
         memcpy(bytes + HEAD + 3 * step, "\x05\0\0", 3);
     memcpy(bytes + LEN - 7, "\x7F\0\4\0\0\xFF\xFF", 7);
     check_site(bytes, LEN, 1, 0, file.seconds);
     check_settings(bytes, LEN, 0, &file.settings);
     check_unit(bytes, LEN, 0, 0, &file.unit[0]);
+    check_limits(bytes, LEN, 0, 0, &kva);
     bytes[LEN - 1]--;
     refused_told(bytes, LEN, 7);
     free(bytes);
@@ -222,8 +286,9 @@ static void test_told_cut(void)
 {
     struct file file;
     draw_file(&file, 3);
-    for (size_t len = 0; len < file.len; len++)
-        refused_told(file.bytes, len, yb_check(file.bytes, len));
+    cut_told(&file);
+    set_edition(&file, 2);
+    cut_told(&file);
     check_site(NULL, 0, 0, 0, 0);
     if (yb_units(NULL, 0) != 0 || yb_inverters(NULL, 0) != 0 || yb_seconds(NULL, 0) != 0) {
         wrong++;
@@ -238,8 +303,8 @@ static void test_told_refused(void)
         size_t at;
         uint8_t byte;
         uint32_t number;
-    } changes[] = {{0, 0x7E, 2}, {2, 5, 3}, {4, 2, 4}, {3, 2, 5}, {4, 0, 5}, {4, 65, 5}, {53, 0, 5}, {64, 4, 5},
-        {75, 6, 5}, {79, 0x7F, 6}, {142, 3, 7}};
+    } changes[] = {{0, 0x7E, 2}, {2, 5, 3}, {4, 2, 4}, {3, 2, 3}, {3, 3, 5}, {4, 0, 5}, {4, 65, 5}, {53, 0, 5},
+        {64, 4, 5}, {75, 6, 5}, {79, 0x7F, 6}, {142, 3, 7}};
     enum { TOO_LONG = 2097153 };
     uint8_t *file = calloc(1, TOO_LONG);
     if (file == NULL)
@@ -253,15 +318,18 @@ static void test_told_refused(void)
     refused_told(file, sizeof complete + 1, 9);
     refused_told(file, TOO_LONG - 1, 9);
     refused_told(file, TOO_LONG, 12);
+    /* Limits, of a unit whose S is 5,000. */
+    refused_told(file, put_limited(file, complete, sizeof complete, 5001, 0), 5);
+    refused_told(file, put_limited(file, complete, sizeof complete, 0, 5001), 5);
     free(file);
 }
 
 const struct test told_tests[] = {
-    {"yb_units, yb_seconds, yb_settings, yb_unit: complete files", test_told_complete},
-    {"yb_units, yb_seconds, yb_settings, yb_unit: values at their limits", test_told_limits},
-    {"yb_inverters, yb_units, yb_seconds, yb_settings, yb_unit: files with inverters", test_told_roof},
-    {"yb_units, yb_seconds, yb_settings, yb_unit: no steps, and all that there can be", test_told_steps},
-    {"yb_units, yb_seconds, yb_settings, yb_unit: files cut at every byte", test_told_cut},
-    {"yb_units, yb_seconds, yb_settings, yb_unit: refused files", test_told_refused},
+    {"yb_units, yb_seconds, yb_settings, yb_unit, yb_var_limits: complete files", test_told_complete},
+    {"yb_units, yb_seconds, yb_settings, yb_unit, yb_var_limits: values at their limits", test_told_limits},
+    {"yb_inverters, yb_units, yb_seconds, yb_settings, yb_unit, yb_var_limits: files with inverters", test_told_roof},
+    {"yb_units, yb_seconds, yb_settings, yb_unit, yb_var_limits: no steps, and all that there can be", test_told_steps},
+    {"yb_units, yb_seconds, yb_settings, yb_unit, yb_var_limits: files cut at every byte", test_told_cut},
+    {"yb_units, yb_seconds, yb_settings, yb_unit, yb_var_limits: refused files", test_told_refused},
     {NULL, NULL},
 };

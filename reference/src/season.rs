@@ -57,7 +57,7 @@ pub struct Step {
 ///
 /// If a value is outside its range, which no accepted file's is.
 pub fn steps(run: &Run) -> Vec<Step> {
-    let Site { seconds, units, settings, phase, inverters, .. } = &run.site;
+    let Site { edition, seconds, units, settings, phase, inverters } = &run.site;
     let mut units = units.clone();
     let mut requests = vec![0; units.len()];
     let mut on = vec![false; inverters.len()];
@@ -70,7 +70,8 @@ pub fn steps(run: &Run) -> Vec<Step> {
         });
         let mut records = Vec::new();
         for (i, unit) in units.iter_mut().enumerate() {
-            let stepped = storage::step(*seconds, unit, requests[i]).expect("a pass keeps to the ratings");
+            let stepped =
+                storage::step_as(*edition, *seconds, unit, requests[i]).expect("a pass keeps to the ratings");
             unit.stored = stepped.stored;
             records.push(Record { step: step as u32, unit: i as u8, request: requests[i], stepped });
         }
@@ -156,7 +157,7 @@ mod tests {
     use crate::samples::inverters::document_inverter;
     use crate::samples::sticks::{self, whole_case};
     use crate::samples::units::figure_unit;
-    use crate::samples::{roofs, seasons, Draw};
+    use crate::samples::{limits, roofs, seasons, Draw};
     use crate::solar::{self, Weather};
     use crate::storage::Unit;
 
@@ -405,6 +406,61 @@ mod tests {
             }
         }
         assert!(dark > 500 && held > 1_000, "{dark} {held}");
+    }
+
+    /// Figure D4's unit over two steps without a reading, providing and absorbing.
+    #[test]
+    fn the_limits_of_a_file() {
+        let of = |edition, var_request| {
+            let run = sticks::with(&whole_case(), |run| {
+                run.site.edition = edition;
+                run.site.units = vec![Unit { var_request, ..limits::figure_unit() }];
+            });
+            let bytes = super::run(&sticks::file(&run), 47).unwrap();
+            assert_eq!(f64_at(&bytes, 12), Some(0.0));
+            i32_at(&bytes, 20).unwrap()
+        };
+        assert_eq!([of(2, 700), of(2, -700), of(2, 600), of(2, -299)], [600, -300, 600, -299]);
+        assert_eq!([of(1, 700), of(1, -700), of(1, 1_001)], [700, -700, 1_000]);
+    }
+
+    /// A run of edition 1 gives the same bytes in edition 2 where both limits are S.
+    #[test]
+    fn limits_of_s_change_no_byte() {
+        let mut draw = Draw::from_seed(86);
+        for round in 0..600 {
+            let run = roofs::run(1 + round % 4, round % 3, 1 + round % 9, &mut draw);
+            let [one, two] = [1, 2].map(|edition| {
+                let file = sticks::file(&sticks::with(&run, |run| run.site.edition = edition));
+                super::run(&file, usize::MAX).unwrap()
+            });
+            assert!(one == two);
+        }
+    }
+
+    /// The vars of each record are within the limits of its unit; requests, and the stores of units that give watts
+    /// first, are those without limits.
+    #[test]
+    fn limits_hold_over_a_run() {
+        let mut draw = Draw::from_seed(87);
+        let mut cut = 0;
+        for round in 0..600 {
+            let mut run = limits::limited(seasons::run(1 + round % 5, 12, &mut draw), &mut draw);
+            run.site.units.iter_mut().for_each(|unit| unit.priority = 0);
+            let none = sticks::with(&run, |run| run.site.edition = 1);
+            for (step, none) in steps(&run).iter().zip(steps(&none)) {
+                assert_eq!(step.passed, none.passed);
+                for (record, none) in step.records.iter().zip(none.records) {
+                    let unit = &run.site.units[usize::from(record.unit)];
+                    let vars = i64::from(record.stepped.vars);
+                    assert!(-i64::from(unit.absorb) <= vars && vars <= unit.provide.into());
+                    let same = |stepped: &Stepped| (stepped.watts, stepped.stored, stepped.loss);
+                    assert_eq!(same(&record.stepped), same(&none.stepped));
+                    cut += u32::from(record.stepped.vars != none.stepped.vars);
+                }
+            }
+        }
+        assert!(cut > 3_000, "{cut}");
     }
 
     /// The length, the order of the records of both kinds, and the end.

@@ -1,6 +1,8 @@
-//! The storage unit: its twelve values, and one step of it.
+//! The storage unit: its values, and one step of it.
 
-use crate::ranges::{self, EFFICIENCY, IDLE_LOSS, KVA, PRIORITY, RATING, SECONDS, VAR_REQUEST, WEIGHT};
+use crate::ranges::{
+    self, EDITION, EFFICIENCY, IDLE_LOSS, KVA, PRIORITY, RATING, SECONDS, VAR_REQUEST, WEIGHT,
+};
 use crate::whole::{largest_leg, quotient_up};
 use crate::{LISTS_OR_REQUESTS, OUT_OF_RANGE};
 
@@ -27,9 +29,20 @@ pub struct Unit {
     pub discharge: u16,
     /// 0 watt, 1 var.
     pub priority: u8,
+    /// The most vars that it may provide, and the most that it may absorb; both are S in edition 1.
+    pub provide: u32,
+    pub absorb: u32,
 }
 
 impl Unit {
+    /// The unit as an edition has it: in edition 1 it has no limits of its own, whatever they are here.
+    pub fn of_edition(&self, edition: u8) -> Unit {
+        match edition {
+            1 => Unit { provide: self.kva, absorb: self.kva, ..*self },
+            _ => *self,
+        }
+    }
+
     pub fn in_range(&self) -> bool {
         ranges::energies_fit(self.rated, self.reserve, self.stored)
             && RATING.contains(&self.rating)
@@ -40,6 +53,14 @@ impl Unit {
             && [self.inverter, self.charge, self.discharge].iter().all(|e| EFFICIENCY.contains(e))
             && PRIORITY.contains(&self.priority)
             && self.idle_draw() <= u64::from(self.kva)
+            && self.provide <= self.kva
+            && self.absorb <= self.kva
+    }
+
+    /// The var request within the limits: no less than minus the absorb limit, no more than the provide limit.
+    pub fn limited_vars(&self) -> i32 {
+        let vars = i64::from(self.var_request).clamp(-i64::from(self.absorb), self.provide.into());
+        i32::try_from(vars).expect("no larger than the request")
     }
 
     /// What an idling unit draws from the grid, in watts.
@@ -95,8 +116,8 @@ fn largest(low: i128, high: i128, fits: impl Fn(i128) -> bool) -> Option<i128> {
     Some(good)
 }
 
-fn check(seconds: u32, unit: &Unit, request: i32) -> Result<(), u32> {
-    if !(SECONDS.contains(&seconds) && unit.in_range()) {
+fn check(edition: u8, seconds: u32, unit: &Unit, request: i32) -> Result<(), u32> {
+    if !(EDITION.contains(&edition) && SECONDS.contains(&seconds) && unit.in_range()) {
         return Err(OUT_OF_RANGE);
     }
     if request.unsigned_abs() > unit.rating {
@@ -105,17 +126,23 @@ fn check(seconds: u32, unit: &Unit, request: i32) -> Result<(), u32> {
     Ok(())
 }
 
-/// One step of one unit that holds a request, the plain way.
+/// One step of one unit of edition 1 that holds a request, the plain way.
 pub fn step(seconds: u32, unit: &Unit, request: i32) -> Result<Stepped, u32> {
-    check(seconds, unit, request)?;
+    step_as(1, seconds, unit, request)
+}
+
+/// One step of one unit of an edition that holds a request, the plain way.
+pub fn step_as(edition: u8, seconds: u32, unit: &Unit, request: i32) -> Result<Stepped, u32> {
+    let unit = &unit.of_edition(edition);
+    check(edition, seconds, unit, request)?;
+    let asked_vars = unit.limited_vars();
     let stored = i128::from(unit.stored);
     let length = i128::from(seconds);
 
     // The size of the request, within the circle.
     let mut size = request.unsigned_abs().min(unit.kva);
     if unit.priority == 1 {
-        let v = unit.var_request.unsigned_abs().min(unit.kva);
-        size = size.min(largest_leg(unit.kva, v));
+        size = size.min(largest_leg(unit.kva, asked_vars.unsigned_abs()));
     }
     let size = i128::from(size);
 
@@ -146,27 +173,29 @@ pub fn step(seconds: u32, unit: &Unit, request: i32) -> Result<Stepped, u32> {
     // The vars, last.
     let watts = i32::try_from(watts).expect("watts are within S");
     let leg = largest_leg(unit.kva, watts.unsigned_abs());
-    let vars = unit.var_request.unsigned_abs().min(leg) as i32;
+    let vars = asked_vars.unsigned_abs().min(leg) as i32;
     Ok(Stepped {
         watts,
-        vars: if unit.var_request < 0 { -vars } else { vars },
+        vars: if asked_vars < 0 { -vars } else { vars },
         stored: u64::try_from(stored).expect("no more is removed than there is"),
         loss: u64::try_from(loss).expect("no energy is won"),
     })
 }
 
 /// The same step as a quick program makes it: the count by division, all in 64 bits.
-pub fn step_fast(seconds: u32, unit: &Unit, request: i32) -> Result<Stepped, u32> {
-    check(seconds, unit, request)?;
+pub fn step_fast(edition: u8, seconds: u32, unit: &Unit, request: i32) -> Result<Stepped, u32> {
+    let unit = &unit.of_edition(edition);
+    check(edition, seconds, unit, request)?;
     let kva = u64::from(unit.kva);
     let inverter = u64::from(unit.inverter);
     let idle_loss = u64::from(unit.idle_loss);
     let seconds = u64::from(seconds);
-    let vars = u64::from(unit.var_request.unsigned_abs());
+    let asked_vars = unit.limited_vars();
+    let vars = u64::from(asked_vars.unsigned_abs());
 
     let mut size = u64::from(request.unsigned_abs()).min(kva);
     if unit.priority == 1 && vars != 0 {
-        size = size.min(leg_fast(kva, vars.min(kva)));
+        size = size.min(leg_fast(kva, vars));
     }
 
     let mut active = None;
@@ -211,7 +240,7 @@ pub fn step_fast(seconds: u32, unit: &Unit, request: i32) -> Result<Stepped, u32
     });
 
     let vars = if vars == 0 { 0 } else { vars.min(leg_fast(kva, watts.unsigned_abs().into())) as i32 };
-    Ok(Stepped { watts, vars: if unit.var_request < 0 { -vars } else { vars }, stored, loss })
+    Ok(Stepped { watts, vars: if asked_vars < 0 { -vars } else { vars }, stored, loss })
 }
 
 /// The largest leg beside one that is no longer than S, by the machine's root and a step either way.
@@ -231,7 +260,7 @@ fn leg_fast(s: u64, y: u64) -> u64 {
 mod tests {
     use super::*;
     use crate::samples::units::{self, figure_unit, StepCall};
-    use crate::samples::Draw;
+    use crate::samples::{limits, Draw};
 
     #[test]
     fn d1() {
@@ -316,7 +345,7 @@ mod tests {
         let mut draw = Draw::from_seed(61);
         let mut walked = 0;
         while walked < 20_000 {
-            let StepCall { seconds, unit, request } = units::step_call(&mut draw);
+            let StepCall { seconds, unit, request, .. } = units::step_call(&mut draw);
             let mut size = request.unsigned_abs().min(unit.kva);
             if unit.priority == 1 {
                 let v = u64::from(unit.var_request.unsigned_abs().min(unit.kva));
@@ -366,7 +395,7 @@ mod tests {
     fn the_count_is_the_largest() {
         let mut draw = Draw::from_seed(62);
         for _ in 0..100_000 {
-            let StepCall { seconds, unit, request } = units::step_call(&mut draw);
+            let StepCall { seconds, unit, request, .. } = units::step_call(&mut draw);
             let stepped = step(seconds, &unit, request).unwrap();
             let watts = i128::from(stepped.watts.unsigned_abs());
             if stepped.watts > 0 {
@@ -388,7 +417,7 @@ mod tests {
     fn the_store_stays_within_its_bounds_and_the_power_within_the_circle() {
         let mut draw = Draw::from_seed(63);
         for _ in 0..100_000 {
-            let StepCall { seconds, unit, request } = units::step_call(&mut draw);
+            let StepCall { seconds, unit, request, .. } = units::step_call(&mut draw);
             let stepped = step(seconds, &unit, request).unwrap();
             assert!(stepped.stored <= unit.rated);
             assert!(stepped.stored >= unit.reserve.min(unit.stored));
@@ -401,19 +430,141 @@ mod tests {
         }
     }
 
+    /// What the quick program says to a call, and that it is what the plain one says.
+    fn both(call: &StepCall) -> Result<Stepped, u32> {
+        let StepCall { edition, seconds, unit, request } = call;
+        let stepped = call.step();
+        assert_eq!(step_fast(*edition, *seconds, unit, *request), stepped, "{call:?}");
+        stepped
+    }
+
     #[test]
     fn the_fast_step_is_the_plain_one() {
         let mut draw = Draw::from_seed(64);
         for _ in 0..400_000 {
-            let call = units::step_call(&mut draw);
-            let StepCall { seconds, unit, request } = call;
-            assert_eq!(step_fast(seconds, &unit, request), step(seconds, &unit, request), "{call:?}");
+            both(&units::step_call(&mut draw)).unwrap();
+            both(&limits::step_call(&mut draw)).unwrap();
         }
         for _ in 0..1_000 {
+            let call = draw.one_of(&[units::step_call, limits::step_call])(&mut draw);
+            let changes = units::ENDS.iter().chain(&units::BAD_VALUES).chain(&units::BAD_REQUESTS);
+            for change in changes.chain(&limits::ENDS).chain(&limits::BAD_VALUES) {
+                let _ = both(&call.with(change));
+            }
+        }
+    }
+
+    /// Provide 600, absorb 300, of 1,000 VA: the limit of the request's own direction, in the final vars and before
+    /// the watts.
+    #[test]
+    fn d4() {
+        let calls = limits::figure_steps();
+        let given: Vec<_> =
+            calls.iter().map(|call| call.step().unwrap()).map(|left| (left.watts, left.vars)).collect();
+        assert_eq!(given, [(0, 600), (0, -300), (800, 600), (953, -300)]);
+        // One var less than the limit is not cut, and in edition 1 none of them is.
+        let vars = |edition: u8, var_request| {
+            let unit = Unit { var_request, ..calls[0].unit };
+            step_as(edition, 60, &unit, 0).unwrap().vars
+        };
+        assert_eq!([599, 600, 601, -299, -300, -301].map(|v| vars(2, v)), [599, 600, 600, -299, -300, -300]);
+        assert_eq!([700, 1_000, 1_001, -700, -1_001].map(|v| vars(1, v)), [700, 1_000, 1_000, -700, -1_000]);
+    }
+
+    /// A unit that may only provide, or only absorb, or neither: a request in the other direction takes nothing from
+    /// the watts.
+    #[test]
+    fn a_limit_of_nothing() {
+        let unit = Unit { var_request: -1_000, priority: 1, ..limits::figure_unit() };
+        let given = |provide, absorb, var_request| {
+            let unit = Unit { provide, absorb, var_request, ..unit };
+            let left = step_as(2, 60, &unit, 1_000).unwrap();
+            (left.watts, left.vars)
+        };
+        assert_eq!([given(600, 0, -1_000), given(600, 0, 1_000)], [(1_000, 0), (800, 600)]);
+        assert_eq!([given(0, 600, -1_000), given(0, 600, 1_000)], [(800, -600), (1_000, 0)]);
+        assert_eq!([given(0, 0, -1_000), given(0, 0, 0), given(0, 0, 1_000)], [(1_000, 0); 3]);
+    }
+
+    /// Where both limits are S a step is that of edition 1, in which they are not looked at.
+    #[test]
+    fn limits_of_s_are_none() {
+        let mut draw = Draw::from_seed(66);
+        for _ in 0..100_000 {
             let call = units::step_call(&mut draw);
-            for change in units::ENDS.iter().chain(&units::BAD_VALUES).chain(&units::BAD_REQUESTS) {
-                let StepCall { seconds, unit, request } = call.with(change);
-                assert_eq!(step_fast(seconds, &unit, request), step(seconds, &unit, request));
+            let StepCall { seconds, unit, request, .. } = call;
+            let plain = step(seconds, &unit, request);
+            let with = |edition, provide, absorb| {
+                step_as(edition, seconds, &Unit { provide, absorb, ..unit }, request)
+            };
+            assert_eq!(with(2, unit.kva, unit.kva), plain, "{call:?}");
+            let [provide, absorb] = [(); 2].map(|()| draw.sized() as u32);
+            assert_eq!(with(1, provide, absorb), plain, "{call:?}");
+            let cut = unit.var_request.unsigned_abs().min(unit.kva) as i32;
+            let unit = Unit { provide, absorb, ..unit }.of_edition(1);
+            assert_eq!(unit.limited_vars(), cut * unit.var_request.signum());
+        }
+    }
+
+    /// What a planner relies on: the vars lie between minus the absorb limit and the provide limit, and with the watts
+    /// in the circle.
+    #[test]
+    fn the_vars_stay_within_their_limits_and_the_circle() {
+        let mut draw = Draw::from_seed(67);
+        let mut met = [0; 2];
+        for _ in 0..200_000 {
+            let call = limits::step_call(&mut draw);
+            let unit = &call.unit;
+            let left = call.step().unwrap();
+            let vars = i64::from(left.vars);
+            assert!(-i64::from(unit.absorb) <= vars && vars <= unit.provide.into(), "{call:?}");
+            let square = |n: i32| i128::from(n) * i128::from(n);
+            assert!(square(left.watts) + square(left.vars) <= square(unit.kva as i32), "{call:?}");
+            // No more than asked either, and of its sign.
+            assert!(
+                vars * i64::from(unit.var_request) >= 0 && vars.abs() <= i64::from(unit.var_request).abs()
+            );
+            let cut = left.vars != unit.var_request && left.vars == unit.limited_vars();
+            met[0] += u32::from(cut && left.vars > 0);
+            met[1] += u32::from(cut && left.vars < 0);
+        }
+        assert!(met.iter().all(|&count| count > 10_000), "{met:?}");
+    }
+
+    /// Vars first hold back no watts for vars that the limits do not allow.
+    #[test]
+    fn a_lower_limit_never_takes_watts() {
+        let mut draw = Draw::from_seed(68);
+        let mut more = 0;
+        for _ in 0..100_000 {
+            let mut call = limits::step_call(&mut draw);
+            (call.unit.priority, call.request) = (1, call.request.abs());
+            let none =
+                call.with(|call| (call.unit.provide, call.unit.absorb) = (call.unit.kva, call.unit.kva));
+            let (limited, none) = (call.step().unwrap(), none.step().unwrap());
+            assert!(limited.watts >= none.watts, "{call:?}");
+            more += u32::from(limited.watts > none.watts);
+        }
+        assert!(more > 5_000, "{more}");
+    }
+
+    #[test]
+    fn editions_and_limits_out_of_their_ranges() {
+        let mut draw = Draw::from_seed(69);
+        for _ in 0..1_000 {
+            let call = limits::step_call(&mut draw);
+            for edition in 0..=255 {
+                let number = call.with(|call| call.edition = edition).step().err();
+                assert_eq!(number, (!(1..=2).contains(&edition)).then_some(5), "edition {edition}");
+            }
+            for end in limits::ENDS {
+                assert!(call.with(end).step().is_ok(), "{:?}", call.with(end));
+            }
+            for spoil in limits::BAD_VALUES {
+                let spoiled = call.with(spoil);
+                assert_eq!(spoiled.step(), Err(5), "{spoiled:?}");
+                assert_eq!(spoiled.with(draw.one_of(&units::BAD_REQUESTS)).step(), Err(5));
+                assert!(spoiled.with(|call| call.edition = 1).step().is_ok());
             }
         }
     }

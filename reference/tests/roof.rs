@@ -104,10 +104,7 @@ fn rooms_of_every_length() {
     let mut draw = Draw::from_seed(803);
     let mut all = runs::Comparison::start(803);
     for (units, inverters, steps) in [(1, 1, 0), (1, 1, 1), (2, 3, 1), (1, 2, 3), (3, 1, 2), (1, 64, 0)] {
-        let run = roofs::run(units, inverters, steps, &mut draw);
-        for length in 0..=(40 * units + 29 * inverters) * steps + 60 {
-            all.run_of(&run, Room::Of(length));
-        }
+        all.run_in_every_room(&roofs::run(units, inverters, steps, &mut draw));
     }
     let met = all.end(1_000);
     met.more_than(300, "number", [0, 11]);
@@ -189,9 +186,7 @@ fn refused_files() {
     for round in 0..6_000 {
         let file =
             if round % 5 == 0 { roofs::shuffled_file(&mut draw) } else { roofs::damaged_file(&mut draw) };
-        let any = draw.below(1_000) as usize;
-        let room = draw.one_of(&[Room::Empty, Room::Of(7), Room::Of(any), Room::Longer(any), Room::OneShort]);
-        all.run(file, room);
+        all.run(file, Room::any_for_refused(&mut draw));
     }
     // What is wrong comes after good steps, and there is room for all of them.
     for _ in 0..40 {
@@ -262,10 +257,7 @@ fn files_cut_at_every_byte() {
     for inverters in [1, 1, 1, 2, 3] {
         for steps in [0, 1, 3] {
             let file = sticks::file(&roofs::run(1, inverters, steps, &mut draw));
-            for length in 0..file.len() {
-                let number = files.check(&file[..length]).number;
-                assert!(number == 1 || number == 8);
-            }
+            files.check_cuts(&file);
         }
     }
     let arms = files.end();
@@ -283,14 +275,7 @@ fn files_with_every_single_byte_changed() {
     });
     let document = sticks::with(&smallest(&mut draw), |run| run.site.inverters = vec![document_inverter()]);
     for run in [two_points, document] {
-        let file = sticks::file(&run);
-        for place in 0..file.len() {
-            for other in 1..=255 {
-                let mut file = file.clone();
-                file[place] ^= other;
-                files.check(file);
-            }
-        }
+        files.check_bytes(&sticks::file(&run));
     }
     let arms = files.end();
     assert!(arms.values().sum::<u32>() > 200_000);
@@ -382,10 +367,7 @@ fn files_with_any_bits_in_an_inverter_or_a_weather() {
         let run = smallest(&mut draw);
         let mut fields = sticks::fields(&run);
         let at = 3 + draw.below(4) as usize;
-        let value = &mut fields[at].value;
-        let from = draw.below(value.len() as u64) as usize;
-        let to = from + 1 + draw.below((value.len() - from).min(8) as u64) as usize;
-        value[from..to].iter_mut().for_each(|byte| *byte = draw.sized() as u8);
+        sticks::set_any_bits(&mut fields[at].value, &mut draw);
         files.check(sticks::bytes(&fields));
     }
     let arms = files.end();
@@ -429,20 +411,9 @@ fn fields_with_two_things_wrong() {
         // The inverter, its curves, the weather, and the readings behind it.
         for at in 3..fields.len() {
             let right = &fields[at];
-            let then = |field: &Field, left: usize| {
-                let mut file = sticks::bytes(&fields[..at]);
-                let place = file.len();
-                field.put(&mut file);
-                file.truncate(place.saturating_add(left));
-                file
-            };
+            let then = |field: &Field, left: usize| checks::ending(&fields[..at], field, left);
             for (tag, length) in stick::TAGS {
-                let bad = Field::new(tag, vec![0xFF; length.into()]);
-                files.check_is(3, then(&Field { length: length ^ 1, ..bad.clone() }, usize::MAX));
-                if length != 0 {
-                    files.check_is(1, then(&bad, 3));
-                    files.check_is(1, then(&bad, 3 + draw.below(length.into()) as usize));
-                }
+                let bad = files.check_spoiled(&fields[..at], tag, length, &mut draw);
                 // What may stand at each of these places: by the order, or by its values.
                 let allowed: &[u8] = match at {
                     3 => &[4, 5, 6, 8, 0x7F],

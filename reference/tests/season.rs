@@ -95,10 +95,7 @@ fn rooms_of_every_length() {
     let mut draw = Draw::from_seed(504);
     let mut runs = Comparison::start(504);
     for (units, steps) in [(1, 0), (1, 1), (2, 1), (1, 3), (3, 2), (64, 0)] {
-        let run = seasons::run(units, steps, &mut draw);
-        for length in 0..=40 * units * steps + 60 {
-            runs.run_of(&run, Room::Of(length));
-        }
+        runs.run_in_every_room(&seasons::run(units, steps, &mut draw));
     }
     let met = runs.end(840);
     met.more_than(300, "number", [0, 11]);
@@ -176,9 +173,7 @@ fn refused_files() {
             1 => sticks::noise(80, &mut draw),
             _ => sticks::damaged_file(&mut draw),
         };
-        let any = draw.below(1_000) as usize;
-        let room = draw.one_of(&[Room::Empty, Room::Of(7), Room::Of(any), Room::Longer(any), Room::OneShort]);
-        runs.run(file, room);
+        runs.run(file, Room::any_for_refused(&mut draw));
     }
     // What is wrong comes after good steps, and there is room for all of them.
     for _ in 0..12 {

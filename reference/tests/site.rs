@@ -8,7 +8,7 @@ use frames::{put_file, said_units, shown, Met, Rest, FRAME};
 use host::{refuses_cut_rows, Host, LEFT_ALONE};
 use yesbrulka_reference::controller::Settings;
 use yesbrulka_reference::ranges::{MOST_BYTES, UNITS};
-use yesbrulka_reference::samples::{roofs, seasons, sticks, units, Draw};
+use yesbrulka_reference::samples::{limits, roofs, seasons, sticks, units, Draw};
 use yesbrulka_reference::site::{self, Site};
 use yesbrulka_reference::stick::{Run, MISSING};
 use yesbrulka_reference::storage::Unit;
@@ -34,6 +34,8 @@ const UNIT_LEFT: Unit = Unit {
     charge: LEFT_2,
     discharge: LEFT_2,
     priority: LEFT_1,
+    provide: LEFT_4,
+    absorb: LEFT_4,
 };
 
 /// What `yb_units`, `yb_inverters` and `yb_seconds` return, and what `yb_settings` returns and leaves behind.
@@ -48,11 +50,11 @@ struct SiteLeft {
     phase: u8,
 }
 
-/// What `yb_unit` returns and leaves behind.
+/// What `yb_unit` returns and leaves behind, and then what `yb_var_limits` does; the limits are those of the second.
 #[derive(Debug, PartialEq)]
 struct UnitLeft {
-    number: u32,
-    disturbed: u8,
+    numbers: [u32; 2],
+    disturbed: [u8; 2],
     unit: Unit,
 }
 
@@ -85,7 +87,7 @@ fn expected_unit(site: &Result<Site, u32>, number: u32) -> UnitLeft {
         Ok(unit) => (0, unit),
         Err(refused) => (refused, UNIT_LEFT),
     };
-    UnitLeft { number, disturbed: 0, unit }
+    UnitLeft { numbers: [number; 2], disturbed: [0; 2], unit }
 }
 
 fn left_site(rest: &mut Rest) -> SiteLeft {
@@ -106,24 +108,27 @@ fn left_site(rest: &mut Rest) -> SiteLeft {
 }
 
 fn left_unit(rest: &mut Rest) -> UnitLeft {
-    UnitLeft {
-        number: u32::from_le_bytes(rest.take()),
-        disturbed: u8::from_le_bytes(rest.take()),
-        unit: Unit {
-            rated: u64::from_le_bytes(rest.take()),
-            reserve: u64::from_le_bytes(rest.take()),
-            stored: u64::from_le_bytes(rest.take()),
-            rating: u32::from_le_bytes(rest.take()),
-            kva: u32::from_le_bytes(rest.take()),
-            idle_loss: u32::from_le_bytes(rest.take()),
-            var_request: i32::from_le_bytes(rest.take()),
-            weight: u16::from_le_bytes(rest.take()),
-            inverter: u16::from_le_bytes(rest.take()),
-            charge: u16::from_le_bytes(rest.take()),
-            discharge: u16::from_le_bytes(rest.take()),
-            priority: u8::from_le_bytes(rest.take()),
-        },
-    }
+    let (number, disturbed) = (u32::from_le_bytes(rest.take()), u8::from_le_bytes(rest.take()));
+    let unit = Unit {
+        rated: u64::from_le_bytes(rest.take()),
+        reserve: u64::from_le_bytes(rest.take()),
+        stored: u64::from_le_bytes(rest.take()),
+        rating: u32::from_le_bytes(rest.take()),
+        kva: u32::from_le_bytes(rest.take()),
+        idle_loss: u32::from_le_bytes(rest.take()),
+        var_request: i32::from_le_bytes(rest.take()),
+        weight: u16::from_le_bytes(rest.take()),
+        inverter: u16::from_le_bytes(rest.take()),
+        charge: u16::from_le_bytes(rest.take()),
+        discharge: u16::from_le_bytes(rest.take()),
+        priority: u8::from_le_bytes(rest.take()),
+        provide: LEFT_4,
+        absorb: LEFT_4,
+    };
+    let numbers = [number, u32::from_le_bytes(rest.take())];
+    let disturbed = [disturbed, u8::from_le_bytes(rest.take())];
+    let (provide, absorb) = (u32::from_le_bytes(rest.take()), u32::from_le_bytes(rest.take()));
+    UnitLeft { numbers, disturbed, unit: Unit { provide, absorb, ..unit } }
 }
 
 fn put_unit_numbers(payload: &mut Vec<u8>, numbers: &[u32], file: &[u8]) {
@@ -179,7 +184,8 @@ impl Sites {
         let file = file.into();
         let numbers: Vec<u32> = numbers.into_iter().collect();
         let site = site::of(&file);
-        if let Ok(Site { units, settings, phase, inverters, .. }) = &site {
+        if let Ok(Site { edition, units, settings, phase, inverters, .. }) = &site {
+            self.met.note("edition", (*edition).into());
             self.met.note("units", units.len() as u32);
             self.met.note("inverters", inverters.len() as u32);
             self.met.note("mode and phase", u32::from(settings.mode) * 10 + u32::from(*phase));
@@ -223,7 +229,11 @@ impl Sites {
                     differ.push(format!("  unit {number}\n  archive   {got:?}\n  reference {expected:?}"));
                 }
                 self.units += 1;
-                self.met.note("unit number", expected.number);
+                self.met.note("unit number", expected.numbers[0]);
+                if expected.numbers[0] == 0 {
+                    let Unit { kva, provide, absorb, .. } = expected.unit;
+                    self.met.note("a limit below S", u32::from(provide < kva) + 2 * u32::from(absorb < kva));
+                }
             }
             self.all += 1;
             if !differ.is_empty() {
@@ -261,9 +271,10 @@ fn the_whole_case() {
     let settings = Settings { mode: 1, target: 0, band: 0, factor: 1_000 };
     let said = SiteLeft { units: 1, inverters: 0, seconds: 60, number: 0, disturbed: 0, settings, phase: 0 };
     assert_eq!(expected_site(&site), said);
-    let first = UnitLeft { number: 0, disturbed: 0, unit: run.site.units[0] };
+    let first = UnitLeft { numbers: [0; 2], disturbed: [0; 2], unit: run.site.units[0] };
+    assert_eq!((first.unit.provide, first.unit.absorb), (5_000, 5_000));
     assert_eq!(expected_unit(&site, 0), first);
-    let none = UnitLeft { number: 10, disturbed: 0, unit: UNIT_LEFT };
+    let none = UnitLeft { numbers: [10; 2], disturbed: [0; 2], unit: UNIT_LEFT };
     assert_eq!(expected_unit(&site, 1), none);
 
     let mut sites = Sites::start();
@@ -324,6 +335,55 @@ fn files_with_inverters() {
     let met = sites.end(6_900, 89_000);
     met.more_than(10, "inverters", 0..=64);
     met.more_than(100, "number", [0, 2, 3, 4, 5, 6]);
+}
+
+/// Files of both editions, with inverters and without: complete, cut, damaged, and in another edition than theirs.
+#[test]
+fn files_with_limits() {
+    let mut draw = Draw::from_seed(620);
+    let mut sites = Sites::start();
+    for units in 1..=64 {
+        for round in 0..40 {
+            let (inverters, steps) = (round % 3, draw.below(4) as usize);
+            let run = limits::run(units, inverters, steps, &mut draw);
+            assert_eq!(sites.ask(sticks::file(&run), 0..units as u32 + 1), 0);
+            if round == 0 {
+                let file = sticks::file(&run);
+                assert_ne!(sites.site(&file[..file.len() - 1]), 0);
+                assert_eq!(sites.site([&file[..], &[0]].concat()), 9);
+            }
+        }
+    }
+    for _ in 0..200 {
+        let run = limits::run(2, 1, 1, &mut draw);
+        let fields = sticks::fields(&run);
+        for edition in [0, 1, 2, 3, 4, 255] {
+            let number = sites.site(sticks::bytes(&limits::in_edition(edition, &fields)));
+            let right = match edition {
+                1 | 2 if edition == run.site.edition => 0,
+                1 | 2 => 3,
+                _ => 5,
+            };
+            assert_eq!(number, right);
+        }
+        let limited = limits::limited(run, &mut draw);
+        for end in limits::ENDS {
+            sites.site_of(&sticks::with_unit(&limited, 1, end));
+        }
+        for spoil in limits::BAD_VALUES {
+            assert_eq!(sites.site(sticks::file(&sticks::with_unit(&limited, 1, spoil))), 5);
+        }
+    }
+    for round in 0..12_000 {
+        sites.site(match round % 4 {
+            0 => limits::shuffled_file(&mut draw),
+            _ => limits::damaged_file(&mut draw),
+        });
+    }
+    let met = sites.end(20_000, 300_000);
+    met.more_than(1_000, "edition", 1..=2);
+    met.more_than(5_000, "a limit below S", 0..=3);
+    met.more_than(100, "number", [0, 1, 2, 3, 4, 5, 6, 7, 8, 9]);
 }
 
 /// Every number that a byte can say and some more, of complete files of every size and of refused ones.
@@ -436,10 +496,7 @@ fn files_with_any_bits_in_their_site() {
         let units = draw.one_of(&[1, 1, 2, 3]);
         let mut fields = sticks::fields(&sticks::run(units, 0, &mut draw));
         let at = draw.below(units as u64 + 2) as usize;
-        let value = &mut fields[at].value;
-        let from = draw.below(value.len() as u64) as usize;
-        let to = from + 1 + draw.below((value.len() - from).min(8) as u64) as usize;
-        value[from..to].iter_mut().for_each(|byte| *byte = draw.sized() as u8);
+        sticks::set_any_bits(&mut fields[at].value, &mut draw);
         sites.site(sticks::bytes(&fields));
     }
     let met = sites.end(9_000, 117_000);
@@ -533,7 +590,7 @@ fn the_host_takes_no_malformed_site() {
             b'U',
             units,
             &[1, 4, 11, 12, 19],
-            108,
+            134,
             "host: op U: the payload is no row of unit numbers and files\n",
         ),
     ];

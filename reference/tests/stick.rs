@@ -3,7 +3,7 @@
 mod checks;
 mod host;
 
-use checks::{long, met, shown, Comparison, ANSWER};
+use checks::{ending, long, met, shown, Comparison, ANSWER};
 use host::{refuses_cut_rows, Host};
 use yesbrulka_reference::ranges::MOST_BYTES;
 use yesbrulka_reference::reading::Reading;
@@ -44,10 +44,7 @@ fn files_cut_at_every_byte() {
     for units in [1, 1, 1, 1, 2, 2, 3, 4, 5, 64] {
         for steps in [0, 1, 2, 5] {
             let file = sticks::file(&sticks::run(units, steps, &mut draw));
-            for length in 0..file.len() {
-                let number = files.check(&file[..length]).number;
-                assert!(number == 1 || number == 8);
-            }
+            files.check_cuts(&file);
             if units == 64 {
                 break;
             }
@@ -64,14 +61,7 @@ fn files_with_every_single_byte_changed() {
     let mut files = Comparison::start();
     let runs = [smallest(&mut draw), smallest(&mut draw), smallest(&mut draw), sticks::run(2, 3, &mut draw)];
     for run in runs {
-        let file = sticks::file(&run);
-        for place in 0..file.len() {
-            for other in 1..=255 {
-                let mut file = file.clone();
-                file[place] ^= other;
-                files.check(file);
-            }
-        }
+        files.check_bytes(&sticks::file(&run));
     }
     let arms = files.end();
     assert!(arms.values().sum::<u32>() > 120_000);
@@ -263,10 +253,7 @@ fn files_with_any_bits_in_a_unit_or_in_the_settings() {
     for _ in 0..30_000 {
         let mut fields = sticks::fields(&sticks::run(1, 0, &mut draw));
         let at = 1 + draw.below(2) as usize;
-        let value = &mut fields[at].value;
-        let from = draw.below(value.len() as u64) as usize;
-        let to = from + 1 + draw.below((value.len() - from).min(8) as u64) as usize;
-        value[from..to].iter_mut().for_each(|byte| *byte = draw.sized() as u8);
+        sticks::set_any_bits(&mut fields[at].value, &mut draw);
         files.check(sticks::bytes(&fields));
     }
     let arms = files.end();
@@ -330,15 +317,8 @@ fn fields_with_two_things_wrong() {
     for _ in 0..300 {
         let run = smallest(&mut draw);
         let fields = sticks::fields(&run);
-        let before = |at: usize| sticks::bytes(&fields[..at]);
         for (at, right) in fields.iter().enumerate() {
-            let then = |field: &Field, left: usize| {
-                let mut file = before(at);
-                let place = file.len();
-                field.put(&mut file);
-                file.truncate(place.saturating_add(left));
-                file
-            };
+            let then = |field: &Field, left: usize| ending(&fields[..at], field, left);
             let unknown = Field { tag: draw.any() as u8 | 0x80, ..right.clone() };
             let wrong = Field { length: right.length + 1, ..right.clone() };
             // Header bytes, then the tag, the length and the value bytes.
@@ -352,14 +332,9 @@ fn fields_with_two_things_wrong() {
             files.check_is(3, then(&wrong, 3 + right.value.len()));
             // Every tag at every point: with a wrong length, with bytes missing, out of order, with bad values.
             for (tag, length) in TAGS {
-                let bad = Field::new(tag, vec![0xFF; length.into()]);
+                let bad = files.check_spoiled(&fields[..at], tag, length, &mut draw);
                 let in_steps = [POWER, MISSING, WEATHER, END].contains(&tag);
                 let allowed = right.tag == tag || at >= 3 && in_steps || at == 3 && tag == INVERTER;
-                files.check_is(3, then(&Field { length: length ^ 1, ..bad.clone() }, usize::MAX));
-                if length != 0 {
-                    files.check_is(1, then(&bad, 3));
-                    files.check_is(1, then(&bad, 3 + draw.below(length.into()) as usize));
-                }
                 match tag {
                     _ if !allowed => files.check_is(4, then(&bad, usize::MAX)),
                     POWER | WEATHER => files.check_is(6, then(&bad, usize::MAX)),

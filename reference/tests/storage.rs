@@ -1,72 +1,15 @@
 //! The proved step of a storage unit beside the reference, over the C surface.
 
 mod host;
+mod steps;
 
 use std::collections::BTreeMap;
 
-use host::{refuses_cut_rows, Host, LEFT_ALONE};
+use host::refuses_cut_rows;
+use steps::{expected, put_step, Left, With};
 use yesbrulka_reference::samples::units::{self, StepCall};
 use yesbrulka_reference::samples::Draw;
-use yesbrulka_reference::storage::{self, Stepped, Unit};
-
-/// Steps go over in frames of this many.
-const FRAME: usize = 4_096;
-
-/// The bytes of a step's answer.
-const ANSWER: usize = 29;
-
-/// What the host leaves in an out-number of joules that a call did not write.
-const LEFT_JOULES: u64 = (LEFT_ALONE as u64) << 32 | LEFT_ALONE as u64;
-
-/// What a step returns and leaves behind.
-#[derive(Debug, PartialEq)]
-struct Left {
-    number: u32,
-    disturbed: u8,
-    stepped: Stepped,
-}
-
-/// By the reference.
-fn expected(call: &StepCall) -> Left {
-    let untouched = Stepped { watts: LEFT_ALONE, vars: LEFT_ALONE, stored: LEFT_JOULES, loss: LEFT_JOULES };
-    let (number, stepped) = match storage::step(call.seconds, &call.unit, call.request) {
-        Ok(stepped) => (0, stepped),
-        Err(number) => (number, untouched),
-    };
-    Left { number, disturbed: 0, stepped }
-}
-
-fn put_step(payload: &mut Vec<u8>, call: &StepCall) {
-    let unit = &call.unit;
-    payload.extend(call.seconds.to_le_bytes());
-    for joules in [unit.rated, unit.reserve, unit.stored] {
-        payload.extend(joules.to_le_bytes());
-    }
-    for number in [unit.rating, unit.kva, unit.idle_loss] {
-        payload.extend(number.to_le_bytes());
-    }
-    payload.extend(unit.var_request.to_le_bytes());
-    for number in [unit.weight, unit.inverter, unit.charge, unit.discharge] {
-        payload.extend(number.to_le_bytes());
-    }
-    payload.push(unit.priority);
-    payload.extend(call.request.to_le_bytes());
-}
-
-fn left(answer: &[u8]) -> Left {
-    let word = |at: usize| answer[at..at + 4].try_into().expect("four bytes");
-    let long = |at: usize| answer[at..at + 8].try_into().expect("eight bytes");
-    Left {
-        number: u32::from_le_bytes(word(0)),
-        disturbed: answer[4],
-        stepped: Stepped {
-            watts: i32::from_le_bytes(word(5)),
-            vars: i32::from_le_bytes(word(9)),
-            stored: u64::from_le_bytes(long(13)),
-            loss: u64::from_le_bytes(long(21)),
-        },
-    }
-}
+use yesbrulka_reference::storage::{Stepped, Unit};
 
 /// What a step came to, for the tally.
 #[derive(Clone, Copy, Debug, PartialEq, Eq, PartialOrd, Ord)]
@@ -111,34 +54,11 @@ fn met(call: &StepCall, left: &Left) -> (Met, bool) {
 /// Makes every step with the archive and with the reference, and compares. Gives how often each thing was
 /// met, by priority and whether the vars were cut.
 fn compare(calls: impl IntoIterator<Item = StepCall>) -> BTreeMap<(Met, u8, bool), u32> {
-    let mut host = Host::start();
     let mut tally = BTreeMap::new();
-    let (mut wrong, mut all) = (0, 0);
-    let mut calls = calls.into_iter();
-    loop {
-        let frame: Vec<StepCall> = calls.by_ref().take(FRAME).collect();
-        if frame.is_empty() {
-            break;
-        }
-        let mut payload = Vec::new();
-        frame.iter().for_each(|call| put_step(&mut payload, call));
-        let answer = host.call(b'S', &payload);
-        assert_eq!(answer.len(), ANSWER * frame.len(), "an answer for each step");
-        for (call, answer) in frame.iter().zip(answer.chunks(ANSWER)) {
-            let (got, expected) = (left(answer), expected(call));
-            all += 1;
-            if got != expected {
-                wrong += 1;
-                if wrong <= 10 {
-                    eprintln!("{call:?}\n  archive   {got:?}\n  reference {expected:?}");
-                }
-            }
-            let (what, vars_cut) = met(call, &expected);
-            *tally.entry((what, call.unit.priority.min(2), vars_cut)).or_default() += 1;
-        }
-    }
-    assert!(host.end().0.success(), "the host ended badly");
-    assert_eq!(wrong, 0, "wrong steps of {all}");
+    steps::compare(With::Step, calls, |call, expected| {
+        let (what, vars_cut) = met(call, expected);
+        *tally.entry((what, call.unit.priority.min(2), vars_cut)).or_default() += 1;
+    });
     tally
 }
 
@@ -227,7 +147,7 @@ fn steps_over_every_joule() {
     let mut calls = Vec::new();
     while calls.len() < 60_000 {
         let call = units::step_call(&mut draw);
-        let StepCall { seconds, unit, request } = call;
+        let StepCall { seconds, unit, request, .. } = call;
         let size = request.unsigned_abs().into();
         let most =
             if request > 0 { unit.removed(size, seconds) } else { unit.added(size, seconds) } as u64 + 2;
@@ -273,6 +193,7 @@ fn steps_with_values_at_their_ends_or_beside_them() {
 fn steps_over_any_bits() {
     let mut draw = Draw::from_seed(306);
     compare((0..20_000).map(|_| StepCall {
+        edition: 1,
         seconds: draw.sized() as u32,
         unit: Unit {
             rated: draw.sized(),
@@ -287,6 +208,8 @@ fn steps_over_any_bits() {
             charge: draw.any() as u16,
             discharge: draw.any() as u16,
             priority: draw.any() as u8 >> draw.below(8),
+            provide: 0,
+            absorb: 0,
         },
         request: draw.any() as i32 >> draw.below(32),
     }));
@@ -296,7 +219,7 @@ fn steps_over_any_bits() {
 #[test]
 fn the_host_takes_no_malformed_step() {
     let mut step = Vec::new();
-    put_step(&mut step, &units::figure_steps()[0]);
+    put_step(&mut step, With::Step, &units::figure_steps()[0]);
     let message = "host: op S: the payload is no row of steps\n";
     refuses_cut_rows(b'S', &step, &[1, step.len() - 1], message);
 }

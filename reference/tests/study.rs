@@ -8,7 +8,7 @@ use frames::{put_file, said_units, shown, Met, Rest, FRAME};
 use host::{refuses_cut_rows, Host, LEFT_ALONE};
 use yesbrulka_reference::controller::{self, Fleet};
 use yesbrulka_reference::ranges::MOST_BYTES;
-use yesbrulka_reference::samples::{fleets, inverters, roofs, sticks, Draw};
+use yesbrulka_reference::samples::{fleets, inverters, limits, roofs, sticks, Draw};
 use yesbrulka_reference::site::{self, Site};
 use yesbrulka_reference::stick::MISSING;
 
@@ -188,7 +188,10 @@ fn studies_over_files_of_any_size() {
         let most = if round % 4 == 0 { 64 } else { 5 };
         let call = fleets::study_call(most, 40, &mut draw);
         let steps = draw.below(3) as usize;
-        let run = sticks::study_run(&call, steps, &mut draw);
+        let mut run = sticks::study_run(&call, steps, &mut draw);
+        if round % 3 == 0 {
+            run = limits::limited(run, &mut draw);
+        }
         let file = sticks::file(&run);
         let left = expected_study(&file, call.load, call.budget, &call.requests);
         let mode = u32::from(run.site.settings.mode);

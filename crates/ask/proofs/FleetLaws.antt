@@ -32,7 +32,9 @@ one-length n some few =
 member-in : (u : Unit) → unitIn u ≡ true → memberIn (u .rated) (u .reserve) (u .stored) (u .rating) (u .weight) ≡ true
 unfolding unitIn
 member-in u e =
-    let draw = and-parts _ _ e in
+    let absorb = and-parts _ _ e in
+    let provide = and-parts _ _ (absorb .0) in
+    let draw = and-parts _ _ (provide .0) in
     let priority = and-parts _ _ (draw .0) in
     let discharge = and-parts _ _ (priority .0) in
     let charge = and-parts _ _ (discharge .0) in

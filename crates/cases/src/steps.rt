@@ -21,6 +21,8 @@ pub fn step(v: &[u8]) {
         charge: octets::u16_at(v, 48),
         discharge: octets::u16_at(v, 50),
         priority: octets::u8_at(v, 52),
+        provide: octets::u32_at(v, 32),
+        absorb: octets::u32_at(v, 32),
     };
     tell(storage::step(u, octets::u32_at(v, 0), octets::i32_at(v, 53)));
 }

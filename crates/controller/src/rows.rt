@@ -5,7 +5,7 @@ ghost use Rattle.controller.specs.Posts.{SameLengths, MemberRow, fleetBy
 use unit::Unit;
 
 // The row of a unit of which a pass knows these values alone.
-fn member_row(rated: u64, reserve: u64, rating: u32, weight: u16) -> [u64; 14]
+fn member_row(rated: u64, reserve: u64, rating: u32, weight: u16) -> [u64; 16]
     ensures { λ r. ⌜ MemberRow rated reserve rating weight r ⌝ }
 {
     let u = Unit {
@@ -21,6 +21,8 @@ fn member_row(rated: u64, reserve: u64, rating: u32, weight: u16) -> [u64; 14]
         charge: 0,
         discharge: 0,
         priority: 0,
+        provide: 0,
+        absorb: 0,
     };
     unit::row(u, 0, 0)
 }
@@ -32,7 +34,7 @@ pub fn fill(
     stored: &[u64],
     rating: &[u32],
     weight: &[u16],
-    rows: &mut [[u64; 14]],
+    rows: &mut [[u64; 16]],
 )
     requires { ⌜ SameLengths (fleetOf (now rated) (now reserve) (now stored) (now rating) (now weight)) (length (now rows)) ⌝ }
     ensures { λ _. ⌜ fleetBy (now (rows .exit)) (now (stored .entry)) ≡ fleetOf (now (rated .entry)) (now (reserve .entry)) (now (stored .entry)) (now (rating .entry)) (now (weight .entry)) ⌝ }

@@ -8,7 +8,8 @@ use Rattle.figures.specs.Rows.{Row}
 use Rattle.figures.specs.Table.{table}
 use Rattle.figures.specs.Further.{further}
 use Rattle.figures.specs.Roofs.{roofs}
+use Rattle.figures.specs.Limits.{limits}
 
-pub figures-hold : map (λ (r : Row). r .given) (table ++ further ++ roofs) ≡ map (λ (r : Row). r .stated) (table ++ further ++ roofs)
-unfolding table further roofs toBits div ofInt wattsOf choiceOf
+pub figures-hold : map (λ (r : Row). r .given) (table ++ further ++ roofs ++ limits) ≡ map (λ (r : Row). r .stated) (table ++ further ++ roofs ++ limits)
+unfolding table further roofs limits toBits div ofInt wattsOf choiceOf
 figures-hold = refl

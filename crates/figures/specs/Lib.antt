@@ -3,3 +3,4 @@ pub mod Rows
 pub mod Table
 pub mod Further
 pub mod Roofs
+pub mod Limits

@@ -124,4 +124,25 @@ unit stored kva idle vars inverter charge discharge priority = record {
   charge = charge;
   discharge = discharge;
   priority = priority;
+  provide = kva;
+  absorb = kva;
+}
+
+-- with var limits of its own
+abbrev pub limited : Unit → ℕ → ℕ → Unit
+limited u provide absorb = record {
+  rated = u .rated;
+  reserve = u .reserve;
+  stored = u .stored;
+  rating = u .rating;
+  kva = u .kva;
+  «idle_loss» = u .«idle_loss»;
+  «var_request» = u .«var_request»;
+  weight = u .weight;
+  inverter = u .inverter;
+  charge = u .charge;
+  discharge = u .discharge;
+  priority = u .priority;
+  provide = provide;
+  absorb = absorb;
 }

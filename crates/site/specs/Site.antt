@@ -33,6 +33,8 @@ noUnit = record {
   charge = 0;
   discharge = 0;
   priority = 0;
+  provide = 0;
+  absorb = 0;
 }
 
 abbrev pub unitOf : Site → ℕ → Unit

@@ -4,3 +4,4 @@ pub mod LimitLaws
 pub mod StepLaws
 pub mod ReliedLaws
 pub mod ReliedProved
+pub mod EditionsProved

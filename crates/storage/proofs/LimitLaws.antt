@@ -1,7 +1,7 @@
 -- What limits a step, by the definitions: the held request is at most what is asked and at most S, and both energy limits are quotients. Assumes nothing.
 use mathlib.Core.Path.{_≡_, sym, ap, ap₂, _∙_}
 use mathlib.Core.Logic.{_⊎_, inl, inr}
-use mathlib.Core.Bool.{Bool}
+use mathlib.Core.Bool.{Bool, cond}
 use Prim.Native.Nat.{ℕ, _+_, _-_, _*_, _/_, _≤_, _<_, _^_, min}
 use native.Mathlib.Nat.{le-refl, le-antisymm, mul-le-mul, zero-mul, eq-zero-or-pos}
 use native.Mathlib.Omega.{arith}
@@ -21,6 +21,15 @@ use Rattle.unit.proofs.RangeLaws.{Bounds}
 use Rattle.storage.proofs.EnergyLaws.{removed-test, added-test, added-none, drawn-none, drawable-most}
 use Rattle.unit.specs.declared.Unit.{Unit}
 use Rattle.storage.specs.Step.{limitedVars, heldSize, varsOf, removedBy, addedBy, deliverable, takeable}
+
+-- ---- v, from what the code has: by the limit for the request's own direction
+module _ (u : Unit) (h : mag (u .«var_request») < 2 ^ 31) (size : ℕ) (es : size ≡ natAbs (toZ w32 (ofZ w32 (u .«var_request»))))
+    (below : Bool) (eb : below ≡ negative (toZ w32 (ofZ w32 (u .«var_request»)))) where
+  pub limited-by : (b : Bool) → below ≡ b → (n : ℕ) → n ≡ min size (cond b (u .absorb) (u .provide)) → n ≡ limitedVars u
+  limited-by b t n e =
+      e
+      ∙ ap₂ (λ (s : ℕ) (c : Bool). min s (cond c (u .absorb) (u .provide))) (es ∙ ap natAbs (read w32 (u .«var_request») h))
+      (sym t ∙ eb ∙ ap negative (read w32 (u .«var_request») h))
 
 -- ---- the held request
 module _ (u : Unit) (request : ℤ) where

@@ -3,7 +3,7 @@
 use mathlib.Core.Path.{_≡_, refl, subst⁻¹}
 use mathlib.Core.Bool.{Bool, true, false, cond}
 use mathlib.Core.Logic.{_⊎_, inl, inr}
-use Prim.Native.Nat.{ℕ, zero, suc, _+_, _*_, _≤_}
+use Prim.Native.Nat.{ℕ, zero, suc, _+_, _*_, _≤_, min}
 use native.Mathlib.Nat.{le-trans, le-of-eq}
 use native.Mathlib.Omega.{arith}
 use lib.Dec.{le→leb, eqb}
@@ -11,7 +11,9 @@ use lib.IntN.{ℤ, pos, negsuc, negℤ, natAbs}
 use lib.Signed.{_≤ℤ_}
 use Rattle.whole.proofs.CircleLaws.{in-circle}
 use Rattle.whole.proofs.SignLaws.{size-neg}
-use Rattle.whole.specs.Signed.{negative}
+use Rattle.whole.specs.Circle.{varsIn}
+use Rattle.whole.specs.Largest.{legOf}
+use Rattle.whole.specs.Signed.{negative, signed}
 use Rattle.unit.proofs.RangeLaws.{Bounds}
 use Rattle.storage.proofs.StepLaws.{Able, removal-covers, addition-covered}
 use Rattle.unit.specs.declared.Unit.{Unit}
@@ -27,14 +29,37 @@ pub vars-in-circle : (u : Unit) (watts : ℤ) → natAbs watts ≤ u .kva
 unfolding varsOf
 vars-in-circle u watts h = in-circle (u .kva) (negative (u .«var_request»)) (limitedVars u) (natAbs watts) h
 
+-- ---- and lie between the unit's limits
+draw-below : (d n : ℕ) → negℤ (pos d) ≤ℤ pos n
+draw-below zero n = record { le = le→leb 0 n (omega arith) }
+draw-below (suc d) n = record { le = tt }
+
+side-provided : (b : Bool) (asked provide absorb leg : ℕ) → signed b (min (min asked (cond b absorb provide)) leg) ≤ℤ pos provide
+side-provided false asked provide absorb leg = record { le = le→leb (min (min asked provide) leg) provide (omega arith) }
+side-provided true asked provide absorb leg = draw-below (min (min asked absorb) leg) provide
+
+side-absorbed : (b : Bool) (asked provide absorb leg : ℕ) → negℤ (pos absorb) ≤ℤ signed b (min (min asked (cond b absorb provide)) leg)
+side-absorbed false asked provide absorb leg = draw-below absorb (min (min asked provide) leg)
+side-absorbed true asked provide absorb leg = draws-less absorb (min (min asked absorb) leg) (omega arith)
+  where
+    draws-less : (d n : ℕ) → n ≤ d → negℤ (pos d) ≤ℤ negℤ (pos n)
+    draws-less zero zero h = record { le = tt }
+    draws-less zero (suc n) h = absurd (omega arith)
+    draws-less (suc d) zero h = record { le = tt }
+    draws-less (suc d) (suc n) h = record { le = le→leb n d (omega arith) }
+
+pub vars-provided : (u : Unit) (watts : ℤ) → varsOf u watts ≤ℤ pos (u .provide)
+unfolding varsOf varsIn
+vars-provided u watts = side-provided (negative (u .«var_request»)) (natAbs (u .«var_request»)) (u .provide) (u .absorb) (legOf (u .kva) (natAbs watts))
+
+pub vars-absorbed : (u : Unit) (watts : ℤ) → negℤ (pos (u .absorb)) ≤ℤ varsOf u watts
+unfolding varsOf varsIn
+vars-absorbed u watts = side-absorbed (negative (u .«var_request»)) (natAbs (u .«var_request»)) (u .provide) (u .absorb) (legOf (u .kva) (natAbs watts))
+
 -- ---- charging and idling both draw from the grid. A draw of d watts: its size, that it is below whatever is asked, and that energy is conserved
 -- where what is stored and lost is what was stored and drawn; each also where d is 0
 draw-size : (d n : ℕ) → d ≤ n → natAbs (negℤ (pos d)) ≤ n
 draw-size d n h = le-trans (le-of-eq (size-neg (pos d))) h
-
-draw-below : (d n : ℕ) → negℤ (pos d) ≤ℤ pos n
-draw-below zero n = record { le = le→leb 0 n (omega arith) }
-draw-below (suc d) n = record { le = tt }
 
 drawn : (seconds stored d : ℕ) (vars : ℤ) (after loss : ℕ) → after + loss ≡ stored + d * seconds
     → Conserved seconds stored (record { watts = negℤ (pos d); vars = vars; stored = after; loss = loss })

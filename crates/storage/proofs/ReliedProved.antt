@@ -8,7 +8,7 @@ use lib.IntN.{ℤ, natAbs}
 use Rattle.unit.proofs.RangeLaws.{bounds}
 use Rattle.storage.proofs.LimitLaws.{held-most}
 use Rattle.storage.proofs.StepLaws.{flow-able}
-use Rattle.storage.proofs.ReliedLaws.{vars-in-circle, no-more, moves-no-more, charging-draws, watts-le, stays, never-above, conserves}
+use Rattle.storage.proofs.ReliedLaws.{vars-in-circle, vars-provided, vars-absorbed, no-more, moves-no-more, charging-draws, watts-le, stays, never-above, conserves}
 use Rattle.unit.specs.declared.Unit.{Unit}
 use Rattle.unit.specs.Ranges.{unitIn, secondsIn}
 use Rattle.storage.specs.Relied.{Relied}
@@ -26,6 +26,8 @@ relied u seconds request e t =
       staysWithin = λ r. (stays u seconds p b r f a, never-above u seconds p b f a);
       neverAboveRated = never-above u seconds p b f a;
       inCircle = vars-in-circle u (gridWatts u f) (watts-le u seconds p b rated f a);
+      noMoreProvided = vars-provided u (gridWatts u f);
+      noMoreAbsorbed = vars-absorbed u (gridWatts u f);
       conserved = conserves u seconds p b f a;
       noMoreThanAsked = λ x q. no-more u seconds p x (le-trans asked (le-of-eq (ap natAbs q))) f a;
       nothingWhileCharging = λ x q. charging-draws u seconds request x q;

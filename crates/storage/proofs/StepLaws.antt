@@ -24,10 +24,10 @@ use Rattle.storage.specs.declared.Flow.the-variants.{Out, In, Idle}
 use Rattle.storage.specs.declared.Move.{Move}
 use Rattle.storage.specs.declared.Outcome.{Outcome}
 use Rattle.storage.specs.declared.Stepped.the-variants.{Done, RefusedBy}
-use Rattle.unit.specs.Ranges.{idleDraw, unitIn, secondsIn, Ranged}
+use Rattle.unit.specs.Ranges.{idleDraw, unitIn, secondsIn, editionIn, inEdition, Ranged}
 use Rattle.storage.specs.Ranges.{stepRefusal}
 use Rattle.storage.specs.Posts.{Carried, Moving, movedBy, moveBy, idleVars, restOf}
-use Rattle.storage.specs.Step.{removedBy, addedBy, deliverable, takeable, heldSize, outFlow, discharged, charged, flowOf, gridWatts, varsOf, storedOf, lossOf, outcomeOf, stepOf, steppedOf}
+use Rattle.storage.specs.Step.{removedBy, addedBy, deliverable, takeable, heldSize, outFlow, discharged, charged, flowOf, gridWatts, varsOf, storedOf, lossOf, outcomeOf, stepOf, steppedOf, steppedAs}
 
 -- ---- what flows, case by case
 module _ (u : Unit) (s p : ℕ) where
@@ -348,3 +348,19 @@ pub ranged : (u : Unit) (s : ℕ) → not (secondsIn s && unitIn u) ≡ false �
 ranged u s e =
     let p = and-parts (secondsIn s) (unitIn u) (not-false (secondsIn s && unitIn u) e) in
     record { unit = p .1; seconds-in = p .0 }
+
+-- ---- a step of a unit of an edition, by the test that the code has made
+module _ (edition : ℕ) (u : Unit) (s : ℕ) (request : ℤ) (known : Bool) (ek : known ≡ editionIn edition) where
+  by-edition : (b : Bool) → not known ≡ b → steppedAs edition u s request ≡ cond b (RefusedBy 5) (steppedOf (inEdition edition u) s request)
+  unfolding steppedAs
+  by-edition b e = ap (λ (t : Bool). cond t (steppedOf (inEdition edition u) s request) (RefusedBy 5)) (sym ek) ∙ turned known ∙ ap (λ (t : Bool). cond t (RefusedBy 5) (steppedOf (inEdition edition u) s request)) e
+    where
+      turned : (t : Bool) → cond t (steppedOf (inEdition edition u) s request) (RefusedBy 5) ≡ cond (not t) (RefusedBy 5) (steppedOf (inEdition edition u) s request)
+      turned true = refl
+      turned false = refl
+
+  pub no-edition : not known ≡ true → RefusedBy 5 ≡ steppedAs edition u s request
+  no-edition e = sym (by-edition true e)
+
+  pub as-edition : not known ≡ false → steppedOf (inEdition edition u) s request ≡ steppedAs edition u s request
+  as-edition e = sym (by-edition false e)

@@ -3,4 +3,5 @@ pub mod Ranges
 pub mod Step
 pub mod Answers
 pub mod Relied
+pub mod Editions
 pub mod Posts

@@ -25,6 +25,9 @@ pub record Relied (u : Unit) (seconds : ℕ) (request : ℤ) : Type 0 where
   -- watts and vars lie in the kVA circle
   pub inCircle : natAbs (stepOf u seconds request .watts) * natAbs (stepOf u seconds request .watts)
       + natAbs (stepOf u seconds request .vars) * natAbs (stepOf u seconds request .vars) ≤ u .kva * u .kva
+  -- the vars lie between the unit's limits
+  pub noMoreProvided : stepOf u seconds request .vars ≤ℤ pos (u .provide)
+  pub noMoreAbsorbed : negℤ (pos (u .absorb)) ≤ℤ stepOf u seconds request .vars
   pub conserved : Conserved seconds (u .stored) (stepOf u seconds request)
   -- a unit delivers no more than it is asked, and nothing where it is asked to charge
   pub noMoreThanAsked : (x : ℕ) → request ≡ pos x → stepOf u seconds request .watts ≤ℤ pos x

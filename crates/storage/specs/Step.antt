@@ -13,15 +13,16 @@ use Rattle.storage.specs.declared.Flow.the-variants.{Out, In, Idle}
 use Rattle.storage.specs.declared.Outcome.{Outcome}
 use Rattle.storage.specs.declared.Stepped.{Stepped}
 use Rattle.storage.specs.declared.Stepped.the-variants.{Done, RefusedBy}
-use Rattle.unit.specs.Ranges.{idleDraw}
+use Rattle.unit.specs.Ranges.{idleDraw, editionIn, inEdition}
 use Rattle.storage.specs.Ranges.{stepRefusal}
 
--- U2: the loss that sits on the DC side is the idle loss, and what limits a unit's vars is S
+-- U2: the loss that sits on the DC side is the idle loss; what limits a unit's vars is its limit for absorbing where it is asked to absorb, else that for
+-- providing
 abbrev pub directLoss : Unit → ℕ
 directLoss u = u .«idle_loss»
 
 abbrev pub varLimit : Unit → ℕ
-varLimit u = u .kva
+varLimit u = cond (negative (u .«var_request»)) (u .absorb) (u .provide)
 
 -- the size of v, the var request brought down to that limit
 abbrev pub limitedVars : Unit → ℕ
@@ -114,3 +115,8 @@ steppedOf u seconds request =
     let n = stepRefusal u seconds request in
     let o = stepOf u seconds request in
     cond (eqb n 0) (Done o) (RefusedBy n)
+
+-- and of a unit of an edition: 5 for an edition that there is not
+unfoldable pub steppedAs : ℕ → Unit → ℕ → ℤ → Stepped
+unfolding steppedOf inEdition
+steppedAs edition u seconds request = cond (editionIn edition) (steppedOf (inEdition edition u) seconds request) (RefusedBy 5)

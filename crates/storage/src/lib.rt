@@ -10,6 +10,7 @@ pub use rows::row_of;
 pub use steps::idle_vars;
 pub use steps::rest;
 pub use steps::step;
+pub use steps::step_as;
 pub use steps::step_within;
 pub use unit::idle_draw;
 pub use unit::unit_in;

@@ -4,11 +4,15 @@ ghost use lib.IntN.{natAbs};
 ghost use Rattle.storage.specs.Step.{limitedVars, heldSize, varsOf};
 use unit::Unit;
 
-// The size of the var request, at most S.
+// The size of the var request, at most the limit for its direction.
 fn limited(u: Unit) -> u32
     ensures { λ r. ⌜ r ≡ limitedVars u ⌝ }
 {
-    whole::least32(whole::size32(u.var_request), u.kva)
+    let size = whole::size32(u.var_request);
+    if whole::below_zero32(u.var_request) {
+        return whole::least32(size, u.absorb);
+    }
+    whole::least32(size, u.provide)
 }
 
 // The size of a request as the unit holds it: limited to S and, under var priority, to what the

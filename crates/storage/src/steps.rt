@@ -1,5 +1,5 @@
 ghost use mathlib.Core.Path.{_≡_};
-ghost use Rattle.storage.specs.Step.{stepOf, steppedOf};
+ghost use Rattle.storage.specs.Step.{stepOf, steppedOf, steppedAs};
 ghost use mathlib.Core.Bool.{true};
 ghost use Prim.Native.Nat.{_≤_};
 ghost use Rattle.unit.specs.Ranges.{unitIn, Ranged};
@@ -60,4 +60,14 @@ pub fn step(u: Unit, seconds: u32, request: i32) -> Stepped
         return Stepped::RefusedBy(10);
     }
     Stepped::Done(step_within(u, seconds, request))
+}
+
+// One step of a unit of an edition: refused is also an edition that there is not (5).
+pub fn step_as(edition: u8, u: Unit, seconds: u32, request: i32) -> Stepped
+    ensures { λ r. ⌜ r ≡ steppedAs edition u seconds request ⌝ }
+{
+    if !unit::edition_in(edition) {
+        return Stepped::RefusedBy(5);
+    }
+    step(unit::in_edition(edition, u), seconds, request)
 }

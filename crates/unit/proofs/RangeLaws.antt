@@ -29,6 +29,8 @@ pub record Bounds (u : Unit) (seconds : ℕ) : Type 0 where
   pub discharge-most : u .discharge ≤ 10000
   pub priority-most : u .priority ≤ 1
   pub draw-most : idleDraw u ≤ u .kva
+  pub provide-most : u .provide ≤ u .kva
+  pub absorb-most : u .absorb ≤ u .kva
   pub seconds-least : 1 ≤ seconds
   pub seconds-most : seconds ≤ 86400
 
@@ -40,7 +42,9 @@ within low high x e =
 pub bounds : {u : Unit} {seconds : ℕ} → Ranged u seconds → Bounds u seconds
 unfolding memberIn unitIn
 bounds {u} {seconds} r =
-    let draw = and-parts _ _ (r .unit) in
+    let absorb = and-parts _ _ (r .unit) in
+    let provide = and-parts _ _ (absorb .0) in
+    let draw = and-parts _ _ (provide .0) in
     let priority = and-parts _ _ (draw .0) in
     let discharge = and-parts _ _ (priority .0) in
     let charge = and-parts _ _ (discharge .0) in
@@ -79,6 +83,8 @@ bounds {u} {seconds} r =
       discharge-most = discharge-in .1;
       priority-most = leb-true _ _ (priority .1);
       draw-most = leb-true _ _ (draw .1);
+      provide-most = leb-true _ _ (provide .1);
+      absorb-most = leb-true _ _ (absorb .1);
       seconds-least = seconds-in .0;
       seconds-most = seconds-in .1;
     }

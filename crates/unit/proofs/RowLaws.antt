@@ -44,6 +44,8 @@ unit-back u draw vars e =
       cut-back (u .charge) 10000 65536 (b .charge-most) (lit< tt),
       cut-back (u .discharge) 10000 65536 (b .discharge-most) (lit< tt),
       cut-back (u .priority) 1 256 (b .priority-most) (lit< tt),
+      cut-back (u .provide) 100000000 4294967296 (le-trans (b .provide-most) (b .kva-most)) (lit< tt),
+      cut-back (u .absorb) 100000000 4294967296 (le-trans (b .absorb-most) (b .kva-most)) (lit< tt),
     ) in
     same
 

@@ -1,6 +1,6 @@
--- A unit's twelve values, in the file's order, and their ranges (rules Q); the idle draw and its limit; the length of a step.
+-- A unit's fourteen values, in the file's order, and their ranges (rules Q); the idle draw and its limit; the editions; the length of a step.
 use Prim.Native.Nat.{ℕ, _*_}
-use mathlib.Core.Bool.{Bool, true, _&&_}
+use mathlib.Core.Bool.{Bool, true, cond, _&&_}
 use mathlib.Core.Path.{_≡_}
 use lib.Dec.{leb}
 use lib.IntN.{natAbs}
@@ -18,14 +18,43 @@ unfoldable pub memberIn : ℕ → ℕ → ℕ → ℕ → ℕ → Bool
 memberIn rated reserve stored rating weight =
     between 1 10000000000000 rated && leb reserve rated && leb stored rated && between 1 100000000 rating && between 1 10000 weight
 
--- all twelve: these, S, the idle loss, the var request, the efficiencies, the priority, and an idle draw of at most S
+-- all of them: these, S, the idle loss, the var request, the efficiencies, the priority, an idle draw of at most S, and var limits of at most S
 unfoldable pub unitIn : Unit → Bool
 unfolding memberIn idleDraw
 unitIn u =
     memberIn (u .rated) (u .reserve) (u .stored) (u .rating) (u .weight)
     && between 1 100000000 (u .kva) && leb (u .«idle_loss») 10000000 && leb (natAbs (u .«var_request»)) 100000000
     && between 1000 10000 (u .inverter) && between 1000 10000 (u .charge) && between 1000 10000 (u .discharge)
-    && leb (u .priority) 1 && leb (idleDraw u) (u .kva)
+    && leb (u .priority) 1 && leb (idleDraw u) (u .kva) && leb (u .provide) (u .kva) && leb (u .absorb) (u .kva)
+
+-- the editions; from the second on a unit has var limits of its own, and in the first both are S (Q45)
+abbrev pub editionIn : ℕ → Bool
+editionIn edition = between 1 2 edition
+
+abbrev pub ownLimits : ℕ → Bool
+ownLimits edition = leb 2 edition
+
+abbrev pub limitIn : ℕ → ℕ → ℕ → ℕ
+limitIn edition kva own = cond (ownLimits edition) own kva
+
+-- the unit as its edition has it
+unfoldable pub inEdition : ℕ → Unit → Unit
+inEdition edition u = record {
+  rated = u .rated;
+  reserve = u .reserve;
+  stored = u .stored;
+  rating = u .rating;
+  kva = u .kva;
+  «idle_loss» = u .«idle_loss»;
+  «var_request» = u .«var_request»;
+  weight = u .weight;
+  inverter = u .inverter;
+  charge = u .charge;
+  discharge = u .discharge;
+  priority = u .priority;
+  provide = limitIn edition (u .kva) (u .provide);
+  absorb = limitIn edition (u .kva) (u .absorb);
+}
 
 -- a step of 1 to 86,400 s
 abbrev pub secondsIn : ℕ → Bool
@@ -46,6 +75,8 @@ holding u stored = record {
   charge = u .charge;
   discharge = u .discharge;
   priority = u .priority;
+  provide = u .provide;
+  absorb = u .absorb;
 }
 
 -- a unit and a step length in their ranges

@@ -3,7 +3,10 @@
 mod ranges;
 mod rows;
 
+pub use ranges::edition_in;
 pub use ranges::idle_draw;
+pub use ranges::in_edition;
+pub use ranges::limit_in;
 pub use ranges::member_in;
 pub use ranges::seconds_in;
 pub use ranges::unit_in;
@@ -18,7 +21,8 @@ pub use rows::unit_of;
 pub use rows::vars_of;
 pub use rows::weight_of;
 
-// A unit's values, in the order of the file. Priority 0 is watts, 1 vars.
+// A unit's values, in the order of the file. Priority 0 is watts, 1 vars; `provide` and `absorb` are
+// the most vars either way.
 pub struct Unit {
     pub rated: u64,
     pub reserve: u64,
@@ -32,4 +36,6 @@ pub struct Unit {
     pub charge: u16,
     pub discharge: u16,
     pub priority: u8,
+    pub provide: u32,
+    pub absorb: u32,
 }

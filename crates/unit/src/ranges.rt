@@ -1,5 +1,5 @@
 ghost use mathlib.Core.Path.{_≡_};
-ghost use Rattle.unit.specs.Ranges.{idleDraw, memberIn, unitIn, secondsIn};
+ghost use Rattle.unit.specs.Ranges.{idleDraw, memberIn, unitIn, secondsIn, editionIn, limitIn, inEdition};
 use super::Unit;
 
 // The watts that an idle unit draws from the grid.
@@ -20,7 +20,7 @@ pub fn member_in(rated: u64, reserve: u64, stored: u64, rating: u32, weight: u16
         & ((1 <= weight) & (weight <= 10000))
 }
 
-// Every value of the unit is in its range, and its idle draw is at most S.
+// Every value of the unit is in its range, and its idle draw and its var limits are at most S.
 pub fn unit_in(u: Unit) -> bool
     ensures { λ r. ⌜ r ≡ unitIn u ⌝ }
 {
@@ -36,6 +36,44 @@ pub fn unit_in(u: Unit) -> bool
         & ((1000 <= u.discharge) & (u.discharge <= 10000))
         & (u.priority <= 1)
         & (draw <= u.kva as u64)
+        & (u.provide <= u.kva)
+        & (u.absorb <= u.kva)
+}
+
+// The editions.
+pub fn edition_in(edition: u8) -> bool
+    ensures { λ r. ⌜ r ≡ editionIn edition ⌝ }
+{
+    (1 <= edition) & (edition <= 2)
+}
+
+// A var limit of a unit: its own from edition 2 on, S before.
+pub fn limit_in(edition: u8, kva: u32, own: u32) -> u32
+    ensures { λ r. ⌜ r ≡ limitIn edition kva own ⌝ }
+{
+    if 2 <= edition { own } else { kva }
+}
+
+// The unit as its edition has it.
+pub fn in_edition(edition: u8, u: Unit) -> Unit
+    ensures { λ r. ⌜ r ≡ inEdition edition u ⌝ }
+{
+    Unit {
+        rated: u.rated,
+        reserve: u.reserve,
+        stored: u.stored,
+        rating: u.rating,
+        kva: u.kva,
+        idle_loss: u.idle_loss,
+        var_request: u.var_request,
+        weight: u.weight,
+        inverter: u.inverter,
+        charge: u.charge,
+        discharge: u.discharge,
+        priority: u.priority,
+        provide: limit_in(edition, u.kva, u.provide),
+        absorb: limit_in(edition, u.kva, u.absorb),
+    }
 }
 
 // A step of 1 to 86,400 s.

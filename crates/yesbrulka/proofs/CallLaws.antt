@@ -1,5 +1,5 @@
 -- An exported function hands numbers to the library, which reads them back as they were, and stores what its answer gives, case by case. Assumes nothing.
-use mathlib.Core.Path.{_≡_, refl, sym, ap, ap₂, _∙_}
+use mathlib.Core.Path.{_≡_, refl, sym, ap, ap₂, _∙_, subst}
 use mathlib.Core.Bool.{Bool, true, false}
 use mathlib.Core.List.{List}
 use Prim.Native.Nat.{ℕ, _^_, _<_}
@@ -30,7 +30,7 @@ use Rattle.storage.specs.declared.Outcome.{Outcome}
 use Rattle.storage.specs.declared.Stepped.{Stepped}
 use Rattle.storage.specs.declared.Stepped.the-variants.{Done, RefusedBy}
 use Rattle.storage.specs.Answers.{stepCall}
-use Rattle.storage.specs.Step.{steppedOf}
+use Rattle.storage.specs.Step.{steppedAs}
 use Rattle.yesbrulka.specs.Calls.{flag, settingsOf, PassSeen, StudySeen, trialOf, StepSeen, LitSeen}
 
 -- a flag as a byte
@@ -111,15 +111,24 @@ module _ (load target : ℤ) (band factor budget : ℕ) (f : Fleet) (rs : List �
   study-refused n is = (study-kept (studyCall (studyAnswer (trialOf load target band factor budget) f rs)) settled passes (refusal n) (ap studyCall (sym study-is ∙ is)), study-left-is)
 
 -- ---- a step, of a unit by its var request
-module _ (seconds : ℕ) (unit : ℤ → Unit) (var request : ℤ) (hv : mag var < 2 ^ 31) (hr : mag request < 2 ^ 31) (ans : Stepped)
-    (ea : ans ≡ steppedOf (unit (toZ w32 (ofZ w32 var))) seconds (toZ w32 (ofZ w32 request))) (watts vars : ℤ) (stored loss : ℕ) where
-  step-is : ans ≡ steppedOf (unit var) seconds request
-  step-is = ea ∙ ap₂ (λ (v r : ℤ). steppedOf (unit v) seconds r) (read w32 var hv) (read w32 request hr)
+pub step-alike : {a b : Stepped} {number : ℕ} {watts watts′ vars vars′ : ℤ} {stored stored′ loss loss′ : ℕ} → a ≡ b
+    → StepSeen a number watts watts′ vars vars′ stored stored′ loss loss′ → StepSeen b number watts watts′ vars vars′ stored stored′ loss loss′
+step-alike {number = n} {watts = w} {watts′ = w′} {vars = v} {vars′ = v′} {stored = s} {stored′ = s′} {loss = l} {loss′ = l′} e seen =
+    subst (λ (x : Stepped). StepSeen x n w w′ v v′ s s′ l l′) e seen
+
+pub step-read : (edition seconds : ℕ) (unit : ℤ → Unit) (var request : ℤ) → mag var < 2 ^ 31 → mag request < 2 ^ 31
+    → steppedAs edition (unit (toZ w32 (ofZ w32 var))) seconds (toZ w32 (ofZ w32 request)) ≡ steppedAs edition (unit var) seconds request
+step-read edition seconds unit var request hv hr = ap₂ (λ (v r : ℤ). steppedAs edition (unit v) seconds r) (read w32 var hv) (read w32 request hr)
+
+module _ (edition seconds : ℕ) (unit : ℤ → Unit) (var request : ℤ) (hv : mag var < 2 ^ 31) (hr : mag request < 2 ^ 31) (ans : Stepped)
+    (ea : ans ≡ steppedAs edition (unit (toZ w32 (ofZ w32 var))) seconds (toZ w32 (ofZ w32 request))) (watts vars : ℤ) (stored loss : ℕ) where
+  step-is : ans ≡ steppedAs edition (unit var) seconds request
+  step-is = ea ∙ step-read edition seconds unit var request hv hr
 
   pub step-done : (o : Outcome) → ans ≡ Done o → mag (o .watts) < 2 ^ 31 → mag (o .vars) < 2 ^ 31
-      → StepSeen (steppedOf (unit var) seconds request) 0 watts (toZ w32 (ofZ w32 (o .watts))) vars (toZ w32 (ofZ w32 (o .vars))) stored (o .stored) loss (o .loss)
+      → StepSeen (steppedAs edition (unit var) seconds request) 0 watts (toZ w32 (ofZ w32 (o .watts))) vars (toZ w32 (ofZ w32 (o .vars))) stored (o .stored) loss (o .loss)
   step-done o e hw hq =
-      let is : Done o ≡ steppedOf (unit var) seconds request = sym e ∙ step-is in
+      let is : Done o ≡ steppedAs edition (unit var) seconds request = sym e ∙ step-is in
       record {
         number-is = ap (λ (x : Stepped). numberOf (stepCall x)) is;
         watts-is = read w32 (o .watts) hw ∙ ap (λ (x : Stepped). heldAfter (stepCall x) (λ (q : Outcome). q .watts) watts) is;
@@ -128,9 +137,9 @@ module _ (seconds : ℕ) (unit : ℤ → Unit) (var request : ℤ) (hv : mag var
         loss-is = ap (λ (x : Stepped). heldAfter (stepCall x) (λ (q : Outcome). q .loss) loss) is;
       }
 
-  pub step-refused : (n : ℕ) → ans ≡ RefusedBy n → StepSeen (steppedOf (unit var) seconds request) n watts watts vars vars stored stored loss loss
+  pub step-refused : (n : ℕ) → ans ≡ RefusedBy n → StepSeen (steppedAs edition (unit var) seconds request) n watts watts vars vars stored stored loss loss
   step-refused n e =
-      let is : RefusedBy n ≡ steppedOf (unit var) seconds request = sym e ∙ step-is in
+      let is : RefusedBy n ≡ steppedAs edition (unit var) seconds request = sym e ∙ step-is in
       record {
         number-is = ap (λ (x : Stepped). numberOf (stepCall x)) is;
         watts-is = ap (λ (x : Stepped). heldAfter (stepCall x) (λ (q : Outcome). q .watts) watts) is;

@@ -71,9 +71,9 @@ StudyTold c number settled passes = StudySeen c number (held settled) (left sett
 abbrev pub trialOf : ℤ → ℤ → ℕ → ℕ → ℕ → Trial
 trialOf load target band factor budget = record { settings = settingsOf 1 target band factor; load = load; budget = budget }
 
--- yb_step: the unit's values in the call's order; the number, and what the step gives
-abbrev pub unitOf : ℕ → ℕ → ℕ → ℕ → ℕ → ℕ → ℤ → ℕ → ℕ → ℕ → ℕ → ℕ → Unit
-unitOf rated reserve stored rating kva idle var weight inverter charge discharge priority = record {
+-- yb_step and yb_step_as: the unit's values in the calls' order; the number, and what the step gives
+abbrev pub unitOf : ℕ → ℕ → ℕ → ℕ → ℕ → ℕ → ℤ → ℕ → ℕ → ℕ → ℕ → ℕ → ℕ → ℕ → Unit
+unitOf rated reserve stored rating kva idle var weight inverter charge discharge priority provide absorb = record {
   rated = rated;
   reserve = reserve;
   stored = stored;
@@ -86,6 +86,8 @@ unitOf rated reserve stored rating kva idle var weight inverter charge discharge
   charge = charge;
   discharge = discharge;
   priority = priority;
+  provide = provide;
+  absorb = absorb;
 }
 
 pub record StepSeen (a : Stepped) (number : ℕ) (watts watts′ vars vars′ : ℤ) (stored stored′ loss loss′ : ℕ) : Type 0 where

@@ -8,7 +8,7 @@ ghost use Rattle.reading.specs.Conversion.{wattsOf, wattsCall};
 ghost use Rattle.unit.specs.declared.Unit.{Unit};
 ghost use Rattle.controller.specs.Answers.{passAnswer, passLeaves};
 ghost use Rattle.settling.specs.Answers.{studyAnswer, studyLeaves, studyCall};
-ghost use Rattle.storage.specs.Step.{steppedOf};
+ghost use Rattle.storage.specs.Step.{steppedAs};
 ghost use Rattle.site.specs.declared.Head.{Head};
 ghost use Rattle.stick.specs.Check.{checkOf};
 ghost use Rattle.parts.specs.Parts.{partStart, partSize};
@@ -199,10 +199,62 @@ pub extern "C" fn yb_step(
     request: i32,
     watts: &mut i32,
     vars: &mut i32,
-    stored_after: &mut u64,
+    after: &mut u64,
     loss: &mut u64,
 ) -> u32
-    ensures { λ r. ⌜ StepTold (steppedOf (unitOf rated reserve stored rating kva «idle_loss» «var_request» weight inverter charge discharge priority) seconds request) r watts vars «stored_after» loss ⌝ }
+    ensures { λ r. ⌜ StepTold (steppedAs 1 (unitOf rated reserve stored rating kva «idle_loss» «var_request» weight inverter charge discharge priority kva kva) seconds request) r watts vars after loss ⌝ }
+{
+    yb_step_as(
+        1,
+        seconds,
+        rated,
+        reserve,
+        stored,
+        rating,
+        kva,
+        idle_loss,
+        var_request,
+        weight,
+        inverter,
+        charge,
+        discharge,
+        priority,
+        kva,
+        kva,
+        request,
+        watts,
+        vars,
+        after,
+        loss,
+    )
+}
+
+// The same of a unit of an edition, with var limits of its own from edition 2 on.
+#[no_mangle]
+pub extern "C" fn yb_step_as(
+    edition: u8,
+    seconds: u32,
+    rated: u64,
+    reserve: u64,
+    stored: u64,
+    rating: u32,
+    kva: u32,
+    idle_loss: u32,
+    var_request: i32,
+    weight: u16,
+    inverter: u16,
+    charge: u16,
+    discharge: u16,
+    priority: u8,
+    provide: u32,
+    absorb: u32,
+    request: i32,
+    watts: &mut i32,
+    vars: &mut i32,
+    after: &mut u64,
+    loss: &mut u64,
+) -> u32
+    ensures { λ r. ⌜ StepTold (steppedAs edition (unitOf rated reserve stored rating kva «idle_loss» «var_request» weight inverter charge discharge priority provide absorb) seconds request) r watts vars after loss ⌝ }
 {
     let u = Unit {
         rated,
@@ -217,14 +269,16 @@ pub extern "C" fn yb_step(
         charge,
         discharge,
         priority,
+        provide,
+        absorb,
     };
-    match storage::step(u, seconds, request) {
+    match storage::step_as(edition, u, seconds, request) {
         Stepped::Done(o) => {
             let given = o.watts;
             let side = o.vars;
             *watts = given;
             *vars = side;
-            *stored_after = o.stored;
+            *after = o.stored;
             *loss = o.loss;
             0
         }
@@ -388,6 +442,24 @@ pub extern "C" fn yb_unit(
             *charge = u.charge;
             *discharge = u.discharge;
             *priority = u.priority;
+            0
+        }
+        UnitAnswer::UnitRefused(n) => n as u32,
+    }
+}
+
+// What a file says: 0 and the var limits of a unit; or the check's number, or 10 for a unit outside
+// the fleet.
+#[no_mangle]
+pub extern "C" fn yb_var_limits(file: &[u8], unit: u32, provide: &mut u32, absorb: &mut u32) -> u32
+    ensures { λ r. ⌜ r ≡ numberOf (unitSaid (now (file .entry)) unit) ⌝ }
+    ensures { λ _. ⌜ now (provide .exit) ≡ heldAfter (unitSaid (now (file .entry)) unit) (λ (u : Unit). u .provide) (now (provide .entry)) ⌝ }
+    ensures { λ _. ⌜ now (absorb .exit) ≡ heldAfter (unitSaid (now (file .entry)) unit) (λ (u : Unit). u .absorb) (now (absorb .entry)) ⌝ }
+{
+    match ask::unit(file, unit) {
+        UnitAnswer::UnitSaid(u) => {
+            *provide = u.provide;
+            *absorb = u.absorb;
             0
         }
         UnitAnswer::UnitRefused(n) => n as u32,

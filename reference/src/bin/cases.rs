@@ -16,11 +16,11 @@ use yesbrulka_reference::samples::fleets::{self, PassCall, StudyCall};
 use yesbrulka_reference::samples::inverters::{self, SolarCall};
 use yesbrulka_reference::samples::sticks::{self, Field};
 use yesbrulka_reference::samples::units::{self, StepCall};
-use yesbrulka_reference::samples::{self, roofs, seasons, Draw};
+use yesbrulka_reference::samples::{self, limits, roofs, seasons, Draw};
 use yesbrulka_reference::season;
 use yesbrulka_reference::solar::{Produced, Weather};
 use yesbrulka_reference::stick::{self, Answer, Run};
-use yesbrulka_reference::storage::{self, Stepped};
+use yesbrulka_reference::storage::{self, Stepped, Unit};
 use yesbrulka_reference::whole;
 
 /// What the Rattle program has room for: a file's payload, and the room that it lends.
@@ -150,7 +150,7 @@ impl Cases {
         self.add(b'T', &payload, list(&answer));
     }
 
-    /// 'S': seconds u32, a unit's twelve values as in its field, and the request i32; the
+    /// 'S': seconds u32, a unit's twelve values as in its field of edition 1, and the request i32; the
     /// watts, the vars, the energy stored after, and the loss.
     fn step(&mut self, call: &StepCall) {
         let mut payload = Vec::new();
@@ -715,6 +715,57 @@ fn roof_check_cases(cases: &mut Cases) {
     }
 }
 
+/// Files of both editions: units of either length, and var limits at their ends and beside them.
+fn limits_check_cases(cases: &mut Cases) {
+    let mut draw = Draw::from_seed(16);
+    // One unit and two steps, one of them missing.
+    let run = sticks::with(&limits::limited(sticks::run(1, 0, &mut draw), &mut draw), |run| {
+        run.readings = vec![sticks::power_reading(&mut Draw::from_seed(16)), Reading::Missing];
+    });
+    let long = sticks::fields(&run);
+    let short = sticks::fields(&sticks::with(&run, |run| run.site.edition = 1));
+    let file = sticks::bytes(&long);
+    for length in 9..=file.len() {
+        cases.check(&file[..length]);
+    }
+    for fields in [&short, &long] {
+        for edition in [0, 1, 2, 3, 4, 128, 129, 130, 255] {
+            cases.check(&sticks::bytes(&limits::in_edition(edition, fields)));
+        }
+        // A unit of either length before the fleet, instead of the unit, behind it, and behind the settings.
+        for unit in [&short[1..2], &long[1..2]] {
+            cases.check(&instead(fields, 1, unit[0].clone()));
+            for (before, after) in [0, 1, 2, 3].map(|at| fields.split_at(at)) {
+                cases.check(&sticks::bytes(&[before, unit, after].concat()));
+            }
+        }
+    }
+    for at in 0..3 {
+        field_cases(cases, &long, at, &[0, 3, 0x0A], &mut draw);
+    }
+    let changes = units::ENDS.iter().chain(&units::BAD_VALUES).chain(&limits::ENDS);
+    for change in changes.chain(&limits::BAD_VALUES) {
+        cases.check(&sticks::file(&sticks::with_unit(&run, 0, change)));
+    }
+    for fleet in sticks::bad_fleets(&run) {
+        cases.check(&instead(&long, 0, fleet));
+    }
+    // Several things wrong at once, and fleets of other sizes.
+    for _ in 0..160 {
+        cases.check(&limits::damaged_file(&mut draw));
+    }
+    for _ in 0..40 {
+        cases.check(&limits::shuffled_file(&mut draw));
+    }
+    for units in [2, 3, 4, 31, 64] {
+        let run = limits::limited(roofs::run(units, units % 3, 2, &mut draw), &mut draw);
+        cases.check(&sticks::file(&run));
+        let mut fields = sticks::fields(&run);
+        fields.remove(units);
+        cases.check(&sticks::bytes(&fields));
+    }
+}
+
 fn value_part_cases(cases: &mut Cases) {
     let mut draw = Draw::from_seed(11);
     let file = sticks::file(&sticks::run(1, 1, &mut draw));
@@ -891,6 +942,47 @@ fn roof_run_cases(cases: &mut Cases) {
     }
 }
 
+/// Runs of both editions, of few steps, to keep the stored files small.
+fn limits_run_cases(cases: &mut Cases) {
+    let mut draw = Draw::from_seed(17);
+    // The whole case with figure D4's unit, in either edition.
+    for edition in 1..=2 {
+        for var_request in [0, 599, 600, 601, 700, -299, -300, -301, -700, 1_001, -1_001] {
+            let run = sticks::with(&sticks::whole_case(), |run| {
+                run.site.edition = edition;
+                run.site.units = vec![Unit { var_request, ..limits::figure_unit() }];
+            });
+            cases.run_of(0, &run);
+        }
+    }
+    for units in (1..=8).chain([16, 33, 64]) {
+        let steps = if units == 64 { 3 } else { 1 + units % 3 };
+        cases.run_of(0, &limits::limited(seasons::run(units, steps, &mut draw), &mut draw));
+    }
+    // Values at the ends of their ranges, and the limits about each other and the request.
+    let run = limits::limited(seasons::run(2, 2, &mut draw), &mut draw);
+    for end in units::ENDS.iter().chain(&limits::ENDS) {
+        cases.run_of(0, &sticks::with_unit(&run, 1, end));
+    }
+    // Rooms that fit, are longer, or fall short, with inverters or without.
+    for round in 0..160 {
+        let (units, steps) = (1 + round % 3, draw.below(6) as usize);
+        let more = draw.one_of(&[0, 0, 0, 1, 40, -1, -40]);
+        cases.run_of(more, &limits::run(units, round % 2, steps, &mut draw));
+    }
+    // Refused files, where the room would do.
+    for _ in 0..40 {
+        cases.run(600, &limits::damaged_file(&mut draw));
+    }
+    for spoil in limits::BAD_VALUES {
+        cases.run(400, &sticks::file(&sticks::with_unit(&run, 1, spoil)));
+    }
+    let fields = sticks::fields(&run);
+    for edition in [0, 1, 2, 3, 4, 255] {
+        cases.run(400, &sticks::bytes(&limits::in_edition(edition, &fields)));
+    }
+}
+
 fn main() -> ExitCode {
     let names: Vec<_> = env::args_os().skip(1).collect();
     if names.len() != 2 {
@@ -910,9 +1002,11 @@ fn main() -> ExitCode {
     solar_cases(&mut cases);
     check_cases(&mut cases);
     roof_check_cases(&mut cases);
+    limits_check_cases(&mut cases);
     value_part_cases(&mut cases);
     run_cases(&mut cases);
     roof_run_cases(&mut cases);
+    limits_run_cases(&mut cases);
     for (name, bytes) in names.iter().zip([cases.records.as_slice(), cases.answers.as_bytes()]) {
         if let Err(error) = fs::write(name, bytes) {
             eprintln!("cases: {}: {error}", name.to_string_lossy());

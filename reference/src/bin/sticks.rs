@@ -1,8 +1,8 @@
 //! Writes the sample sticks: `sticks FOLDER`.
 //!
-//! `season.stick`, `harvest.stick` and `roof.stick` are complete; each of the others is the first of these or the
-//! last, or one like it, after one thing that happens to sticks. The same files come out every time, so that the gate
-//! can compare them with the stored ones.
+//! `season.stick`, `harvest.stick`, `roof.stick` and `vineyard.stick` are complete; each of the others is one of these,
+//! or one like it, after one thing that happens to sticks. The same files come out every time, so that the gate can
+//! compare them with the stored ones.
 
 use std::path::PathBuf;
 use std::process::ExitCode;
@@ -39,6 +39,8 @@ fn season() -> Run {
         charge: 9_500,
         discharge: 9_500,
         priority: 0,
+        provide: 110_000,
+        absorb: 110_000,
     };
     let grain = Unit {
         rated: 360_000_000,
@@ -53,6 +55,8 @@ fn season() -> Run {
         charge: 9_400,
         discharge: 9_450,
         priority: 1,
+        provide: 50_000,
+        absorb: 50_000,
     };
     let pumps = Unit {
         rated: 90_000_000,
@@ -67,6 +71,8 @@ fn season() -> Run {
         charge: 9_200,
         discharge: 9_200,
         priority: 0,
+        provide: 18_000,
+        absorb: 18_000,
     };
     Run {
         site: Site {
@@ -119,6 +125,8 @@ fn harvest() -> Run {
         charge: 9_600,
         discharge: 9_600,
         priority: 0,
+        provide: 66_000,
+        absorb: 66_000,
     };
     let dryer = Unit {
         rated: 1_600 * kwh,
@@ -133,6 +141,8 @@ fn harvest() -> Run {
         charge: 9_500,
         discharge: 9_450,
         priority: 0,
+        provide: 30_000,
+        absorb: 30_000,
     };
     let workshop = Unit {
         rated: 900 * kwh,
@@ -147,6 +157,8 @@ fn harvest() -> Run {
         charge: 9_300,
         discharge: 9_300,
         priority: 1,
+        provide: 10_000,
+        absorb: 10_000,
     };
     let pumps = Unit {
         rated: 150 * kwh,
@@ -161,6 +173,8 @@ fn harvest() -> Run {
         charge: 9_200,
         discharge: 9_200,
         priority: 0,
+        provide: 16_000,
+        absorb: 16_000,
     };
     Run {
         site: Site {
@@ -198,6 +212,13 @@ fn harvest_reading(step: usize) -> Reading {
     Reading::Power(Phases { first: kw(38), second: kw(35), third: kw(27) })
 }
 
+/// The file of these fields after a change.
+fn changed(fields: &[Field], change: &dyn Fn(&mut Vec<Field>)) -> Vec<u8> {
+    let mut fields = fields.to_vec();
+    change(&mut fields);
+    sticks::bytes(&fields)
+}
+
 /// A day of quarter hours.
 const DAY: usize = 96;
 
@@ -218,6 +239,8 @@ fn roof() -> Run {
         charge: 9_600,
         discharge: 9_600,
         priority: 0,
+        provide: 66_000,
+        absorb: 66_000,
     };
     let press = Unit {
         rated: 120 * kwh,
@@ -232,6 +255,8 @@ fn roof() -> Run {
         charge: 9_500,
         discharge: 9_500,
         priority: 0,
+        provide: 40_000,
+        absorb: 40_000,
     };
     let hall = Unit {
         rated: 25 * kwh,
@@ -246,6 +271,8 @@ fn roof() -> Run {
         charge: 9_300,
         discharge: 9_300,
         priority: 0,
+        provide: 11_000,
+        absorb: 11_000,
     };
     Run {
         site: Site {
@@ -348,11 +375,7 @@ fn roof_examples() -> Vec<(&'static str, u32, Vec<u8>)> {
     let run = roof();
     let fields = sticks::fields(&run);
     let first = roofs::first_inverter(&run);
-    let changed = |change: &dyn Fn(&mut Vec<Field>)| {
-        let mut fields = fields.clone();
-        change(&mut fields);
-        sticks::bytes(&fields)
-    };
+    let changed = |change: &dyn Fn(&mut Vec<Field>)| changed(&fields, change);
     let with = |change: &dyn Fn(&mut Run)| sticks::file(&sticks::with(&run, change));
     let at_weather = |step: usize, weather| sticks::file(&roofs::with_weather(&run, step, weather));
     vec![
@@ -404,17 +427,136 @@ fn roof_examples() -> Vec<(&'static str, u32, Vec<u8>)> {
     ]
 }
 
+/// A vineyard at the end of a long line, in edition 2: the grid's operator says how many vars each battery may provide
+/// and absorb. The cellar's gives vars before watts, and is asked to absorb more than it may; the press's is asked to
+/// provide more than it may; the pumps' may only provide; and the store's has no limit below its S. On the press house
+/// is a roof.
+fn vineyard() -> Run {
+    let kwh = 3_600_000;
+    let cellar = Unit {
+        rated: 240 * kwh,
+        reserve: 24 * kwh,
+        stored: 210 * kwh,
+        rating: 40_000,
+        kva: 44_000,
+        idle_loss: 220,
+        var_request: -30_000,
+        weight: 4,
+        inverter: 9_700,
+        charge: 9_600,
+        discharge: 9_600,
+        priority: 1,
+        provide: 20_000,
+        absorb: 12_000,
+    };
+    let press = Unit {
+        rated: 90 * kwh,
+        reserve: 9 * kwh,
+        stored: 80 * kwh,
+        rating: 20_000,
+        kva: 21_000,
+        idle_loss: 110,
+        var_request: 15_000,
+        weight: 2,
+        inverter: 9_600,
+        charge: 9_500,
+        discharge: 9_500,
+        priority: 0,
+        provide: 8_000,
+        absorb: 21_000,
+    };
+    let pumps = Unit {
+        rated: 30 * kwh,
+        reserve: 3 * kwh,
+        stored: 30 * kwh,
+        rating: 8_000,
+        kva: 9_000,
+        idle_loss: 50,
+        var_request: -4_000,
+        weight: 1,
+        inverter: 9_400,
+        charge: 9_300,
+        discharge: 9_300,
+        priority: 0,
+        provide: 5_000,
+        absorb: 0,
+    };
+    let store = Unit {
+        rated: 120 * kwh,
+        reserve: 12 * kwh,
+        stored: 100 * kwh,
+        rating: 25_000,
+        kva: 25_000,
+        idle_loss: 130,
+        var_request: 12_000,
+        weight: 2,
+        inverter: 9_600,
+        charge: 9_400,
+        discharge: 9_400,
+        priority: 0,
+        provide: 25_000,
+        absorb: 25_000,
+    };
+    Run {
+        site: Site {
+            edition: 2,
+            seconds: 900,
+            units: vec![cellar, press, pumps, store],
+            settings: Settings { mode: 1, target: 55_000, band: 4_000, factor: 600 },
+            phase: 0,
+            inverters: roof_inverters()[..1].to_vec(),
+        },
+        readings: (0..DAY).map(vineyard_reading).collect(),
+        weather: (0..DAY).map(roof_weather).collect(),
+    }
+}
+
+/// A quarter of the vintage: the presses run from the morning into the evening, and the meter was silent now and then.
+fn vineyard_reading(step: usize) -> Reading {
+    if step % 37 == 11 {
+        return Reading::Missing;
+    }
+    // In hundreds of W, of all three phases. The meter is behind the batteries: once these give, it shows less.
+    let meter = [
+        310, 300, 290, 290, 320, 420, 610, 780, 690, 560, 530, 520, 505, 530, 560, 580, 640, 720, 700, 560,
+        470, 420, 370, 330,
+    ];
+    let noise = (step * 53 % 41) as i64 - 20;
+    let kw = |part: i64| ((between_hours(&meter, step) + noise) * part / 10) as f64 / 100.0;
+    Reading::Power(Phases { first: kw(40), second: kw(31), third: kw(29) })
+}
+
+/// The complete stick of the vineyard, and what happened to others like it.
+fn vineyard_examples() -> Vec<(&'static str, u32, Vec<u8>)> {
+    let run = vineyard();
+    let fields = sticks::fields(&run);
+    let changed = |change: &dyn Fn(&mut Vec<Field>)| changed(&fields, change);
+    vec![
+        ("vineyard.stick", 0, sticks::bytes(&fields)),
+        // The press's battery was copied from last year's stick, which is of edition 1.
+        (
+            "refused-03-unit-without-var-limits.stick",
+            3,
+            changed(&|fields| fields[2] = sticks::unit_field(1, &run.site.units[1])),
+        ),
+        // The pumps' limit was typed with a digit too many.
+        (
+            "refused-05-var-limit-beyond-kva.stick",
+            5,
+            sticks::file(&sticks::with(&run, |run| run.site.units[2].provide = 50_000)),
+        ),
+        // Written by a planner that is newer than the library.
+        ("refused-05-unknown-edition.stick", 5, changed(&|fields| fields[0].value[0] = 4)),
+    ]
+}
+
 /// The name of each stick, the number that its check gives, and its bytes.
 fn examples() -> Vec<(&'static str, u32, Vec<u8>)> {
     let run = season();
     let fields = sticks::fields(&run);
     let whole = sticks::bytes(&fields);
     let place = |at: usize| sticks::bytes(&fields[..at]).len();
-    let changed = |change: &dyn Fn(&mut Vec<Field>)| {
-        let mut fields = fields.clone();
-        change(&mut fields);
-        sticks::bytes(&fields)
-    };
+    let changed = |change: &dyn Fn(&mut Vec<Field>)| changed(&fields, change);
     // A season that has one step too many, nothing of which was measured.
     let mut long = sticks::bytes(&fields[..READINGS]);
     long.extend([MISSING, 0, 0].repeat(65_536));
@@ -456,6 +598,7 @@ fn examples() -> Vec<(&'static str, u32, Vec<u8>)> {
         ("refused-12-too-many-steps.stick", 12, long),
     ];
     all.extend(roof_examples());
+    all.extend(vineyard_examples());
     all
 }
 
@@ -493,7 +636,15 @@ mod tests {
     #[test]
     fn every_number_that_a_file_can_have_is_there() {
         let numbers: Vec<u32> = examples().iter().map(|&(_, number, _)| number).collect();
-        assert_eq!(numbers, [0, 0, 1, 2, 3, 4, 5, 6, 7, 8, 9, 12, 0, 4, 4, 4, 5, 5, 6, 6]);
+        assert_eq!(numbers, [0, 0, 1, 2, 3, 4, 5, 6, 7, 8, 9, 12, 0, 4, 4, 4, 5, 5, 6, 6, 0, 3, 5, 5]);
+    }
+
+    /// The place of what is wrong with each of the vineyard's sticks: its second unit, its third, and the fleet.
+    #[test]
+    fn the_sticks_of_the_vineyard_are_refused_at_their_fields() {
+        let places: Vec<u64> =
+            vineyard_examples().iter().skip(1).map(|(_, _, bytes)| stick::check(bytes).place).collect();
+        assert_eq!(places, [9 + 60, 9 + 2 * 60, 0]);
     }
 
     /// The place of what is wrong with each of the roof's sticks: an inverter, a curve, a weather, or the end field that
@@ -536,6 +687,29 @@ mod tests {
         assert!(steps.iter().any(|step| of(step, 2).0 > 6_000 && of(step, 2).1.watts == 6_000));
         let quiet = steps.iter().filter(|step| step.records.iter().all(|record| record.request == 0)).count();
         assert!((100..250).contains(&quiet), "{quiet}");
+    }
+
+    /// What a reader of the vineyard's result is to see: vars at either limit and none from the one that may only
+    /// provide, watts that vars first would have held back without a limit, vars that the circle cuts where no limit
+    /// does, and an inverter that works by day.
+    #[test]
+    fn the_vineyard_is_worth_reading() {
+        let run = stick::read(&sticks::file(&vineyard())).unwrap();
+        assert_eq!((run.site.edition, run.site.units.len(), run.site.inverters.len()), (2, 4, 1));
+        let steps = season::steps(&run);
+        let count = |of: &dyn Fn(&Step) -> bool| steps.iter().filter(|step| of(step)).count();
+        let vars = |step: &Step, unit: usize| step.records[unit].stepped.vars;
+        let watts = |step: &Step, unit: usize| step.records[unit].stepped.watts;
+        assert_eq!(count(&|step| vars(step, 0) == -12_000 && vars(step, 2) == 0), DAY);
+        assert!(count(&|step| vars(step, 1) == 8_000) > 60);
+        assert!(count(&|step| vars(step, 1) < 8_000) > 4);
+        // Beside 30,000 var there would be 32,186 W.
+        assert!(count(&|step| watts(step, 0) > 32_186) > 4);
+        assert!(count(&|step| vars(step, 3) < 12_000) > 4);
+        assert!(count(&|step| step.records.iter().all(|record| record.request == 0)) > 20);
+        assert!(count(&|step| step.solar[0].produced.on) > 20);
+        let without = sticks::with(&run, |run| run.site.edition = 1);
+        assert!(season::steps(&without) != steps);
     }
 
     /// What a reader of the roof's result is to see: inverters that turn on in the morning and off in the evening and

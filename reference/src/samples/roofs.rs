@@ -2,7 +2,7 @@
 //! fields of both.
 
 use super::inverters::{self, SolarCall};
-use super::sticks::{self, Field};
+use super::sticks::{self, Damage, Field};
 use super::{curves, seasons, Draw};
 use crate::curve::{Curve, Kind, EFF, WARM};
 use crate::octets::{put_f64, put_i32, put_u16, put_u32, put_u8};
@@ -290,14 +290,9 @@ fn spoil_plate(value: &mut [u8], draw: &mut Draw) {
     }
 }
 
-/// A small file with a few pieces of damage, at one field or at several, and its end cut off or not.
-pub fn damaged_file(draw: &mut Draw) -> Vec<u8> {
-    let mut fields = sticks::fields(&small_run(draw));
-    let field = draw.below(fields.len() as u64) as usize;
-    for _ in 0..1 + draw.below(3) {
-        let other = draw.below(fields.len() as u64) as usize;
-        damage(&mut fields, draw.one_of(&[field, field, other]), draw);
-    }
+/// The bytes of these fields after a few pieces of damage of a kind, with the end cut off or not.
+pub fn damaged(mut fields: Vec<Field>, damage: Damage, draw: &mut Draw) -> Vec<u8> {
+    sticks::damage_some(&mut fields, damage, draw);
     let mut file = sticks::bytes(&fields);
     match draw.below(12) {
         0 => file.truncate(draw.below(file.len() as u64 + 1) as usize),
@@ -307,19 +302,28 @@ pub fn damaged_file(draw: &mut Draw) -> Vec<u8> {
     file
 }
 
-/// Fields of the list in any order, with good values for the most part.
-pub fn shuffled_file(draw: &mut Draw) -> Vec<u8> {
-    let run = small_run(draw);
-    let mut fields = sticks::fields(&run);
+/// A small file with a few pieces of damage, at one field or at several, and its end cut off or not.
+pub fn damaged_file(draw: &mut Draw) -> Vec<u8> {
+    damaged(sticks::fields(&small_run(draw)), damage, draw)
+}
+
+/// The file of a run with its fields in any order, with good values for the most part.
+pub fn shuffled(run: &Run, draw: &mut Draw) -> Vec<u8> {
+    let mut fields = sticks::fields(run);
     match draw.below(4) {
         // Anything behind a good beginning.
         0 => {
-            fields.truncate(first_inverter(&run) + draw.below(4) as usize);
+            fields.truncate(first_inverter(run) + draw.below(4) as usize);
             fields.extend((0..draw.below(7)).map(|_| any_field(draw)));
         }
         way => sticks::reorder(&mut fields, way == 1, draw),
     }
     sticks::bytes(&fields)
+}
+
+/// Fields of the list in any order, with good values for the most part.
+pub fn shuffled_file(draw: &mut Draw) -> Vec<u8> {
+    shuffled(&small_run(draw), draw)
 }
 
 #[cfg(test)]

@@ -9,7 +9,7 @@ use crate::site::Site;
 use crate::stick::Run;
 use crate::storage::Unit;
 
-/// A run that is not to be refused.
+/// A run of edition 1 that is not to be refused.
 pub fn run(units: usize, steps: usize, draw: &mut Draw) -> Run {
     let any = 1 + draw.below(86_400) as u32;
     let seconds = draw.one_of(&[1, 60, 900, 3_600, 3_600, 86_400, any]);
@@ -62,6 +62,8 @@ fn unit(seconds: u32, scale: u64, mode: u8, draw: &mut Draw) -> Unit {
         charge: efficiency(draw),
         discharge: efficiency(draw),
         priority: draw.below(2) as u8,
+        provide: kva,
+        absorb: kva,
     };
     set_energies(&mut unit, seconds, mode, draw);
     unit

@@ -39,7 +39,7 @@ pub fn fleet_field(edition: u8, count: u8, seconds: u32) -> Field {
     Field::new(FLEET, value)
 }
 
-/// A unit's twelve values, in the order of its field.
+/// A unit's twelve values without the var limits, in the order of its field.
 pub fn put_unit(value: &mut Vec<u8>, unit: &Unit) {
     for joules in [unit.rated, unit.reserve, unit.stored] {
         put_u64(value, joules);
@@ -52,6 +52,17 @@ pub fn put_unit(value: &mut Vec<u8>, unit: &Unit) {
         put_u16(value, number);
     }
     put_u8(value, unit.priority);
+}
+
+/// A unit's field in a file of an edition.
+pub fn unit_field(edition: u8, unit: &Unit) -> Field {
+    let mut value = Vec::new();
+    put_unit(&mut value, unit);
+    if edition != 1 {
+        put_u32(&mut value, unit.provide);
+        put_u32(&mut value, unit.absorb);
+    }
+    Field::new(UNIT, value)
 }
 
 pub fn reading_field(reading: &Reading) -> Field {
@@ -77,11 +88,7 @@ pub fn end_field(count: u32) -> Field {
 pub fn fields(run: &Run) -> Vec<Field> {
     let Site { edition, seconds, units, settings, phase, inverters } = &run.site;
     let mut fields = vec![fleet_field(*edition, units.len() as u8, *seconds)];
-    for unit in units {
-        let mut value = Vec::new();
-        put_unit(&mut value, unit);
-        fields.push(Field::new(UNIT, value));
-    }
+    fields.extend(units.iter().map(|unit| unit_field(*edition, unit)));
     let mut value = vec![settings.mode];
     put_i32(&mut value, settings.target);
     put_u32(&mut value, settings.band);
@@ -123,6 +130,8 @@ pub fn whole_case() -> Run {
         charge: 10_000,
         discharge: 10_000,
         priority: 0,
+        provide: 5_000,
+        absorb: 5_000,
     };
     Run {
         site: Site {
@@ -165,7 +174,7 @@ pub fn power_reading(draw: &mut Draw) -> Reading {
     Reading::Power(Phases { first, second, third })
 }
 
-/// A run that is not to be refused.
+/// A run of edition 1 that is not to be refused.
 pub fn run(units: usize, steps: usize, draw: &mut Draw) -> Run {
     let calls: Vec<StepCall> = (0..units).map(|_| units::step_call(draw)).collect();
     let missing = draw.one_of(&[1, 2, 2, 3, 100]);
@@ -251,7 +260,8 @@ pub const BAD_SETTINGS: [fn(&mut Run); 19] = [
 
 /// The run with a change to one of its units or to the length of its steps.
 pub fn with_unit(run: &Run, unit: usize, change: impl Fn(&mut StepCall)) -> Run {
-    let call = StepCall { seconds: run.site.seconds, unit: run.site.units[unit], request: 0 }.with(change);
+    let Site { edition, seconds, ref units, .. } = run.site;
+    let call = StepCall { edition, seconds, unit: units[unit], request: 0 }.with(change);
     let mut run = run.clone();
     run.site.seconds = call.seconds;
     run.site.units[unit] = call.unit;
@@ -265,16 +275,20 @@ pub fn with(run: &Run, change: impl Fn(&mut Run)) -> Run {
     run
 }
 
+/// Editions outside their range.
+const BAD_EDITIONS: [u8; 7] = [0, 3, 4, 128, 129, 130, 255];
+
 /// Fleet fields that are to be refused: an edition, a unit count or seconds outside their ranges.
 pub fn bad_fleets(run: &Run) -> Vec<Field> {
     let count = run.site.units.len() as u8;
     let mut found = Vec::new();
-    found.extend([0, 2, 3, 128, 129, 255].map(|edition| fleet_field(edition, count, run.site.seconds)));
+    let Site { edition, seconds, .. } = run.site;
+    found.extend(BAD_EDITIONS.map(|edition| fleet_field(edition, count, seconds)));
     found.extend(
-        [0, 65, 66, 128, count + 64, count + 128, 255].map(|count| fleet_field(1, count, run.site.seconds)),
+        [0, 65, 66, 128, count + 64, count + 128, 255].map(|count| fleet_field(edition, count, seconds)),
     );
     let seconds = [0, 86_401, 1 << 17, 1 << 24, 1 << 31, u32::MAX];
-    found.extend(seconds.map(|seconds| fleet_field(1, count, seconds)));
+    found.extend(seconds.map(|seconds| fleet_field(edition, count, seconds)));
     found
 }
 
@@ -378,14 +392,29 @@ pub fn damage(fields: &mut Vec<Field>, at: usize, draw: &mut Draw) {
     }
 }
 
-/// A small file with a few pieces of damage, at one field or at several, and its end cut off or not.
-pub fn damaged_file(draw: &mut Draw) -> Vec<u8> {
-    let mut fields = fields(&small_run(draw));
+/// One piece of damage to a file's fields at the field of a number.
+pub type Damage = fn(&mut Vec<Field>, usize, &mut Draw);
+
+/// A few pieces of damage of a kind, at one field or at several.
+pub fn damage_some(fields: &mut Vec<Field>, damage: Damage, draw: &mut Draw) {
     let field = draw.below(fields.len() as u64) as usize;
     for _ in 0..1 + draw.below(3) {
         let other = draw.below(fields.len() as u64) as usize;
-        damage(&mut fields, draw.one_of(&[field, field, other]), draw);
+        damage(fields, draw.one_of(&[field, field, other]), draw);
     }
+}
+
+/// Any bits in one to eight neighbouring bytes of a value.
+pub fn set_any_bits(value: &mut [u8], draw: &mut Draw) {
+    let from = draw.below(value.len() as u64) as usize;
+    let to = from + 1 + draw.below((value.len() - from).min(8) as u64) as usize;
+    value[from..to].iter_mut().for_each(|byte| *byte = draw.sized() as u8);
+}
+
+/// A small file with a few pieces of damage, and its end cut off or not.
+pub fn damaged_file(draw: &mut Draw) -> Vec<u8> {
+    let mut fields = fields(&small_run(draw));
+    damage_some(&mut fields, damage, draw);
     let mut file = bytes(&fields);
     match draw.below(8) {
         0 => file.truncate(draw.below(file.len() as u64 + 1) as usize),

@@ -3,12 +3,13 @@
 
 use super::Draw;
 use crate::ranges::{IDLE_LOSS, RATED, VAR_REQUEST};
-use crate::storage::Unit;
+use crate::storage::{self, Stepped, Unit};
 use crate::whole::largest_leg;
 
-/// All that one step is handed.
+/// All that one step is handed. In edition 1 the unit's var limits are not looked at.
 #[derive(Clone, Copy, Debug)]
 pub struct StepCall {
+    pub edition: u8,
     pub seconds: u32,
     pub unit: Unit,
     pub request: i32,
@@ -22,10 +23,18 @@ impl StepCall {
         call
     }
 
-    /// Sets the kVA rating, with the largest idle loss whose draw is within it or a smaller one.
+    /// What the reference says to it.
+    pub fn step(&self) -> Result<Stepped, u32> {
+        storage::step_as(self.edition, self.seconds, &self.unit, self.request)
+    }
+
+    /// Sets the kVA rating, with the largest idle loss whose draw is within it or a smaller one, and with limits that
+    /// are.
     fn set_kva(&mut self, kva: u32) {
         self.unit.kva = kva;
         self.unit.idle_loss = self.unit.idle_loss.min(most_idle_loss(&self.unit));
+        self.unit.provide = self.unit.provide.min(kva);
+        self.unit.absorb = self.unit.absorb.min(kva);
     }
 
     fn set_inverter(&mut self, inverter: u16) {
@@ -158,6 +167,8 @@ pub fn figure_unit(available: u64) -> Unit {
         charge: 8_000,
         discharge: 8_000,
         priority: 0,
+        provide: 5_000,
+        absorb: 5_000,
     }
 }
 
@@ -174,7 +185,7 @@ pub fn figure_steps() -> Vec<StepCall> {
         discharge: 10_000,
         ..figure_unit(0)
     };
-    let step = |unit, request| StepCall { seconds: 60, unit, request };
+    let step = |unit, request| StepCall { edition: 1, seconds: 60, unit, request };
     vec![
         step(figure_unit(75_750), 900),
         step(figure_unit(75_749), 900),
@@ -202,16 +213,16 @@ fn power(most: u64, draw: &mut Draw) -> u32 {
     draw.one_of(&[any, any, any, ends]) as u32
 }
 
-fn either_sign(size: u64, draw: &mut Draw) -> i32 {
+pub fn either_sign(size: u64, draw: &mut Draw) -> i32 {
     size as i32 * draw.one_of(&[1, -1])
 }
 
 /// One below, at, or one above.
-fn beside(n: u64, draw: &mut Draw) -> u64 {
+pub fn beside(n: u64, draw: &mut Draw) -> u64 {
     (n + draw.below(3)).saturating_sub(1)
 }
 
-/// A call that is not to be refused.
+/// A call of edition 1 that is not to be refused.
 pub fn step_call(draw: &mut Draw) -> StepCall {
     let any = 1 + draw.below(86_400) as u32;
     let seconds = draw.one_of(&[1, 1, 60, 60, 900, 3_600, 86_400, 86_400, any]);
@@ -229,6 +240,8 @@ pub fn step_call(draw: &mut Draw) -> StepCall {
         charge: efficiency(draw),
         discharge: efficiency(draw),
         priority: draw.below(2) as u8,
+        provide: 0,
+        absorb: 0,
     };
     unit.kva = match draw.below(4) {
         0 => unit.rating,
@@ -266,14 +279,14 @@ pub fn step_call(draw: &mut Draw) -> StepCall {
     };
     unit.var_request = either_sign(vars.min(*VAR_REQUEST.end() as u64), draw);
     let request = either_sign(size, draw);
-    let mut call = StepCall { seconds, unit, request };
+    let mut call = StepCall { edition: 1, seconds, unit: unit.of_edition(1), request };
     set_stores(&mut call, draw);
     call
 }
 
 /// The energies: what some count removes or adds, or one joule beside it, or at an end, or any.
 fn set_stores(call: &mut StepCall, draw: &mut Draw) {
-    let StepCall { seconds, unit, request } = *call;
+    let StepCall { seconds, unit, request, .. } = *call;
     let most = *RATED.end();
     let rated = draw.within(1, most);
     let (reserve, stored) = (draw.within(0, rated), draw.within(0, rated));

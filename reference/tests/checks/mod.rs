@@ -4,6 +4,7 @@ use std::collections::BTreeMap;
 
 use crate::host::Host;
 use yesbrulka_reference::samples::sticks::{self, Field};
+use yesbrulka_reference::samples::Draw;
 use yesbrulka_reference::stick::{self, Answer};
 
 /// Files go over in frames of about this many bytes.
@@ -96,6 +97,37 @@ impl Comparison {
         }
     }
 
+    /// Checks a complete file cut at every byte; each piece is refused for its end.
+    pub fn check_cuts(&mut self, file: &[u8]) {
+        for length in 0..file.len() {
+            let number = self.check(&file[..length]).number;
+            assert!(number == 1 || number == 8);
+        }
+    }
+
+    /// Checks a file with each of the 255 other values at every place.
+    pub fn check_bytes(&mut self, file: &[u8]) {
+        for place in 0..file.len() {
+            for other in 1..=255 {
+                let mut file = file.to_vec();
+                file[place] ^= other;
+                self.check(file);
+            }
+        }
+    }
+
+    /// Checks a field behind others that has no good value, with another length than its own, and with bytes missing;
+    /// gives the field.
+    pub fn check_spoiled(&mut self, before: &[Field], tag: u8, length: u16, draw: &mut Draw) -> Field {
+        let bad = Field::new(tag, vec![0xFF; length.into()]);
+        self.check_is(3, ending(before, &Field { length: length ^ 1, ..bad.clone() }, usize::MAX));
+        if length != 0 {
+            self.check_is(1, ending(before, &bad, 3));
+            self.check_is(1, ending(before, &bad, 3 + draw.below(length.into()) as usize));
+        }
+        bad
+    }
+
     fn add(&mut self, file: Vec<u8>, answer: Answer) -> Answer {
         self.payload.extend((file.len() as u32).to_le_bytes());
         self.payload.extend_from_slice(&file);
@@ -133,6 +165,15 @@ impl Comparison {
         println!("{} files", self.all);
         self.arms
     }
+}
+
+/// The file of these fields and then of one more, of which so many bytes are left.
+pub fn ending(before: &[Field], field: &Field, left: usize) -> Vec<u8> {
+    let mut file = sticks::bytes(before);
+    let place = file.len();
+    field.put(&mut file);
+    file.truncate(place.saturating_add(left));
+    file
 }
 
 pub fn met(arms: &BTreeMap<Arm, u32>, number: u32) -> u32 {

@@ -48,6 +48,7 @@ impl Met {
     }
 
     fn run(&mut self, run: &Run, steps: &[Step]) {
+        self.note("edition", run.site.edition.into());
         self.note("units", run.site.units.len() as u32);
         self.note("mode", run.site.settings.mode.into());
         self.note("phase", run.site.phase.into());
@@ -128,10 +129,9 @@ impl Met {
         let Record { request, stepped, .. } = *record;
         let asked = request.unsigned_abs().min(unit.kva);
         let vars = unit.var_request.unsigned_abs();
-        let size = match unit.priority {
-            0 => asked,
-            _ => asked.min(largest_leg(unit.kva, vars.min(unit.kva))),
-        };
+        let limited = unit.limited_vars().unsigned_abs();
+        let beside = |vars: u32| asked.min(largest_leg(unit.kva, vars));
+        let size = if unit.priority == 0 { asked } else { beside(limited) };
         let given = stepped.watts.unsigned_abs();
         let still = stepped.stored == stored;
         self.note("priority", unit.priority.into());
@@ -140,6 +140,11 @@ impl Met {
         self.note_if(size < asked, "watts cut by vars");
         self.note_if(stepped.vars.unsigned_abs() < vars, "vars cut");
         self.note_if(stepped.vars < 0, "vars below zero");
+        let by_limit = limited < vars.min(unit.kva);
+        self.note_if(by_limit && unit.var_request > 0, "vars above the provide limit");
+        self.note_if(by_limit && unit.var_request < 0, "vars beyond the absorb limit");
+        self.note_if(by_limit && stepped.vars.unsigned_abs() < limited, "vars cut by limit and circle");
+        self.note_if(unit.priority == 1 && size > beside(vars.min(unit.kva)), "watts that a limit left");
         self.note_if(stepped.watts == 0, "neither gave nor took");
         if request > 0 && size > 0 {
             self.note_if(!still && given == size, "gave it all");
@@ -228,6 +233,12 @@ impl Room {
         ])
     }
 
+    /// Of every kind, for a file that may be refused.
+    pub fn any_for_refused(draw: &mut Draw) -> Room {
+        let any = draw.below(1_000) as usize;
+        draw.one_of(&[Room::Empty, Room::Of(7), Room::Of(any), Room::Longer(any), Room::OneShort])
+    }
+
     fn length(self, needed: u64) -> usize {
         let needed = needed as usize;
         match self {
@@ -307,6 +318,12 @@ impl Comparison {
     pub fn run_of(&mut self, run: &Run, room: Room) {
         let number = self.run(sticks::file(run), room);
         assert!(number == 0 || number == 11, "the reference refused a run: {number}");
+    }
+
+    /// The same in every room from none to more than is needed.
+    pub fn run_in_every_room(&mut self, run: &Run) {
+        let needed = season::room_needed(&sticks::file(run)) as usize;
+        (0..needed + 54).for_each(|length| self.run_of(run, Room::Of(length)));
     }
 
     fn compare(&mut self) {

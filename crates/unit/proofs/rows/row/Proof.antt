@@ -42,13 +42,19 @@ cast-t13 c = omega (arith, c .struct-known7 .given)
 cast-t14 : tie.Need-cast-t14
 cast-t14 c = omega (arith, c .struct-known8 .given)
 
+cast-t15 : tie.Need-cast-t15
+cast-t15 c = omega (arith, c .struct-known9 .given)
+
 cast-t16 : tie.Need-cast-t16
-cast-t16 c = search needs
+cast-t16 c = omega (arith, c .struct-known10 .given)
+
+cast-t18 : tie.Need-cast-t18
+cast-t18 c = search needs
 
 returns : tie.Need-returns
 unfolding rowOf
 returns c =
-    let q = c .before .before .before .before .before .before .before .before in
+    let q = c .before .before .before .before .before .before .before .before .before .before in
     let p = q .before in
     let s = p .before .before in
     let told = p .before .struct-told .given in
@@ -71,5 +77,7 @@ row-spec =
     cast-t12
     cast-t13
     cast-t14
+    cast-t15
     cast-t16
+    cast-t18
     returns)

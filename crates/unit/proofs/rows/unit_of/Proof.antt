@@ -147,10 +147,34 @@ index-2-t79 c = search needs
 cast-t81 : tie.Need-cast-t81
 cast-t81 c = search needs
 
+mul-t82 : tie.Need-mul-t82
+mul-t82 c = search needs
+
+index-1-t86 : tie.Need-index-1-t86
+index-1-t86 c = search needs
+
+index-2-t86 : tie.Need-index-2-t86
+index-2-t86 c = search needs
+
+cast-t88 : tie.Need-cast-t88
+cast-t88 c = search needs
+
+mul-t89 : tie.Need-mul-t89
+mul-t89 c = search needs
+
+index-1-t93 : tie.Need-index-1-t93
+index-1-t93 c = search needs
+
+index-2-t93 : tie.Need-index-2-t93
+index-2-t93 c = search needs
+
+cast-t95 : tie.Need-cast-t95
+cast-t95 c = search needs
+
 returns : tie.Need-returns
 unfolding unitBy
 returns c =
-    let v = c .before .before .before .before .before in
+    let v = c .before .before .before .before .before .before .before in
     let s = v .before .before .before .before .before .before .before .before in
     ap (unitWith (getD (s .args .units .now) (s .args .i) [])) (read w32 (v .signed-of .result) (v .signed-of .ok) ∙ v .signed-of .ensures)
 
@@ -204,4 +228,12 @@ unit-of-spec =
     index-1-t79
     index-2-t79
     cast-t81
+    mul-t82
+    index-1-t86
+    index-2-t86
+    cast-t88
+    mul-t89
+    index-1-t93
+    index-2-t93
+    cast-t95
     returns)
