@@ -247,9 +247,10 @@ uint32_t yb_study(const uint8_t *file, size_t file_len, int64_t load, uint32_t b
 ** the energy lost, in J. A unit that cannot do what it is asked, or is asked nothing, idles: *watts is then its
 ** draw, negative, and the store stays as it is.
 **
-** yb_step_as does so for a unit of an edition, 1 or 2. From edition 2 on the unit provides at most provide vars and
-** absorbs at most absorb, each 0 to kva; in edition 1 the two are not looked at, and both limits are kva. yb_step is
-** yb_step_as in edition 1.
+** yb_step_as does so for a unit of an edition, 1, 2 or 3. From edition 2 on the unit provides at most provide vars and
+** absorbs at most absorb, each 0 to kva; in edition 1 the two are not looked at, and both limits are kva. In edition 3
+** the idle loss is drawn at the grid connection, in every state, and not from the store: *watts is what the inverter
+** gives less idle_loss, and the draw of an idling unit is not held against kva. yb_step is yb_step_as in edition 1.
 **
 ** Both return 0, or the first of these that holds:
 **     5  a value is outside its range

@@ -77,9 +77,11 @@ enum { HEADER = 3 };
 unsigned said_length(const struct stick *stick, uint64_t place);
 
 /* The edition that the fleet names, which is a stick's first field; 0 where there is no fleet, or it is refused. From
-** the edition of limits on a unit has var limits of its own, and its field ends with them.
+** the edition of limits on a unit has var limits of its own, and its field ends with them. The edition of the older
+** model is for plans made with the older storage model: a unit's idle loss is drawn at the grid, and never from its
+** store.
 */
-enum { LIMITS_EDITION = 2 };
+enum { LIMITS_EDITION = 2, OLDER_MODEL_EDITION = 3 };
 unsigned edition_of(const struct stick *stick);
 
 /* Print a file's line and, of a refused one, what to do about it; and with show the refused field's bytes. */

@@ -73,8 +73,8 @@ static const struct words refusals[] = {
 
 /* What more is known where a refusal is about the edition or about a unit, whose length and limits go by it. */
 static const struct words bad_fleet = {"value out of range",
-    "The edition of # is not 1 or 2, or its units are not 1 to 64, or its seconds are not 1 to 86,400. Ask the manager "
-    "to correct # and to write the stick anew, in edition 1 or 2."};
+    "The edition of # is not 1, 2 or 3, or its units are not 1 to 64, or its seconds are not 1 to 86,400. Ask the "
+    "manager to correct # and to write the stick anew, in edition 1, 2 or 3."};
 static const struct words no_fleet = {"wrong length",
     "The file begins with #, whose length is % and not &: the fleet, which comes first, is not there. Copy the stick "
     "again; if it stays so, ask the manager for a new one."};

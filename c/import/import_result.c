@@ -116,16 +116,32 @@ static const uint8_t *inverter_bytes(const struct run *run, uint32_t step, unsig
     return unit_bytes(run, step, run->units) + (size_t)SOLAR_BYTES * inverter;
 }
 
+/* The kW are watts divided by one thousand and rounded once; the conversion of readings gives the watts back. In the
+** older model a unit draws its idle loss beside what it takes, which together can be more than a reading may be. Of
+** such a draw the conversion gets what is beyond, a difference without rounding, for neither is twice the other. Gives
+** 0 where the kW cannot be shown.
+*/
+static int watts_at(int32_t *watts, const uint8_t *kw)
+{
+    enum { MOST_KW = YB_MOST_POWER / 1000 };
+    double number = double_at(kw);
+    int is_beyond = number < -MOST_KW;
+    if (yb_watts(is_beyond ? number + MOST_KW : number, watts) != 0)
+        return 0;
+    *watts -= is_beyond ? YB_MOST_POWER : 0;
+    return *watts >= -(YB_MOST_POWER + YB_MOST_IDLE_LOSS);
+}
+
 /* Whether every power of a step can be shown, and no inverter gives more than its array. */
 static int has_powers(const struct run *run, uint32_t step)
 {
     int32_t watts;
     for (unsigned unit = 0; unit < run->units; unit++)
-        if (yb_watts(double_at(unit_bytes(run, step, unit) + RECORD_KW), &watts) != 0)
+        if (!watts_at(&watts, unit_bytes(run, step, unit) + RECORD_KW))
             return 0;
     for (unsigned i = 0; i < run->inverters; i++) {
         const uint8_t *at = inverter_bytes(run, step, i);
-        if (yb_watts(double_at(at + SOLAR_KW), &watts) != 0)
+        if (!watts_at(&watts, at + SOLAR_KW))
             return 0;
         if (watts < 0 || (uint64_t)watts > number_at(at + SOLAR_DC, 8))
             return 0;
@@ -162,7 +178,6 @@ int open_result(struct stick *stick, struct run *run, const char *file, const ch
     return outcome;
 }
 
-/* The kW are watts divided by one thousand and rounded once; the conversion of readings gives the watts back. */
 struct record record_at(const struct run *run, uint32_t step, unsigned unit)
 {
     const uint8_t *at = unit_bytes(run, step, unit);
@@ -172,7 +187,7 @@ struct record record_at(const struct run *run, uint32_t step, unsigned unit)
         .stored = number_at(at + RECORD_STORED, 8),
         .loss = number_at(at + RECORD_LOSS, 8),
     };
-    yb_watts(double_at(at + RECORD_KW), &record.watts);
+    watts_at(&record.watts, at + RECORD_KW);
     return record;
 }
 
@@ -184,7 +199,7 @@ struct solar solar_at(const struct run *run, uint32_t step, unsigned inverter)
         .vars = signed_at(at + SOLAR_VARS),
         .dc = number_at(at + SOLAR_DC, 8),
     };
-    yb_watts(double_at(at + SOLAR_KW), &solar.watts);
+    watts_at(&solar.watts, at + SOLAR_KW);
     return solar;
 }
 

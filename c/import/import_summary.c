@@ -8,21 +8,23 @@
 #include "import_summary.h"
 
 /* A unit's line, or the fleet's: the request of the largest size, the most watts out and in of a step, the energy
-** out, in and lost, the least stored and the first step that left it, and the steps whose request was not met.
+** out, in and lost, the least stored and the first step that left it, and the steps whose request was not met. The grid
+** loss is what a unit draws beside the power of its inverter: its idle loss in the older model, and else nothing.
 */
 struct line {
+    uint32_t grid_loss;
     int64_t request, out, in;
     joules given, taken, lost;
     uint64_t low;
     uint32_t low_step, not_met;
 };
 
-/* A request is not met where it is not 0 and the power is another: less than was asked, or the idle draw. A unit
-** that is asked nothing does what it is asked when it idles.
+/* A request is not met where it is not 0 and the inverter's power is another: less than was asked, or the idle draw. A
+** unit that is asked nothing does what it is asked when it idles.
 */
-static int is_met(const struct record *r)
+static int is_met(const struct line *line, const struct record *r)
 {
-    return r->request == 0 || r->watts == r->request;
+    return r->request == 0 || (int64_t)r->watts + line->grid_loss == r->request;
 }
 
 static int64_t size_of(int64_t watts)
@@ -66,16 +68,24 @@ static void see_run(struct line *lines, const struct run *run, uint32_t seconds)
         int met = 1;
         for (unsigned unit = 0; unit < run->units; unit++) {
             struct record r = record_at(run, step, unit);
-            see_step(&lines[unit], step, r.request, r.watts, r.stored, is_met(&r));
+            int unit_met = is_met(&lines[unit], &r);
+            see_step(&lines[unit], step, r.request, r.watts, r.stored, unit_met);
             see_energy(&lines[unit], &r, seconds);
             see_energy(fleet, &r, seconds);
             request += r.request;
             watts += r.watts;
             stored += r.stored;
-            met &= is_met(&r);
+            met &= unit_met;
         }
         see_step(fleet, step, request, watts, stored, met);
     }
+}
+
+/* The grid losses are those of the units that the var lines have. */
+static void take_grid_losses(struct line *lines, const struct var_line *vars, const struct stick *stick)
+{
+    for (unsigned i = 0; i < stick->units; i++)
+        lines[i].grid_loss = edition_of(stick) == OLDER_MODEL_EDITION ? vars[i].unit.idle_loss : 0;
 }
 
 /* Without a step there is no least store. */
@@ -106,8 +116,10 @@ static void print_lines(const struct line *lines, const struct run *run)
     print_rows(rows, run->units + 2, COLUMNS);
 }
 
+/* A plan of the older model is told from others, for its power and energy are not to be read beside theirs. */
 static void print_settings(const struct stick *stick, uint32_t seconds, const struct settings *settings)
 {
+    static const char older[] = ", older storage model (edition 3): idle loss at the grid";
     static const char *const modes[] = {
         [YB_PEAK_SHAVE] = " (PeakShave)", [YB_SUPPORT] = " (Support)", [YB_PEAK_SHAVE_LOW] = " (PeakShaveLow)"};
     unsigned mode = settings->mode;
@@ -116,8 +128,8 @@ static void print_settings(const struct stick *stick, uint32_t seconds, const st
     if (stick->inverters != 0)
         printf("%u inverters, ", stick->inverters);
     printf("steps of %" PRIu32 " s, mode %u%s, ", seconds, mode, named ? modes[mode] : "");
-    printf("target %" PRId32 " W, band %" PRIu32 " W, factor %u\n", settings->target, settings->band,
-        (unsigned)settings->factor);
+    printf("target %" PRId32 " W, band %" PRIu32 " W, factor %u%s\n", settings->target, settings->band,
+        (unsigned)settings->factor, edition_of(stick) == OLDER_MODEL_EDITION ? older : "");
 }
 
 int summary_command(const char *file, const char *result)
@@ -133,13 +145,14 @@ int summary_command(const char *file, const char *result)
         return outcome;
     uint32_t seconds = yb_seconds(stick.bytes, stick.len);
     int has_limits = edition_of(&stick) >= LIMITS_EDITION;
+    outcome = seconds != 0 ? ask_settings(&settings, &stick) : fault(file);
+    if (outcome == COMPLETE && has_limits)
+        outcome = ask_vars(vars, &stick);
+    take_grid_losses(lines, vars, &stick);
     see_run(lines, &run, seconds);
     see_vars(vars, &run);
     see_roof(roof, &run, seconds);
     free(run.bytes);
-    outcome = seconds != 0 ? ask_settings(&settings, &stick) : fault(file);
-    if (outcome == COMPLETE && has_limits)
-        outcome = ask_vars(vars, &stick);
     if (outcome != COMPLETE)
         return outcome;
     print_answer(&stick, 0);

@@ -3,10 +3,10 @@
 **
 ** A file that begins like a run file is complete, with the units and the steps that its fleet and its last four
 ** bytes say, and with as many inverters as the highest byte of its seconds says, which is no part of the seconds here;
-** its units are all alike, and its run is a row of numbers. Steps of 0 to 8 seconds are for answers that the library
+** its units are all alike, and its run is a row of numbers. Steps of 0 to 9 seconds are for answers that the library
 ** never gives: such a step itself, a room of another size, a run that is refused, a power that is none, settings that
-** are refused, a last unit that is refused, an inverter's power that is none, one above that of its array, and var
-** limits of the last unit that are refused.
+** are refused, a last unit that is refused, an inverter's power that is none, one above that of its array, var limits
+** of the last unit that are refused, and a draw that is larger than that of any unit.
 **
 ** Any other file is read as seven decimal numbers with blanks between them, and these are the answers, in this
 ** order: the check's number, place and steps, the start and the length of the value part, the units, and the inverters.
@@ -136,7 +136,14 @@ static void put_record(uint8_t *room, uint8_t tag, uint8_t bytes, uint32_t step,
     room[7] = (uint8_t)number;
 }
 
+/* The last is -110,000.001 kW. */
 static const char one_kw[] = "\x3F\xF0\0\0\0\0\0", no_kw[] = "\x7F\xF8\0\0\0\0\0";
+static const char low_kw[] = "\xC0\xFA\xDB\x00\x04\x18\x93\x75";
+
+static const char *unit_kw(uint32_t seconds)
+{
+    return seconds == 3 ? no_kw : seconds == 9 ? low_kw : one_kw;
+}
 
 /* Records whose kW are 1, and whose energies begin with 0. An inverter is on in every second step, and its array has
 ** more power than it gives.
@@ -150,7 +157,7 @@ uint32_t yb_run(const uint8_t *file, size_t file_len, uint8_t *room, size_t room
     for (uint32_t step = 0; step < steps; step++) {
         for (uint32_t unit = 0; unit < units; unit++, room += 40) {
             put_record(room, 0x11, 40, step, unit);
-            memcpy(room + 12, seconds == 3 ? no_kw : one_kw, 8);
+            memcpy(room + 12, unit_kw(seconds), 8);
             memset(room + 24, 0, 3);
             memset(room + 32, 0, 3);
         }

@@ -144,7 +144,7 @@ small_sticks() {
 }
 
 # The suites, each in a part of its own.
-for part in check run faults settle result limits roof advice canned; do
+for part in check run faults settle result limits older roof advice canned; do
     # shellcheck disable=SC1090 # one of the parts beside this
     . "c/tests/test_import_$part.sh" || exit 1
 done
@@ -163,6 +163,8 @@ all_suites() {
     no_result_suite
     limits_suite
     limits_words_suite
+    older_suite
+    older_words_suite
     roof_check_suite
     roof_words_suite
     roof_result_suite

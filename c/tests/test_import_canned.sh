@@ -49,7 +49,7 @@ canned_suite() {
 
 # The other commands over the stand-in, which takes every stick for complete and runs it into a row of numbers.
 canned_run_suite() {
-    local command stick=$work/stick result=$work/result line
+    local command stick=$work/stick result=$work/result line edition
     cp examples/season.stick "$stick"
     check 0 "$stick: complete, 336 steps" '' run "$stick" "$result"
     good test "$(wc -c <"$result")" = 40327
@@ -109,18 +109,27 @@ unit  S_VA  request_var  provide_var  absorb_var     out_var  in_var
    0     2           -3            1           0  2139062143       0
    1     2           -3            1           0  2139062143       0
    2     2           -3            1           0  2139062143       0'
+    # The same lines in edition 3, and in the second that the plan is of the older model.
+    line=$(tail -n +3 "$work/output")
+    patch "$stick" 3 03
+    check 0 "$stick: complete, 336 steps
+3 units, 2 inverters, steps of 3600 s, mode 255, target -1 W, band 2 W, factor 3, $older_words
+$line" '' summary "$stick" "$result"
     # A last unit that is refused, and its limits, for which a stick of edition 1 is not asked.
     for line in 5 8; do
         patch "$stick" 3 01 03 "0200000$line"
         call run "$stick" "$result"
         call summary "$stick" "$result"
         good test "$status|$error|$(wc -l <"$work/output")" = '0||12'
-        patch "$stick" 3 02
-        check 2 '' "import: $stick: $fault" summary "$stick" "$result"
+        for edition in 02 03; do
+            patch "$stick" 3 "$edition"
+            check 2 '' "import: $stick: $fault" summary "$stick" "$result"
+        done
     done
     patch "$stick" 3 01
-    # A room of another size, a run that is refused, powers that are none, and one above that of its array.
-    for line in '1 run' '2 run' '3 table' '6 table' '7 table' '6 summary' '7 summary'; do
+    # A room of another size, a run that is refused, powers that are none, one above that of its array, and a draw that
+    # is too large.
+    for line in '1 run' '2 run' '3 table' '6 table' '7 table' '9 table' '6 summary' '7 summary' '9 summary'; do
         patch "$stick" 5 "0200000${line% *}"
         echo old >"$work/target"
         if [ "${line#* }" = run ]; then

@@ -12,6 +12,8 @@ unit_v() {
 }
 one_kw='04 0018 3FF0000000000000 0000000000000000 0000000000000000'
 two_steps="$one_kw $missing $(end 2)"
+# The unit of the figures D1 to D3 with a store, and with limits of S.
+wide_d() { printf '%s %s 00001388 00001388' "$(unit_d "$1" | sed 's/0031/0039/')" "$efficiencies_d"; }
 
 # limited_sticks: figure D4 with vars first, either way; two units, one with watts first and one that may provide
 # nothing; one of no steps; one with an inverter; and one that has figures D1 and D2 in edition 1, with limits of S.
@@ -23,13 +25,13 @@ limited_sticks() {
     bytes "$fleet_e2" "$(unit_v 0 0 1000 0)" "$(settings 1 0 0)" "$(end 0)" >"$work/limited0"
     bytes "$fleet_e2" "$(unit_v 1 700 600 300)" "$(settings 1 0 0)" "$(inverter 10000 100 5000)" "$(level 10000)" \
         "$(level 9500)" "$clear" "$two_steps" >"$work/limited_roof"
-    bytes "$fleet_e2" "$(unit_d 251499 | sed 's/0031/0039/')" "$efficiencies_d" 00001388 00001388 >"$work/giving2"
+    bytes "$fleet_e2" "$(wide_d 251499)" >"$work/giving2"
     tail -c +62 "$work/giving" >>"$work/giving2"
 }
 
 var_heading='unit  S_VA  request_var  provide_var  absorb_var  out_var  in_var'
 
-# summed_up STICK LINES: the summary of a stick of edition 2 from its fourth line on, one blank between the columns.
+# summed_up STICK LINES: the summary of a stick from its fourth line on, one blank between the columns.
 summed_up() {
     call summary "$work/$1" "$work/$1.result"
     good test "$status|$error|$(tail -n +4 "$work/output" | sed 's/^ *//; s/  */ /g')" = "0||$2"
@@ -142,9 +144,9 @@ limits_words_suite() {
     bytes "$fleet_2" "$(unit_d 1)" "$efficiencies_d" "$(unit_v 0 0 0 0)" "$(settings 1 0 0)" "$(end 0)" >"$stick"
     length_advised "$stick" 61 "The length of the 2nd unit is 57, and in edition 1, *it is 49: $anew"
     # Of no edition; and cut short.
-    for name in provide giving; do
-        words='in edition 2 it is 57'
-        if [ "$name" = giving ]; then words='in edition 1 it is 49'; fi
+    cp "$work/provide" "$work/provide3"
+    patch "$work/provide3" 3 03
+    while read -r name words; do
         for place in 10 11; do
             cp "$work/$name" "$stick"
             patch "$stick" "$place" 30
@@ -156,7 +158,11 @@ Copy the stick again; if it stays so, ask the manager for a new one."
             refused "$stick" 1 'field cut short' 9 0
             advised 'The file ends in the middle of the 1st unit: the copy is not whole.'
         done
-    done
+    done <<'END'
+giving in edition 1 it is 49
+provide in edition 2 it is 57
+provide3 in edition 3 it is 57
+END
     # Before any fleet.
     tail -c +10 "$work/provide" >"$stick"
     length_advised "$stick" 0 'The file begins with the 1st unit, whose length is 57 and not 49: the fleet, which '\
@@ -173,13 +179,13 @@ Copy the stick again; if it stays so, ask the manager for a new one."
     advised 'Here the file has the settings, where the 2nd unit should be: a field is missing'
 
     # Editions that there are not, and other values of the fleet.
-    for words in '3 00' '3 03' '3 FF' '4 00' '4 41' '5 01' '8 00'; do
+    for words in '3 00' '3 04' '3 FF' '4 00' '4 41' '5 01' '8 00'; do
         cp "$work/provide" "$stick"
         # shellcheck disable=SC2086 # place and byte are words
         patch "$stick" $words
         refused "$stick" 5 'value out of range' 0 0
-        advised 'The edition of the fleet is not 1 or 2, or its units are not 1 to 64, or its seconds are not 1 to '\
-'86,400. Ask the manager to correct the fleet and to write the stick anew, in edition 1 or 2.'
+        advised 'The edition of the fleet is not 1, 2 or 3, or its units are not 1 to 64, or its seconds are not 1 to '\
+'86,400. Ask the manager to correct the fleet and to write the stick anew, in edition 1, 2 or 3.'
     done
     # Limits beyond S, and another value of such a unit; in edition 1 no limits are named.
     for words in '1000 1001' '1001 0' '4294967295 1000'; do

@@ -82,7 +82,7 @@ static void put(uint8_t *bytes, uint64_t number, int width)
 }
 
 /* The unit's field: each is another, with watts or vars first, and half of them with vars that touch the limit. Gives
-** the place behind it, and in edition 2 behind its var limits.
+** the place behind it, and from edition 2 on behind its var limits.
 */
 static uint8_t *put_unit(uint8_t *field, uint8_t edition, unsigned unit)
 {
@@ -182,7 +182,7 @@ static void put_end(uint8_t *field)
     put(field + 3, STEPS, 4);
 }
 
-/* A complete file without inverters and weather, of either edition. */
+/* A complete file without inverters and weather, of any edition. */
 static void put_edition(uint8_t edition, uint8_t mode)
 {
     uint8_t *at = put_head(edition, mode);
@@ -329,11 +329,13 @@ static uint32_t ask_limits(size_t len, uint32_t unit)
     return yb_var_limits(file, len, unit, &provide, &absorb);
 }
 
-/* In either edition. */
+/* In every edition. */
 static void call_var_limits(void)
 {
-    put_edition(2, 1);
-    expect_units(ask_limits, LIMITED_LEN);
+    for (uint8_t edition = 2; edition <= 3; edition++) {
+        put_edition(edition, 1);
+        expect_units(ask_limits, LIMITED_LEN);
+    }
     put_file(1);
     expect_units(ask_limits, FILE_LEN);
 }
@@ -350,13 +352,15 @@ static void expect_complete(size_t len, uint64_t room)
     expect(yb_check(file, len - 8), 1);
 }
 
-/* The same in edition 2, and a limit beyond its unit's S. */
+/* The same in editions 2 and 3, and a limit beyond its unit's S. */
 static void call_limited_check(void)
 {
-    put_edition(2, 1);
-    expect_complete(LIMITED_LEN, RESULT_LEN);
-    put(file + 9 + 56, 90000001, 4);
-    expect(yb_check(file, LIMITED_LEN), 5);
+    for (uint8_t edition = 2; edition <= 3; edition++) {
+        put_edition(edition, 1);
+        expect_complete(LIMITED_LEN, RESULT_LEN);
+        put(file + 9 + 56, 90000001, 4);
+        expect(yb_check(file, LIMITED_LEN), 5);
+    }
     put_file(1);
 }
 
@@ -385,16 +389,26 @@ static void call_run(void)
     expect(yb_run(file, FILE_LEN - 8, result, RESULT_LEN), 1);
 }
 
-/* The same in edition 2. */
-static void call_limited_run(void)
+/* The same in another edition. */
+static void expect_limited_run(uint8_t edition)
 {
     for (uint8_t mode = 1; mode <= 3; mode++) {
-        put_edition(2, mode);
+        put_edition(edition, mode);
         expect(yb_run(file, LIMITED_LEN, result, RESULT_LEN), 0);
     }
     expect(yb_run(file, LIMITED_LEN, result, RESULT_LEN - 1), 11);
     expect(yb_run(file, LIMITED_LEN - 8, result, RESULT_LEN), 1);
     put_file(1);
+}
+
+static void call_limited_run(void)
+{
+    expect_limited_run(2);
+}
+
+static void call_older_run(void)
+{
+    expect_limited_run(3);
 }
 
 /* The same in edition 1 with 64 inverters. */
@@ -481,7 +495,7 @@ static void call_step(void)
 static void call_step_as(void)
 {
     static const uint32_t limits[] = {0, 99999999, 100000000};
-    for (uint8_t edition = 0; edition <= 3; edition++)
+    for (uint8_t edition = 0; edition <= 4; edition++)
         for (int i = 0; i < 3; i++)
             for (int32_t request = -100000000; request <= 100000000; request += 50000000) {
                 int32_t watts, vars;
@@ -490,7 +504,7 @@ static void call_step_as(void)
                 expect(yb_step_as(edition, 86400, UINT64_C(10000000000000), 1, UINT64_C(5000000000000), 100000000,
                     99999999, 77777, -60000000, 10000, 9999, 8888, 7777, priority, limits[2 - i], limits[i], request,
                     &watts, &vars, &after, &loss),
-                    edition == 1 || (edition == 2 && i == 1) ? 0 : 5);
+                    edition == 1 || ((edition == 2 || edition == 3) && i == 1) ? 0 : 5);
             }
 }
 
@@ -545,11 +559,12 @@ static const struct {
     {"yb_settings", call_settings},
     {"yb_unit", call_unit},
     {"yb_var_limits", call_var_limits},
-    {"the check and what a file says, in edition 2", call_limited_check},
+    {"the check and what a file says, in editions 2 and 3", call_limited_check},
     {"the check and what a file says, with 64 inverters", call_roof_check},
     {"yb_run_room", call_run_room},
     {"yb_run", call_run},
     {"yb_run in edition 2", call_limited_run},
+    {"yb_run in edition 3", call_older_run},
     {"yb_run with 64 inverters", call_roof_run},
     {"yb_watts", call_watts},
     {"yb_pass", call_pass},

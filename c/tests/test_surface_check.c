@@ -33,18 +33,19 @@ static void test_check_complete(void)
     memcpy(file, complete, 76);
     memcpy(file + 76, "\x7F\0\4\0\0\0\0", 7);
     check_file(file, 83, 0, 83, 0);
-    check_file(limited, put_limited(limited, file, 83, 5000, 0), 0, 91, 0);
+    for (uint8_t edition = 2; edition <= 3; edition++)
+        check_file(limited, put_limited(limited, edition, file, 83, 5000, 0), 0, 91, 0);
 }
 
-/* The fields of the complete file by their places, and its end; and those of the same in edition 2. */
+/* The fields of the complete file by their places, and its end; and those of the same in editions 2 and 3. */
 enum { FIELDS = 8 };
 static const size_t fields[] = {0, 9, 61, 76, 103, 106, 133, 136, 143};
 static const size_t limited_fields[] = {0, 9, 69, 84, 111, 114, 141, 144, 151};
 
 /* The same with limits, which may be 0 to 5,000, the S of its unit. */
-static size_t put_complete(uint8_t *file, uint32_t provide, uint32_t absorb)
+static size_t put_complete(uint8_t *file, uint8_t edition, uint32_t provide, uint32_t absorb)
 {
-    return put_limited(file, complete, sizeof complete, provide, absorb);
+    return put_limited(file, edition, complete, sizeof complete, provide, absorb);
 }
 
 static void check_cut(const uint8_t *file, const size_t *places)
@@ -63,8 +64,10 @@ static void test_check_cut(void)
 {
     uint8_t limited[sizeof complete + MORE];
     check_cut(complete, fields);
-    put_complete(limited, 5000, 0);
-    check_cut(limited, limited_fields);
+    for (uint8_t edition = 2; edition <= 3; edition++) {
+        put_complete(limited, edition, 5000, 0);
+        check_cut(limited, limited_fields);
+    }
     if (yb_check(NULL, 0) != 8 || yb_check_place(NULL, 0) != 0 || yb_check_steps(NULL, 0) != 0) {
         wrong++;
         fprintf(stderr, "no file at all: not 8 at 0 after 0\n");
@@ -90,7 +93,7 @@ static void test_check_changed(void)
     static const struct change changes[] = {
         {0, 0x00, 2, 0, 0}, {0, 0xFF, 2, 0, 0}, {0, 0x02, 3, 0, 0}, {1, 1, 3, 0, 0}, {2, 5, 3, 0, 0},
         /* edition, unit count, seconds */
-        {3, 0, 5, 0, 0}, {3, 2, 3, 9, 0}, {3, 3, 5, 0, 0}, {3, 4, 5, 0, 0}, {3, 255, 5, 0, 0}, {4, 0, 5, 0, 0},
+        {3, 0, 5, 0, 0}, {3, 2, 3, 9, 0}, {3, 3, 3, 9, 0}, {3, 4, 5, 0, 0}, {3, 255, 5, 0, 0}, {4, 0, 5, 0, 0},
         {4, 65, 5, 0, 0}, {4, 255, 5, 0, 0}, {4, 2, 4, 61, 0}, {4, 64, 4, 61, 0}, {8, 0, 5, 0, 0}, {6, 2, 5, 0, 0},
         {5, 0x80, 5, 0, 0}, {6, 1, 0, 143, 4},
         /* the unit */
@@ -117,22 +120,22 @@ static void test_check_changed(void)
 }
 
 /* Limits of any size, of a unit whose S is 5,000. */
-static void test_check_limits(void)
+static void check_limits(uint8_t edition)
 {
     static const uint32_t within[] = {0, 1, 4999, 5000}, beyond[] = {5001, 100000000, UINT32_C(1) << 31, UINT32_MAX};
     uint8_t file[sizeof complete + MORE];
     for (int i = 0; i < 4; i++)
         for (int j = 0; j < 4; j++) {
-            check_file(file, put_complete(file, within[i], within[j]), 0, 151, 4);
-            check_file(file, put_complete(file, within[i], beyond[j]), 5, 9, 0);
-            check_file(file, put_complete(file, beyond[i], within[j]), 5, 9, 0);
-            check_file(file, put_complete(file, beyond[i], beyond[j]), 5, 9, 0);
+            check_file(file, put_complete(file, edition, within[i], within[j]), 0, 151, 4);
+            check_file(file, put_complete(file, edition, within[i], beyond[j]), 5, 9, 0);
+            check_file(file, put_complete(file, edition, beyond[i], within[j]), 5, 9, 0);
+            check_file(file, put_complete(file, edition, beyond[i], beyond[j]), 5, 9, 0);
         }
     /* The limits that an S of 4,999 does not hold, and those of a second unit. */
     static const struct change changes[] = {{43, 0x87, 5, 9, 0}, {43, 0x88, 0, 151, 4}};
-    put_complete(file, 5000, 0);
+    put_complete(file, edition, 5000, 0);
     check_changes(file, sizeof file, changes, 2);
-    put_complete(file, 0, 5000);
+    put_complete(file, edition, 0, 5000);
     check_changes(file, sizeof file, changes, 2);
     uint8_t two[sizeof file + 60];
     memcpy(two, file, 69);
@@ -143,29 +146,59 @@ static void test_check_limits(void)
     check_file(two, sizeof two, 5, 69, 0);
 }
 
-/* The file in edition 2 with one byte changed: its length is tested before its values. */
+static void test_check_limits(void)
+{
+    check_limits(2);
+    check_limits(3);
+}
+
+/* An idle loss of a unit whose S is 5,000 is taken, or refused. */
+static void check_loss(const uint8_t *file, size_t len, int is_taken)
+{
+    check_file(file, len, is_taken ? 0 : 5, is_taken ? len : 9, is_taken ? 4 : 0);
+}
+
+/* In editions 1 and 2 the idle draw, which is 10 parts in 9 of the idle loss, is held against S. */
+static void test_check_idle_loss(void)
+{
+    static const uint32_t losses[] = {0, 4500, 4501, 10000000, 10000001, UINT32_C(1) << 31, UINT32_MAX};
+    enum { LOSS = 44, MOST_DRAWN = 4500, MOST_LOSS = 10000000 };
+    uint8_t file[sizeof complete], limited[sizeof complete + MORE];
+    memcpy(file, complete, sizeof complete);
+    for (size_t i = 0; i < sizeof losses / sizeof losses[0]; i++) {
+        put(file + LOSS, losses[i], 4);
+        check_loss(file, sizeof file, losses[i] <= MOST_DRAWN);
+        for (uint8_t edition = 2; edition <= 3; edition++)
+            check_loss(limited, put_limited(limited, edition, file, sizeof file, 5000, 0),
+                losses[i] <= (edition == 2 ? MOST_DRAWN : MOST_LOSS));
+    }
+}
+
+/* The file in editions 2 and 3 with one byte changed: its length is tested before its values. */
 static void test_check_limited(void)
 {
     static const struct change changes[] = {
-        {3, 0, 5, 0, 0}, {3, 1, 3, 9, 0}, {3, 3, 5, 0, 0}, {3, 4, 5, 0, 0}, {3, 255, 5, 0, 0}, {4, 2, 4, 69, 0},
-        {10, 1, 3, 9, 0}, {11, 49, 3, 9, 0}, {11, 56, 3, 9, 0}, {11, 58, 3, 9, 0}, {60, 1, 0, 151, 4},
-        {60, 2, 5, 9, 0}, {61, 1, 5, 9, 0}, {64, 0xFF, 0, 151, 4}, {65, 1, 5, 9, 0}, {68, 0xFF, 0, 151, 4},
-        {69, 0x02, 3, 69, 0}, {72, 4, 5, 69, 0}, {87, 0x7F, 6, 84, 0}, {150, 3, 7, 144, 4},
+        {3, 0, 5, 0, 0}, {3, 1, 3, 9, 0}, {3, 2, 0, 151, 4}, {3, 3, 0, 151, 4}, {3, 4, 5, 0, 0}, {3, 255, 5, 0, 0},
+        {4, 2, 4, 69, 0}, {10, 1, 3, 9, 0}, {11, 49, 3, 9, 0}, {11, 56, 3, 9, 0}, {11, 58, 3, 9, 0},
+        {60, 1, 0, 151, 4}, {60, 2, 5, 9, 0}, {61, 1, 5, 9, 0}, {64, 0xFF, 0, 151, 4}, {65, 1, 5, 9, 0},
+        {68, 0xFF, 0, 151, 4}, {69, 0x02, 3, 69, 0}, {72, 4, 5, 69, 0}, {87, 0x7F, 6, 84, 0}, {150, 3, 7, 144, 4},
     };
     uint8_t file[sizeof complete + MORE];
-    put_complete(file, 0, 0);
-    check_changes(file, sizeof file, changes, sizeof changes / sizeof changes[0]);
-    file[11] = 49;
-    file[12] = 1;
-    check_file(file, sizeof file, 3, 9, 0);
+    for (uint8_t edition = 2; edition <= 3; edition++) {
+        put_complete(file, edition, 0, 0);
+        check_changes(file, sizeof file, changes, sizeof changes / sizeof changes[0]);
+        file[11] = 49;
+        file[12] = 1;
+        check_file(file, sizeof file, 3, 9, 0);
+    }
 }
 
 /* A unit where none may be has the length of its edition, and before any fleet that of edition 1, to be out of order.
 */
-static void test_check_lone_unit(void)
+static void check_lone_unit(uint8_t edition)
 {
     uint8_t file[2 * sizeof complete], limited[sizeof complete + MORE];
-    size_t len = put_complete(limited, 0, 0);
+    size_t len = put_complete(limited, edition, 0, 0);
     check_file(complete + 9, 52, 4, 0, 0);
     check_file(complete + 9, 51, 1, 0, 0);
     for (size_t cut = 3; cut <= 60; cut++)
@@ -188,6 +221,12 @@ static void test_check_lone_unit(void)
     memcpy(file, limited, len);
     memcpy(file + len, complete + 9, 52);
     check_file(file, len + 52, 9, len, 4);
+}
+
+static void test_check_lone_unit(void)
+{
+    check_lone_unit(2);
+    check_lone_unit(3);
 }
 
 /* Fields of the file in another order, by their numbers from 0. */
@@ -253,7 +292,8 @@ const struct test check_tests[] = {
     {"yb_check: bytes after the end", test_check_after},
     {"yb_check: single bytes changed", test_check_changed},
     {"yb_check: var limits of any size", test_check_limits},
-    {"yb_check: edition 2, single bytes changed", test_check_limited},
+    {"yb_check: idle losses in every edition", test_check_idle_loss},
+    {"yb_check: editions 2 and 3, single bytes changed", test_check_limited},
     {"yb_check: units of either length where none may be", test_check_lone_unit},
     {"yb_check: fields in another order", test_check_order},
     {"yb_check: as many steps and bytes as there can be", test_check_large},

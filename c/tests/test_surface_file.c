@@ -1,5 +1,5 @@
-/* Complete files of any fleet, with values that are drawn, files of one unit in edition 2, and files with one byte
-** changed.
+/* Complete files of any fleet, with values that are drawn, files of one unit in editions 2 and 3, and files with one
+** byte changed.
 */
 #include <string.h>
 
@@ -176,11 +176,11 @@ void set_edition(struct file *file, uint8_t edition)
     write_file(file);
 }
 
-size_t put_limited(uint8_t *to, const uint8_t *file, size_t len, uint32_t provide, uint32_t absorb)
+size_t put_limited(uint8_t *to, uint8_t edition, const uint8_t *file, size_t len, uint32_t provide, uint32_t absorb)
 {
     enum { EDITION = 3, LENGTH = 11, UNIT_END = 61 };
     memcpy(to, file, UNIT_END);
-    to[EDITION] = 2;
+    to[EDITION] = edition;
     to[LENGTH] += MORE;
     memcpy(put_limits(to + UNIT_END, provide, absorb), file + UNIT_END, len - UNIT_END);
     return len + MORE;

@@ -1,5 +1,5 @@
-/* Complete files of any fleet, for the calls that say what a file holds, files of one unit in edition 2, and files with
-** one byte changed.
+/* Complete files of any fleet, for the calls that say what a file holds, files of one unit in editions 2 and 3, and
+** files with one byte changed.
 */
 #ifndef TEST_SURFACE_FILE_H
 #define TEST_SURFACE_FILE_H
@@ -32,7 +32,7 @@ struct settings {
 };
 
 /* What a file says, and its bytes: a head, a reading, a missing one with weather, and the end. Of the inverters, whose
-** values no call tells, there is only the number. The limits stand in the bytes of an edition 2 file alone.
+** values no call tells, there is only the number. The limits do not stand in the bytes of an edition 1 file.
 */
 struct file {
     uint8_t edition;
@@ -51,19 +51,19 @@ uint8_t *put(uint8_t *at, uint64_t number, int width);
 /* Write the bytes that say the rest. The values of the inverters are drawn. */
 void write_file(struct file *file);
 
-/* Draw a complete file of edition 1 of so many units, without inverters and weather. Each value is at its least or its
-** most now and then, and else anything between.
+/* Draw a complete file of edition 1 of so many units, without inverters and weather, which is complete in every
+** edition. Each value is at its least or its most now and then, and else anything between.
 */
 void draw_file(struct file *file, size_t units);
 
 /* The same in another edition: the bytes are written anew. */
 void set_edition(struct file *file, uint8_t edition);
 
-/* Write a file of edition 1, whose fleet has one unit, anew in edition 2, with these limits of the unit. Gives its
+/* Write a file of edition 1, whose fleet has one unit, anew in edition 2 or 3, with these limits of the unit. Gives its
 ** length, which is MORE bytes more: the fields behind the unit are so much further.
 */
 enum { MORE = 8 };
-size_t put_limited(uint8_t *to, const uint8_t *file, size_t len, uint32_t provide, uint32_t absorb);
+size_t put_limited(uint8_t *to, uint8_t edition, const uint8_t *file, size_t len, uint32_t provide, uint32_t absorb);
 
 /* A byte of a file that is changed, and the check's number, place and steps then. */
 struct change {

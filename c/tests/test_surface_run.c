@@ -121,20 +121,37 @@ static void test_run_figures(void)
 }
 
 /* Where both limits are S an edition 2 file gives the result of edition 1; the units of the figures are asked no vars,
-** and give that result with any limits.
+** and give that result with any limits. In edition 3 the idle unit of the whole case, whose inverter has no losses,
+** draws the same.
 */
 static void test_run_wide_limits(void)
 {
     uint8_t file[sizeof complete], limited[sizeof complete + MORE];
     size_t len = giving_file(file);
-    check_run(limited, put_limited(limited, whole_case, sizeof whole_case, 100000000, 100000000), whole_result,
-        sizeof whole_result);
-    check_run(limited, put_limited(limited, file, len, 5000, 5000), giving_result, sizeof giving_result);
-    check_run(limited, put_limited(limited, file, len, 0, 0), giving_result, sizeof giving_result);
+    for (uint8_t edition = 2; edition <= 3; edition++)
+        check_run(limited, put_limited(limited, edition, whole_case, sizeof whole_case, 100000000, 100000000),
+            whole_result, sizeof whole_result);
+    check_run(limited, put_limited(limited, 2, file, len, 5000, 5000), giving_result, sizeof giving_result);
+    check_run(limited, put_limited(limited, 2, file, len, 0, 0), giving_result, sizeof giving_result);
+}
+
+/* A record of a fleet's only unit. */
+static void put_record(uint8_t *at, uint32_t step, int32_t request, const char *kw, int32_t vars, uint64_t stored,
+    uint64_t loss)
+{
+    put(at, 0x110025, 3);
+    put(at + 3, step, 4);
+    put(at + 7, 0, 1);
+    put(at + 8, (uint32_t)request, 4);
+    memcpy(at + 12, kw, 8);
+    put(at + 20, (uint32_t)vars, 4);
+    put(at + 24, stored, 8);
+    put(at + 32, loss, 8);
 }
 
 /* Figure D4 in a file of one unit, whose R and S are 1,000, and which is asked 1,000 W and 700 var or minus 700: vars
-** first and watts first with its limits, and vars first in edition 1; and what it gives in each of two steps.
+** first and watts first with its limits, in editions 2 and 3, and vars first in edition 1; and what it gives in each of
+** two steps. It has no idle loss, so that it does not matter where that sits.
 */
 static const struct limited_run {
     uint8_t edition;
@@ -147,6 +164,9 @@ static const struct limited_run {
     {2, 700, 1, 800, 600, "\x3F\xE9\x99\x99\x99\x99\x99\x9A"},
     {2, -700, 1, 953, -300, "\x3F\xEE\x7E\xF9\xDB\x22\xD0\xE5"},
     {2, 700, 0, 1000, 0, "\x3F\xF0\0\0\0\0\0"},
+    {3, 700, 1, 800, 600, "\x3F\xE9\x99\x99\x99\x99\x99\x9A"},
+    {3, -700, 1, 953, -300, "\x3F\xEE\x7E\xF9\xDB\x22\xD0\xE5"},
+    {3, 700, 0, 1000, 0, "\x3F\xF0\0\0\0\0\0"},
     {1, 700, 1, 714, 700, "\x3F\xE6\xD9\x16\x87\x2B\x02\x0C"},
     {1, -700, 1, 714, -700, "\x3F\xE6\xD9\x16\x87\x2B\x02\x0C"},
 };
@@ -164,8 +184,8 @@ static size_t limited_case(uint8_t *to, const struct limited_run *run)
     memcpy(file + 76, "\x04\0\x18\x3F\xF0\0\0\0\0\0\0", 11);
     memset(file + 87, 0, 16);
     memcpy(file + 103, "\x05\0\0\x7F\0\4\0\0\0\2", 10);
-    if (run->edition == 2)
-        return put_limited(to, file, 113, 600, 300);
+    if (run->edition != 1)
+        return put_limited(to, run->edition, file, 113, 600, 300);
     memcpy(to, file, 113);
     return 113;
 }
@@ -173,16 +193,8 @@ static size_t limited_case(uint8_t *to, const struct limited_run *run)
 /* Two steps of a minute, from 3,600,000 J and without losses. */
 static size_t limited_result(uint8_t *result, const struct limited_run *run)
 {
-    for (uint32_t step = 0; step < 2; step++) {
-        uint8_t *at = result + 40 * step;
-        memcpy(at, whole_result, 40);
-        put(at + 3, step, 4);
-        put(at + 8, 1000, 4);
-        memcpy(at + 12, run->kw, 8);
-        put(at + 20, (uint32_t)run->vars, 4);
-        put(at + 24, 3600000 - 60 * (step + 1) * run->watts, 8);
-        put(at + 32, 0, 8);
-    }
+    for (uint32_t step = 0; step < 2; step++)
+        put_record(result + 40 * step, step, 1000, run->kw, run->vars, 3600000 - 60 * (step + 1) * run->watts, 0);
     memcpy(result + 80, "\x1F\0\4\0\0\0\2", 7);
     return 87;
 }
@@ -203,6 +215,48 @@ static void test_run_limits(void)
     file[63] = 0;
     file[67] = 0x04;
     refused_run(file, len, 5);
+}
+
+/* The unit of the figures in edition 3, through a reading and two missing ones: it gives the 900 W of figure D5, then 3
+** W, which is less than its idle loss, and then nothing; or it takes the 1,000 W of the figure, then 2 W, and then
+** nothing. A step has the power at the grid, the store after it and the loss.
+*/
+static const struct older_run {
+    uint8_t mode;
+    int32_t request;
+    const char *reading;
+    uint64_t stored;
+    struct {
+        const char *kw;
+        uint64_t stored, loss;
+    } steps[3];
+} older_runs[] = {
+    {1, 900, "\x3F\xEC\xCC\xCC\xCC\xCC\xCC\xCD", 175374,
+        {{"\x3F\xEC\x7A\xE1\x47\xAE\x14\x7B", 100374, 21600}, {"\xBF\x7C\xAC\x08\x31\x26\xE9\x79", 100074, 720},
+            {"\xBF\x84\x7A\xE1\x47\xAE\x14\x7B", 100074, 600}}},
+    {3, -1000, "\xBF\xF0\0\0\0\0\0", 956752,
+        {{"\xBF\xF0\x28\xF5\xC2\x8F\x5C\x29", 999952, 17400}, {"\xBF\x88\x93\x74\xBC\x6A\x7E\xFA", 1000000, 672},
+            {"\xBF\x84\x7A\xE1\x47\xAE\x14\x7B", 1000000, 600}}},
+};
+
+static void test_run_older(void)
+{
+    uint8_t file[sizeof complete], older[sizeof complete + MORE], result[127];
+    for (size_t i = 0; i < sizeof older_runs / sizeof older_runs[0]; i++) {
+        const struct older_run *run = &older_runs[i];
+        size_t len = giving_file(file);
+        put(file + 28, run->stored, 8);
+        put(file + 64, run->mode, 1);
+        memcpy(file + 79, run->reading, 8);
+        for (uint32_t step = 0; step < 3; step++)
+            put_record(result + 40 * step, step, run->request, run->steps[step].kw, 0, run->steps[step].stored,
+                run->steps[step].loss);
+        memcpy(result + 120, "\x1F\0\4\0\0\0\3", 7);
+        len = put_limited(older, 3, file, len, 5000, 5000);
+        check_run(older, len, result, sizeof result);
+        for (size_t cut = 0; cut < len; cut++)
+            refused_run(older, cut, yb_check(older, cut));
+    }
 }
 
 /* A unit that draws 1,000 W and an inverter of 8,000 VA, through four steps: 60 W of DC power, which is between cut-out
@@ -309,8 +363,8 @@ static void test_run_refused(void)
         size_t at;
         uint8_t byte;
         uint32_t number;
-    } changes[] = {{0, 0x7E, 2}, {2, 5, 3}, {4, 2, 4}, {3, 2, 3}, {3, 3, 5}, {4, 65, 5}, {53, 0, 5}, {64, 4, 5},
-        {79, 0x7F, 6}, {142, 3, 7}};
+    } changes[] = {{0, 0x7E, 2}, {2, 5, 3}, {4, 2, 4}, {3, 2, 3}, {3, 3, 3}, {3, 4, 5}, {4, 65, 5}, {53, 0, 5},
+        {64, 4, 5}, {79, 0x7F, 6}, {142, 3, 7}};
     for (size_t i = 0; i < sizeof changes / sizeof changes[0]; i++) {
         memcpy(file, complete, sizeof complete);
         file[changes[i].at] = changes[i].byte;
@@ -364,8 +418,9 @@ static void test_run_large(void)
 
 const struct test run_tests[] = {
     {"yb_run: the document's whole case, and figures D1 and D2 in a row", test_run_figures},
-    {"yb_run: edition 2, limits that change nothing", test_run_wide_limits},
-    {"yb_run: edition 2, figure D4, and edition 1 beside it", test_run_limits},
+    {"yb_run: editions 2 and 3, where they change nothing", test_run_wide_limits},
+    {"yb_run: editions 2 and 3, figure D4, and edition 1 beside it", test_run_limits},
+    {"yb_run: edition 3, figure D5 in a row", test_run_older},
     {"yb_run: an inverter in four weathers", test_run_roof},
     {"yb_run: 64 units and 64 inverters", test_run_most_inverters},
     {"yb_run: no steps", test_run_no_steps},

@@ -87,10 +87,10 @@ static void check_call(const struct as *as, const struct step *s, uint32_t numbe
     }
 }
 
-/* The step of a unit without limits: yb_step; in edition 1 limits of any size, which are not looked at; and in edition
-** 2 limits of S.
+/* The step of a unit without limits in the newer model, which has the idle loss on the DC side: yb_step; in edition 1
+** limits of any size, which are not looked at; and in edition 2 limits of S.
 */
-static void check_step(const struct step *s, uint32_t number, int32_t watts, int32_t vars, uint64_t after,
+static void check_newer(const struct step *s, uint32_t number, int32_t watts, int32_t vars, uint64_t after,
     uint64_t loss)
 {
     const struct as ways[] = {{1, 0, 0}, {1, 7, s->kva}, {1, s->kva + 1, 3}, {1, UINT32_MAX, UINT32_MAX},
@@ -98,6 +98,23 @@ static void check_step(const struct step *s, uint32_t number, int32_t watts, int
     check_call(NULL, s, number, watts, vars, after, loss);
     for (size_t i = 0; i < sizeof ways / sizeof ways[0]; i++)
         check_call(&ways[i], s, number, watts, vars, after, loss);
+}
+
+/* The same in the older model, which is edition 3's and has it at the grid, again with limits of S. */
+static void check_older(const struct step *s, uint32_t number, int32_t watts, int32_t vars, uint64_t after,
+    uint64_t loss)
+{
+    struct as as = {3, s->kva, s->kva};
+    check_call(&as, s, number, watts, vars, after, loss);
+}
+
+/* In both, where there is no idle loss or the step is refused. */
+static void check_step(const struct step *s, uint32_t number, int32_t watts, int32_t vars, uint64_t after,
+    uint64_t loss)
+{
+    check_newer(s, number, watts, vars, after, loss);
+    if (s->idle_loss == 0 || number != 0)
+        check_older(s, number, watts, vars, after, loss);
 }
 
 static const int32_t any_requests[] = {0, 1, -1, 5001, INT32_MAX, INT32_MIN};
@@ -110,6 +127,16 @@ static void refused_step(const struct step *s)
     for (int i = 0; i < ANY_REQUESTS; i++) {
         step.request = any_requests[i];
         check_step(&step, 5, 0, 0, 0, 0);
+    }
+}
+
+/* The same in the newer model alone, for the idle draw is above S. */
+static void refused_draw(const struct step *s)
+{
+    struct step step = *s;
+    for (int i = 0; i < ANY_REQUESTS; i++) {
+        step.request = any_requests[i];
+        check_newer(&step, 5, 0, 0, 0, 0);
     }
 }
 
@@ -284,7 +311,7 @@ static void test_step_values(void)
     static const uint64_t rated[] = {0, UINT64_C(10000000000001), UINT64_C(1) << 63, UINT64_MAX};
     static const uint64_t energy[] = {1000001, UINT64_C(1) << 32, UINT64_C(1) << 63, UINT64_MAX};
     static const uint32_t power[] = {0, 100000001, UINT32_C(1) << 31, UINT32_MAX};
-    static const uint32_t idle[] = {4501, 10000001, UINT32_C(1) << 31, UINT32_MAX};
+    static const uint32_t idle[] = {10000001, 10004501, UINT32_C(1) << 31, UINT32_MAX};
     static const int32_t var[] = {INT32_MIN, -100000001, 100000001, INT32_MAX};
     static const uint16_t weight[] = {0, 10001, 1 << 15, UINT16_MAX};
     static const uint16_t efficiency[] = {0, 999, 10001, UINT16_MAX};
@@ -309,10 +336,11 @@ static void test_step_values(void)
     /* An idle draw of S, and above it by rounding up alone. */
     s = unit, s.idle_loss = 4500;
     check_step(&s, 0, -5000, 0, 600000, 300000);
+    s.idle_loss = 4501, refused_draw(&s);
     s = unit, s.idle_loss = s.kva = 10, s.inverter = 10000;
     check_step(&s, 0, -10, 0, 600000, 600);
-    s.inverter = 9999, refused_step(&s);
-    s = largest, s.idle_loss = 10000000, s.inverter = 1000, s.kva = 99999999, refused_step(&s);
+    s.inverter = 9999, refused_draw(&s);
+    s = largest, s.idle_loss = 10000000, s.inverter = 1000, s.kva = 99999999, refused_draw(&s);
 }
 
 static void test_step_requests(void)
@@ -332,7 +360,7 @@ static const struct step limited = {
     1, 1000000, 0, 500000, 5000, 1000, 0, 0, 1, 10000, 10000, 10000, 0, 0,
 };
 
-/* One step of it in edition 2, asked watts and vars: what it gives of both. */
+/* One step of it in editions 2 and 3, asked watts and vars: what it gives of both. */
 static void check_limited(struct limits limits, uint8_t priority, int32_t request, int32_t var_request, int32_t watts,
     int32_t vars)
 {
@@ -341,7 +369,8 @@ static void check_limited(struct limits limits, uint8_t priority, int32_t reques
     s.priority = priority;
     s.request = request;
     s.var_request = var_request;
-    check_call(&as, &s, 0, watts, vars, (uint64_t)(500000 - watts), 0);
+    for (; as.edition <= 3; as.edition++)
+        check_call(&as, &s, 0, watts, vars, (uint64_t)(500000 - watts), 0);
 }
 
 /* Figure D4, and each direction with its own limit. */
@@ -400,27 +429,164 @@ static void test_step_limit_ends(void)
 static void test_step_editions(void)
 {
     static const uint32_t beyond[] = {1001, 1256, 100000000, 100000001, UINT32_C(1) << 31, UINT32_MAX};
-    static const uint8_t editions[] = {0, 3, 4, 127, 128, 255};
+    static const uint8_t editions[] = {0, 4, 5, 127, 128, 255};
     for (int i = 0; i < 6; i++) {
-        refused_as(2, beyond[i], 0, &limited);
-        refused_as(2, 0, beyond[i], &limited);
-        refused_as(2, beyond[i], beyond[i], &limited);
+        for (uint8_t edition = 2; edition <= 3; edition++) {
+            refused_as(edition, beyond[i], 0, &limited);
+            refused_as(edition, 0, beyond[i], &limited);
+            refused_as(edition, beyond[i], beyond[i], &limited);
+        }
         refused_as(editions[i], 600, 300, &limited);
         refused_as(editions[i], 0, 0, &limited);
         refused_as(editions[i], beyond[i], 1000, &limited);
     }
-    /* The largest, and one beyond it. */
-    struct as as = {2, 100000000, 100000000};
+    for (uint8_t edition = 2; edition <= 3; edition++) {
+        /* The largest, and one beyond it. */
+        struct as as = {edition, 100000000, 100000000};
+        struct step s = largest;
+        s.var_request = INT32_C(-100000000);
+        check_call(&as, &s, 0, 0, INT32_C(-100000000), UINT64_C(10000000000000), 0);
+        refused_as(edition, 100000001, 0, &largest);
+        refused_as(edition, 0, 100000001, &largest);
+        /* A request beyond the rating comes last. */
+        s = limited;
+        s.request = 5001;
+        as = (struct as){edition, 1000, 0};
+        check_call(&as, &s, 10, 0, 0, 0, 0);
+    }
+}
+
+/* Figure D5, which has D1's discharge, D3's charge and the idling unit; and the last joule either way. */
+static void test_step_older_figures(void)
+{
+    struct step s = asked(900, 175000);
+    check_older(&s, 0, 890, 0, 100000, 21600);
+    s.stored--;
+    check_older(&s, 0, 889, 0, 100074, 21585);
+    s = asked(-1000, 100000);
+    check_older(&s, 0, -1010, 0, 143200, 17400);
+    s.stored = 1000000 - 43200;
+    check_older(&s, 0, -1010, 0, 1000000, 17400);
+    s.stored++;
+    check_older(&s, 0, -1009, 0, 999953, 17388);
+    s = asked(1, 100150);
+    check_older(&s, 0, -9, 0, 100000, 690);
+    /* All that passes the inverter is stored. */
+    s = asked(-2, 0);
+    check_older(&s, 0, -12, 0, 48, 672);
+    s.stored = 1000000 - 48;
+    check_older(&s, 0, -12, 0, 1000000, 672);
+
+    /* Asked nothing; at its reserve or below it, or a joule short of a watt, and asked to give; full, without room for
+    ** a watt, or asked less than a watt behind the inverter, and asked to take.
+    */
+    static const struct {
+        int32_t request;
+        uint64_t stored;
+    } idle[] = {{0, 0}, {0, 600000}, {0, 1000000}, {900, 100000}, {900, 99999}, {900, 0}, {1, 100149},
+        {-1000, 1000000}, {-1000, 1000000 - 47}, {-1, 0}};
+    for (size_t i = 0; i < sizeof idle / sizeof idle[0]; i++) {
+        s = asked(idle[i].request, idle[i].stored);
+        check_older(&s, 0, -10, 0, idle[i].stored, 600);
+    }
+}
+
+/* An idle loss of any size, also above what the unit gives and above S: a unit that gives 900 W, takes 1,000 W or idles
+** has it at the grid, and the store does not see it.
+*/
+static void test_step_older_losses(void)
+{
+    static const int32_t losses[] = {0, 1, 899, 900, 901, 4500, 4501, 5001, 9999999, 10000000};
+    for (size_t i = 0; i < sizeof losses / sizeof losses[0]; i++) {
+        int32_t loss = losses[i];
+        struct step give = asked(900, 175000), take = asked(-1000, 100000), idle = unit;
+        uint64_t energy = UINT64_C(60) * (uint32_t)loss;
+        give.idle_loss = take.idle_loss = idle.idle_loss = (uint32_t)loss;
+        check_older(&give, 0, 900 - loss, 0, 100000, 21000 + energy);
+        check_older(&take, 0, -1000 - loss, 0, 143200, 16800 + energy);
+        check_older(&idle, 0, -loss, 0, 600000, energy);
+        if (loss > 4500) /* the draw is above the S of 5,000 */
+            refused_draw(&idle);
+    }
+}
+
+/* The circle is about the watts of the inverter, which are not those at the grid, with either priority. */
+static void test_step_older_circle(void)
+{
+    static const struct {
+        uint8_t priority;
+        int32_t request, var_request, watts, vars;
+        uint64_t after, loss;
+    } rows[] = {
+        {0, 900, 600, 600, 435, 525000, 39000}, {0, -900, 600, -1200, 435, 638880, 33120},
+        {1, 900, 600, 500, 600, 533325, 36675}, {1, -900, 600, -1100, 600, 634560, 31440},
+        {0, 1000, 600, 700, 0, 516600, 41400},
+        /* Vars at S or beyond it leave no watts; the inverter of an idling unit leaves all of S to vars. */
+        {1, 900, 1000, -300, 1000, 600000, 18000}, {1, -900, 1001, -300, 1000, 600000, 18000},
+        {1, 900, 100000000, -300, 1000, 600000, 18000}, {0, 0, 1000, -300, 1000, 600000, 18000},
+    };
+    struct step s = asked(900, 174999);
+    s.kva = s.var_request = 900;
+    check_older(&s, 0, 889, 42, 100074, 21585);
+    s = unit, s.kva = 1000, s.idle_loss = 300;
+    for (size_t i = 0; i < sizeof rows / sizeof rows[0]; i++)
+        for (int sign = -1; sign <= 1; sign += 2) {
+            s.priority = rows[i].priority;
+            s.request = rows[i].request;
+            s.var_request = sign * rows[i].var_request;
+            check_older(&s, 0, rows[i].watts, sign * rows[i].vars, rows[i].after, rows[i].loss);
+        }
+    /* Figure E1 in a unit whose idle loss is far above S, which the newer model refuses. */
+    s = unit, s.kva = 5, s.idle_loss = 10000000, s.var_request = -6, s.request = 3;
+    check_older(&s, 0, 3 - 10000000, -4, 599700, 600000120);
+    s.request = -3;
+    check_older(&s, 0, -3 - 10000000, -4, 600096, 600000084);
+    s.request = 0;
+    check_older(&s, 0, -10000000, -5, 600000, 600000000);
+    refused_draw(&s);
+}
+
+static void test_step_older_largest(void)
+{
     struct step s = largest;
+    s.idle_loss = 10000000;
+    s.request = 100000000;
+    check_older(&s, 0, 90000000, 0, UINT64_C(1360000000000), UINT64_C(864000000000));
+    s.request = -100000000;
+    check_older(&s, 0, -10000000, 0, UINT64_C(10000000000000), UINT64_C(864000000000));
+    s.stored = 0;
+    check_older(&s, 0, -110000000, 0, UINT64_C(8640000000000), UINT64_C(864000000000));
+    s.inverter = s.charge = s.discharge = 1000;
+    check_older(&s, 0, -110000000, 0, UINT64_C(86400000000), UINT64_C(9417600000000));
+    s.request = 0;
     s.var_request = INT32_C(-100000000);
-    check_call(&as, &s, 0, 0, INT32_C(-100000000), UINT64_C(10000000000000), 0);
-    refused_as(2, 100000001, 0, &largest);
-    refused_as(2, 0, 100000001, &largest);
-    /* A request beyond the rating comes last. */
-    s = limited;
-    s.request = 5001;
-    as = (struct as){2, 1000, 0};
-    check_call(&as, &s, 10, 0, 0, 0, 0);
+    check_older(&s, 0, -10000000, INT32_C(-100000000), 0, UINT64_C(864000000000));
+    s.kva = 1;
+    check_older(&s, 0, -10000000, -1, 0, UINT64_C(864000000000));
+}
+
+/* Any unit does in edition 3 what it would do in edition 2 if it had no idle loss, and draws that beside it. */
+static void test_step_older_drawn(void)
+{
+    struct file file;
+    for (int times = 0; times < 100; times++) {
+        draw_file(&file, MOST_UNITS);
+        for (size_t i = 0; i < MOST_UNITS; i++) {
+            const struct unit *u = &file.unit[i];
+            struct as as = {2, file.limits[i].provide, file.limits[i].absorb};
+            struct step s = {file.seconds, u->rated, u->reserve, u->stored, u->rating, u->kva, 0, u->var_request,
+                u->weight, u->inverter, u->charge, u->discharge, u->priority,
+                (int32_t)draw(UINT64_C(2) * u->rating + 1) - (int32_t)u->rating};
+            int32_t watts = 0, vars = 0;
+            uint64_t after = 0, loss = 0;
+            uint32_t number = make_step(&as, &s, &watts, &vars, &after, &loss);
+            s.idle_loss = u->idle_loss;
+            as.edition = 3;
+            check_call(&as, &s, number, watts - (int32_t)u->idle_loss, vars, after,
+                loss + (uint64_t)u->idle_loss * file.seconds);
+            wrong += number != 0;
+        }
+    }
 }
 
 const struct test step_tests[] = {
@@ -434,5 +600,10 @@ const struct test step_tests[] = {
     {"yb_step_as: figure D4, and var limits either way", test_step_limits},
     {"yb_step_as: limits of nothing and of S", test_step_limit_ends},
     {"yb_step_as: limits beyond S, and other editions", test_step_editions},
+    {"yb_step_as: edition 3, figure D5, the last joule and idling", test_step_older_figures},
+    {"yb_step_as: edition 3, idle losses of any size", test_step_older_losses},
+    {"yb_step_as: edition 3, the kVA circle and the priority", test_step_older_circle},
+    {"yb_step_as: edition 3, the largest numbers", test_step_older_largest},
+    {"yb_step_as: edition 3 beside edition 2", test_step_older_drawn},
     {NULL, NULL},
 };

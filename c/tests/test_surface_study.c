@@ -77,7 +77,7 @@ static void check_same(struct file *file, int64_t load, uint32_t budget)
     for (uint8_t mode = 1; mode <= 3; mode++) {
         file->settings.mode = mode;
         file->settings.phase = (uint8_t)draw(6);
-        set_edition(file, (uint8_t)(1 + draw(2)));
+        set_edition(file, (uint8_t)(1 + draw(3)));
         check_study(file->bytes, file->len, load, budget, file->units, 0, &right);
     }
 }
@@ -190,8 +190,8 @@ static void test_study_refused(void)
         size_t at;
         uint8_t byte;
         uint32_t number;
-    } changes[] = {{0, 0x7E, 2}, {2, 5, 3}, {4, 3, 4}, {3, 2, 3}, {3, 3, 5}, {4, 0, 5}, {4, 65, 5}, {53, 0, 5},
-        {116, 4, 5}, {127, 6, 5}, {131, 0x7F, 6}, {164, 3, 7}};
+    } changes[] = {{0, 0x7E, 2}, {2, 5, 3}, {4, 3, 4}, {3, 2, 3}, {3, 3, 3}, {3, 4, 5}, {4, 0, 5}, {4, 65, 5},
+        {53, 0, 5}, {116, 4, 5}, {127, 6, 5}, {131, 0x7F, 6}, {164, 3, 7}};
     enum { TOO_LONG = 2097153 };
     struct file file;
     uint8_t *bytes = calloc(1, TOO_LONG);

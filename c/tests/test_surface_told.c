@@ -174,7 +174,7 @@ static void check_told(const struct file *file)
 /* The same of the file in every edition. */
 static void check_editions(struct file *file)
 {
-    for (uint8_t edition = 1; edition <= 2; edition++) {
+    for (uint8_t edition = 1; edition <= 3; edition++) {
         set_edition(file, edition);
         check_told(file);
     }
@@ -252,6 +252,14 @@ static void test_told_limits(void)
     file.limits[1] = (struct limits){1, 0};
     file.settings = (struct settings){3, 100000000, 200000000, 1000, 5};
     check_editions(&file);
+    /* The idle loss that only edition 3 takes, for the idle draw is above S. */
+    file.unit[1].idle_loss = 10000000;
+    set_edition(&file, 3);
+    check_told(&file);
+    for (uint8_t edition = 1; edition <= 2; edition++) {
+        set_edition(&file, edition);
+        refused_told(file.bytes, file.len, 5);
+    }
 }
 
 /* The steps after the settings do not matter: none, and as many as there can be. */
@@ -286,9 +294,10 @@ static void test_told_cut(void)
 {
     struct file file;
     draw_file(&file, 3);
-    cut_told(&file);
-    set_edition(&file, 2);
-    cut_told(&file);
+    for (uint8_t edition = 1; edition <= 3; edition++) {
+        set_edition(&file, edition);
+        cut_told(&file);
+    }
     check_site(NULL, 0, 0, 0, 0);
     if (yb_units(NULL, 0) != 0 || yb_inverters(NULL, 0) != 0 || yb_seconds(NULL, 0) != 0) {
         wrong++;
@@ -303,8 +312,8 @@ static void test_told_refused(void)
         size_t at;
         uint8_t byte;
         uint32_t number;
-    } changes[] = {{0, 0x7E, 2}, {2, 5, 3}, {4, 2, 4}, {3, 2, 3}, {3, 3, 5}, {4, 0, 5}, {4, 65, 5}, {53, 0, 5},
-        {64, 4, 5}, {75, 6, 5}, {79, 0x7F, 6}, {142, 3, 7}};
+    } changes[] = {{0, 0x7E, 2}, {2, 5, 3}, {4, 2, 4}, {3, 2, 3}, {3, 3, 3}, {3, 4, 5}, {4, 0, 5}, {4, 65, 5},
+        {53, 0, 5}, {64, 4, 5}, {75, 6, 5}, {79, 0x7F, 6}, {142, 3, 7}};
     enum { TOO_LONG = 2097153 };
     uint8_t *file = calloc(1, TOO_LONG);
     if (file == NULL)
@@ -319,8 +328,10 @@ static void test_told_refused(void)
     refused_told(file, TOO_LONG - 1, 9);
     refused_told(file, TOO_LONG, 12);
     /* Limits, of a unit whose S is 5,000. */
-    refused_told(file, put_limited(file, complete, sizeof complete, 5001, 0), 5);
-    refused_told(file, put_limited(file, complete, sizeof complete, 0, 5001), 5);
+    for (uint8_t edition = 2; edition <= 3; edition++) {
+        refused_told(file, put_limited(file, edition, complete, sizeof complete, 5001, 0), 5);
+        refused_told(file, put_limited(file, edition, complete, sizeof complete, 0, 5001), 5);
+    }
     free(file);
 }
 

@@ -12,7 +12,7 @@ pub const MOST_BYTES: usize = 2_097_152;
 pub const MOST_STEPS: u32 = 65_535;
 
 /// The run file's edition.
-pub const EDITION: RangeInclusive<u8> = 1..=2;
+pub const EDITION: RangeInclusive<u8> = 1..=3;
 
 /// The step length in seconds.
 pub const SECONDS: RangeInclusive<u32> = 1..=86_400;

@@ -5,6 +5,7 @@ pub mod curves;
 pub mod fleets;
 pub mod inverters;
 pub mod limits;
+pub mod older;
 pub mod roofs;
 pub mod seasons;
 pub mod sticks;

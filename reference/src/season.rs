@@ -157,7 +157,7 @@ mod tests {
     use crate::samples::inverters::document_inverter;
     use crate::samples::sticks::{self, whole_case};
     use crate::samples::units::figure_unit;
-    use crate::samples::{limits, roofs, seasons, Draw};
+    use crate::samples::{limits, older, roofs, seasons, Draw};
     use crate::solar::{self, Weather};
     use crate::storage::Unit;
 
@@ -436,6 +436,55 @@ mod tests {
             });
             assert!(one == two);
         }
+    }
+
+    /// A run of edition 3 that rests, gives and takes: the kW is that of the grid, and the idle loss is in the loss.
+    #[test]
+    fn the_older_model_of_a_file() {
+        let of = |idle_loss, mode, reading| {
+            let run = sticks::with(&whole_case(), |run| {
+                (run.site.edition, run.site.settings.mode) = (3, mode);
+                run.site.units = vec![Unit { idle_loss, ..figure_unit(500_000) }];
+                run.readings = vec![reading];
+            });
+            let bytes = super::run(&sticks::file(&run), 47).unwrap();
+            (f64_at(&bytes, 12).unwrap(), u64_at(&bytes, 24).unwrap(), u64_at(&bytes, 32).unwrap())
+        };
+        assert_eq!(of(10, 1, Reading::Missing), (-0.01, 600_000, 600));
+        assert_eq!(of(10, 1, power(0.9)), (0.89, 525_000, 21_600));
+        assert_eq!(of(10, 3, power(-1.0)), (-1.01, 643_200, 17_400));
+        assert_eq!(of(900, 1, power(0.9)), (0.0, 525_000, 75_000));
+        assert_eq!(of(1_000, 1, power(0.9)), (-0.1, 525_000, 81_000));
+    }
+
+    /// Requests and stores of a run in edition 3 are those of edition 2 without idle losses, and each kW is less by the
+    /// unit's idle loss.
+    #[test]
+    fn an_older_run_is_one_without_idle_losses() {
+        let mut draw = Draw::from_seed(88);
+        let mut idle = 0;
+        for round in 0..600 {
+            let run = older::older(seasons::run(1 + round % 5, 12, &mut draw), &mut draw);
+            let none = sticks::with(&run, |run| {
+                run.site.edition = 2;
+                run.site.units.iter_mut().for_each(|unit| unit.idle_loss = 0);
+            });
+            for (step, none) in steps(&run).iter().zip(steps(&none)) {
+                assert_eq!(step.passed, none.passed);
+                for (record, none) in step.records.iter().zip(none.records) {
+                    let idle_loss = run.site.units[usize::from(record.unit)].idle_loss;
+                    let Stepped { watts, vars, stored, loss } = record.stepped;
+                    assert_eq!((watts + idle_loss as i32, vars, stored), {
+                        let Stepped { watts, vars, stored, .. } = none.stepped;
+                        (watts, vars, stored)
+                    });
+                    let seconds = u64::from(run.site.seconds);
+                    assert_eq!(loss, none.stepped.loss + u64::from(idle_loss) * seconds);
+                    idle += u32::from(step.passed.is_none() && none.stepped.watts == 0 && idle_loss > 0);
+                }
+            }
+        }
+        assert!(idle > 300, "{idle}");
     }
 
     /// The vars of each record are within the limits of its unit; requests, and the stores of units that give watts

@@ -1,94 +1,17 @@
 //! The proved step of a storage unit with var limits beside the reference, over the C surface.
 
 mod host;
+mod limited;
 mod steps;
 
-use std::collections::BTreeMap;
-
 use host::{refuses_cut_rows, Host};
-use steps::{expected, put_step, Left, With};
+use limited::compare;
+use steps::{expected, put_step, With};
 use yesbrulka_reference::samples::units::{self, StepCall};
-use yesbrulka_reference::samples::{limits, Draw};
+use yesbrulka_reference::samples::{limits, older, Draw};
 use yesbrulka_reference::storage::{Stepped, Unit};
-use yesbrulka_reference::whole::largest_leg;
 
-/// What was met, and how often: a name, a number of its own, and the sign of the var request.
-#[derive(Default)]
-struct Met(BTreeMap<(&'static str, i64, i32), u32>);
-
-impl Met {
-    fn note(&mut self, holds: bool, what: &'static str, which: i64, sign: i32) {
-        if holds {
-            *self.0.entry((what, which, sign)).or_default() += 1;
-        }
-    }
-
-    /// Each of these was met more than so often, with requests of both signs.
-    fn more_than(&self, count: u32, what: &'static str, which: impl IntoIterator<Item = i64>) {
-        for which in which {
-            for sign in [-1, 1] {
-                let met = self.0.get(&(what, which, sign)).copied().unwrap_or(0);
-                assert!(met > count, "{what} {which}, sign {sign}, was met only {met} times");
-            }
-        }
-    }
-
-    /// Each of these numbers was given more than so often.
-    fn numbers(&self, count: u32, numbers: &[i64]) {
-        for &number in numbers {
-            let met: u32 = (-1..=1).filter_map(|sign| self.0.get(&("number", number, sign))).sum();
-            assert!(met > count, "number {number} was met only {met} times");
-        }
-    }
-
-    fn call(&mut self, call: &StepCall, left: &Left) {
-        let unit = call.unit.of_edition(call.edition);
-        let sign = unit.var_request.signum();
-        self.note(true, "number", left.number.into(), sign);
-        self.note(true, "edition", call.edition.into(), sign);
-        if left.number != 0 {
-            return;
-        }
-        let Unit { kva, provide, absorb, .. } = unit;
-        let (own, other) = if sign < 0 { (absorb, provide) } else { (provide, absorb) };
-        // The limit in the request's own direction: nothing, one, one less than S, S, or another.
-        let kind = [0, 1, kva - 1, kva].iter().position(|&kind| kind == own).unwrap_or(4);
-        self.note(true, "limit", kind as i64, sign);
-        self.note(own > 0 && other == 0, "the other limit is nothing", 0, sign);
-        self.note(own < other, "the smaller of the limits", 0, sign);
-        let by = i64::from(unit.var_request).abs() - i64::from(own);
-        self.note(by.abs() <= 1, "vars beside the limit", by, sign);
-        self.circle(call, &unit, left, sign);
-    }
-
-    /// What decided the watts and the vars.
-    fn circle(&mut self, call: &StepCall, unit: &Unit, left: &Left, sign: i32) {
-        let asked = unit.var_request.unsigned_abs();
-        let limited = unit.limited_vars().unsigned_abs();
-        let (watts, vars) = (left.stepped.watts.unsigned_abs(), left.stepped.vars.unsigned_abs());
-        let priority = unit.priority.into();
-        self.note(vars == limited && vars < asked.min(unit.kva), "the limit decided", priority, sign);
-        self.note(vars < limited, "the circle decided", priority, sign);
-        self.note(vars == asked && vars > 0, "all that was asked", priority, sign);
-        // Vars first, and more watts than the request would have left without its limit.
-        let without = largest_leg(unit.kva, asked.min(unit.kva));
-        let moved = left.stepped.stored != unit.stored;
-        self.note(priority == 1 && moved && watts > without, "watts that the limit left", 0, sign);
-        let most = largest_leg(unit.kva, limited).min(call.request.unsigned_abs());
-        self.note(priority == 1 && moved && watts == most && limited > 0, "watts beside the limit", 0, sign);
-    }
-}
-
-/// Makes every step with the archive and with the reference, and compares; of no fewer than these.
-fn compare(least: u32, calls: impl IntoIterator<Item = StepCall>) -> Met {
-    let mut met = Met::default();
-    let all = steps::compare(With::StepAs, calls, |call, left| met.call(call, left));
-    assert!(all >= least, "{all} steps");
-    println!("{all} steps");
-    met
-}
-
-/// Figure D4, and D1 to E1 in both editions: their units have no limits below S.
+/// Figure D4, and D1 to E1 in editions 1 and 2: their units have no limits below S.
 #[test]
 fn steps_of_the_documents_figures() {
     let answers = [(0, 600), (0, -300), (800, 600), (953, -300)];
@@ -134,8 +57,8 @@ fn steps_where_a_limit_decides() {
 fn steps_of_small_units_with_every_var_request() {
     let mut draw = Draw::from_seed(902);
     let mut calls = Vec::new();
-    while calls.len() < 120_000 {
-        let call = limits::step_call(&mut draw);
+    while calls.len() < 240_000 {
+        let call = draw.one_of(&[limits::step_call, older::step_call])(&mut draw);
         let kva = call.unit.kva;
         if kva > 30 {
             continue;
@@ -151,18 +74,19 @@ fn steps_of_small_units_with_every_var_request() {
             }
         }
     }
-    let met = compare(120_000, calls);
-    met.numbers(119_999, &[0]);
-    met.more_than(1_500, "limit", 0..=4);
-    met.more_than(1_500, "vars beside the limit", -1..=1);
+    let met = compare(240_000, calls);
+    met.numbers(239_999, &[0]);
+    met.more_than(30_000, "edition", 2..=3);
+    met.more_than(3_000, "limit", 0..=4);
+    met.more_than(3_000, "vars beside the limit", -1..=1);
 }
 
 #[test]
 fn steps_with_values_at_their_ends_or_beside_them() {
     let mut draw = Draw::from_seed(903);
     let mut calls = Vec::new();
-    for _ in 0..400 {
-        let call = limits::step_call(&mut draw);
+    for _ in 0..800 {
+        let call = draw.one_of(&[limits::step_call, older::step_call])(&mut draw);
         let mut add = |number: u32, call: StepCall| {
             assert_eq!(expected(&call).number, number, "{call:?}");
             calls.push(call);
@@ -172,7 +96,7 @@ fn steps_with_values_at_their_ends_or_beside_them() {
             // And beside it, or at another end at once.
             add(0, call.with(end).with(draw.one_of(&limits::ENDS)));
         }
-        for spoil in units::BAD_VALUES.iter().chain(&limits::BAD_VALUES) {
+        for spoil in units::bad_values(call.edition).iter().chain(&limits::BAD_VALUES) {
             add(5, call.with(spoil));
             // A wrong value comes before a wrong request.
             add(5, call.with(spoil).with(draw.one_of(&units::BAD_REQUESTS)));
@@ -180,7 +104,17 @@ fn steps_with_values_at_their_ends_or_beside_them() {
         for spoil in units::BAD_REQUESTS {
             add(10, call.with(spoil));
         }
+        // The idle draw is tested in editions 1 and 2 alone.
+        for end in older::ENDS {
+            add(0, call.with(end).with(|call| call.edition = 3));
+        }
+        for (edition, beyond) in [1, 2, 3].into_iter().flat_map(|e| older::BEYOND.map(|beyond| (e, beyond))) {
+            let call = call.with(beyond).with(|call| call.edition = edition);
+            add(if edition == 3 { 0 } else { 5 }, call);
+            add(if edition == 3 { 10 } else { 5 }, call.with(draw.one_of(&units::BAD_REQUESTS)));
+        }
         // In edition 1 no limit is looked at, and all else is.
+        let call = limits::step_call(&mut draw);
         for spoil in limits::BAD_VALUES {
             let call = call.with(spoil).with(|call| call.edition = 1);
             add(0, call);
@@ -188,9 +122,9 @@ fn steps_with_values_at_their_ends_or_beside_them() {
             add(10, call.with(draw.one_of(&units::BAD_REQUESTS)));
         }
     }
-    let met = compare(90_000, calls);
-    met.numbers(4_000, &[0, 5, 10]);
-    met.more_than(4_000, "edition", 1..=2);
+    let met = compare(180_000, calls);
+    met.numbers(8_000, &[0, 5, 10]);
+    met.more_than(8_000, "edition", 1..=3);
 }
 
 /// Every edition that a byte can say, with good values, with a limit beyond S, and with a request beyond the rating.
@@ -203,7 +137,7 @@ fn steps_of_every_edition() {
         for edition in 0..=255 {
             let call = call.with(|call| call.edition = edition);
             let number = |call: &StepCall| expected(call).number;
-            let known = (1..=2).contains(&edition);
+            let known = (1..=3).contains(&edition);
             assert_eq!(number(&call), if known { 0 } else { 5 }, "edition {edition}");
             let beyond = call.with(limits::BAD_VALUES[round % limits::BAD_VALUES.len()]);
             assert_eq!(number(&beyond), if edition == 1 { 0 } else { 5 }, "edition {edition}");
@@ -214,10 +148,10 @@ fn steps_of_every_edition() {
     }
     for _ in 0..4_000 {
         let call = limits::step_call(&mut draw);
-        calls.extend([0, 1, 2, 3, 255].map(|edition| call.with(|call| call.edition = edition)));
+        calls.extend([0, 1, 2, 3, 4, 255].map(|edition| call.with(|call| call.edition = edition)));
     }
     let met = compare(60_000, calls);
-    met.more_than(1_000, "edition", [0, 1, 2, 3, 255]);
+    met.more_than(1_000, "edition", [0, 1, 2, 3, 4, 255]);
     met.numbers(100, &[0, 5, 10]);
 }
 
@@ -267,7 +201,7 @@ fn steps_of_edition_1_with_any_limits() {
 fn steps_over_any_bits() {
     let mut draw = Draw::from_seed(907);
     let calls = (0..40_000).map(|round| {
-        let call = limits::step_call(&mut draw);
+        let call = draw.one_of(&[limits::step_call, older::step_call])(&mut draw);
         let [provide, absorb] = [(); 2].map(|()| draw.sized() as u32);
         let priority = draw.any() as u8 >> draw.below(8);
         let var_request = draw.any() as i32 >> draw.below(32);
@@ -277,7 +211,7 @@ fn steps_over_any_bits() {
             _ => Unit { provide, absorb, ..call.unit },
         };
         let any = draw.any() as u8;
-        let edition = draw.one_of(&[2, 2, 2, 1, any]);
+        let edition = draw.one_of(&[2, 2, 3, 3, 1, any]);
         StepCall { edition, unit, ..call }
     });
     compare(40_000, calls).numbers(3_000, &[0, 5]);

@@ -8,7 +8,7 @@ use frames::{put_file, said_units, shown, Met, Rest, FRAME};
 use host::{refuses_cut_rows, Host, LEFT_ALONE};
 use yesbrulka_reference::controller::Settings;
 use yesbrulka_reference::ranges::{MOST_BYTES, UNITS};
-use yesbrulka_reference::samples::{limits, roofs, seasons, sticks, units, Draw};
+use yesbrulka_reference::samples::{limits, older, roofs, seasons, sticks, units, Draw};
 use yesbrulka_reference::site::{self, Site};
 use yesbrulka_reference::stick::{Run, MISSING};
 use yesbrulka_reference::storage::Unit;
@@ -337,7 +337,7 @@ fn files_with_inverters() {
     met.more_than(100, "number", [0, 2, 3, 4, 5, 6]);
 }
 
-/// Files of both editions, with inverters and without: complete, cut, damaged, and in another edition than theirs.
+/// Files of every edition, with inverters and without: complete, cut, damaged, and in another edition than theirs.
 #[test]
 fn files_with_limits() {
     let mut draw = Draw::from_seed(620);
@@ -345,7 +345,7 @@ fn files_with_limits() {
     for units in 1..=64 {
         for round in 0..40 {
             let (inverters, steps) = (round % 3, draw.below(4) as usize);
-            let run = limits::run(units, inverters, steps, &mut draw);
+            let run = older::run(units, inverters, steps, &mut draw);
             assert_eq!(sites.ask(sticks::file(&run), 0..units as u32 + 1), 0);
             if round == 0 {
                 let file = sticks::file(&run);
@@ -355,33 +355,28 @@ fn files_with_limits() {
         }
     }
     for _ in 0..200 {
-        let run = limits::run(2, 1, 1, &mut draw);
+        let run = older::run(2, 1, 1, &mut draw);
         let fields = sticks::fields(&run);
         for edition in [0, 1, 2, 3, 4, 255] {
             let number = sites.site(sticks::bytes(&limits::in_edition(edition, &fields)));
-            let right = match edition {
-                1 | 2 if edition == run.site.edition => 0,
-                1 | 2 => 3,
-                _ => 5,
-            };
-            assert_eq!(number, right);
+            assert_eq!(number, older::number_in(edition, &run));
         }
-        let limited = limits::limited(run, &mut draw);
-        for end in limits::ENDS {
+        let limited = older::limited(roofs::run(2, 1, 1, &mut draw), &mut draw);
+        for end in older::ends(limited.site.edition) {
             sites.site_of(&sticks::with_unit(&limited, 1, end));
         }
-        for spoil in limits::BAD_VALUES {
+        for spoil in older::bad_values(limited.site.edition) {
             assert_eq!(sites.site(sticks::file(&sticks::with_unit(&limited, 1, spoil))), 5);
         }
     }
     for round in 0..12_000 {
         sites.site(match round % 4 {
-            0 => limits::shuffled_file(&mut draw),
-            _ => limits::damaged_file(&mut draw),
+            0 => older::shuffled_file(&mut draw),
+            _ => older::damaged_file(&mut draw),
         });
     }
     let met = sites.end(20_000, 300_000);
-    met.more_than(1_000, "edition", 1..=2);
+    met.more_than(500, "edition", 1..=3);
     met.more_than(5_000, "a limit below S", 0..=3);
     met.more_than(100, "number", [0, 1, 2, 3, 4, 5, 6, 7, 8, 9]);
 }

@@ -108,21 +108,7 @@ fn steps_where_energy_circle_or_loss_decide() {
 #[test]
 fn steps_in_a_row() {
     let mut draw = Draw::from_seed(302);
-    let mut calls = Vec::new();
-    for _ in 0..1_000 {
-        let mut call = units::step_call(&mut draw);
-        for _ in 0..60 {
-            if draw.below(20) == 0 {
-                call.request = -call.request;
-            }
-            if draw.below(8) == 0 {
-                call.request = draw.below(u64::from(call.unit.rating) + 1) as i32 * call.request.signum();
-            }
-            calls.push(call);
-            call.unit.stored = expected(&call).stepped.stored;
-        }
-    }
-    compare(calls);
+    compare((0..1_000).flat_map(|_| units::in_a_row(units::step_call(&mut draw), 60, &mut draw)));
 }
 
 /// Small units, each with every request, so that nothing between the ends is left out.
@@ -131,11 +117,7 @@ fn steps_of_small_units_with_every_request() {
     let mut draw = Draw::from_seed(303);
     let mut calls = Vec::new();
     while calls.len() < 60_000 {
-        let call = units::step_call(&mut draw);
-        let rating = call.unit.rating as i32;
-        if rating <= 40 {
-            calls.extend((-rating..=rating).map(|request| StepCall { request, ..call }));
-        }
+        calls.extend(units::with_every_request(units::step_call(&mut draw)));
     }
     compare(calls);
 }
@@ -146,20 +128,7 @@ fn steps_over_every_joule() {
     let mut draw = Draw::from_seed(304);
     let mut calls = Vec::new();
     while calls.len() < 60_000 {
-        let call = units::step_call(&mut draw);
-        let StepCall { seconds, unit, request, .. } = call;
-        let size = request.unsigned_abs().into();
-        let most =
-            if request > 0 { unit.removed(size, seconds) } else { unit.added(size, seconds) } as u64 + 2;
-        if most > 2_000 {
-            continue;
-        }
-        for joules in 0..=most {
-            let reserve = most / 3;
-            let stored = if request > 0 { reserve + joules } else { reserve + most - joules };
-            let unit = Unit { rated: reserve + most, reserve, stored, ..unit };
-            calls.push(StepCall { unit, ..call });
-        }
+        calls.extend(units::over_every_joule(units::step_call(&mut draw)));
     }
     compare(calls);
 }

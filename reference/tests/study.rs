@@ -8,7 +8,7 @@ use frames::{put_file, said_units, shown, Met, Rest, FRAME};
 use host::{refuses_cut_rows, Host, LEFT_ALONE};
 use yesbrulka_reference::controller::{self, Fleet};
 use yesbrulka_reference::ranges::MOST_BYTES;
-use yesbrulka_reference::samples::{fleets, inverters, limits, roofs, sticks, Draw};
+use yesbrulka_reference::samples::{fleets, inverters, older, roofs, sticks, Draw};
 use yesbrulka_reference::site::{self, Site};
 use yesbrulka_reference::stick::MISSING;
 
@@ -190,12 +190,13 @@ fn studies_over_files_of_any_size() {
         let steps = draw.below(3) as usize;
         let mut run = sticks::study_run(&call, steps, &mut draw);
         if round % 3 == 0 {
-            run = limits::limited(run, &mut draw);
+            run = older::limited(run, &mut draw);
         }
         let file = sticks::file(&run);
         let left = expected_study(&file, call.load, call.budget, &call.requests);
         let mode = u32::from(run.site.settings.mode);
         studies.met.note("mode", mode);
+        studies.met.note("edition", run.site.edition.into());
         if in_its_own_mode(&run.site, call.load, call.budget) != left.requests {
             studies.met.note("another in its own mode", mode);
         }
@@ -204,6 +205,7 @@ fn studies_over_files_of_any_size() {
     }
     let met = studies.end(12_000, 12_000);
     met.more_than(1_000, "mode", 1..=3);
+    met.more_than(1_000, "edition", 1..=3);
     met.more_than(500, "another in its own mode", 2..=3);
     met.more_than(500, "settled", 0..=1);
     met.more_than(500, "more than four passes", 0..=1);

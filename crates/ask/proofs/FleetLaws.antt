@@ -40,7 +40,8 @@ member-in u e =
     let charge = and-parts _ _ (discharge .0) in
     let inverter = and-parts _ _ (charge .0) in
     let vars = and-parts _ _ (inverter .0) in
-    let idle = and-parts _ _ (vars .0) in
+    let grid = and-parts _ _ (vars .0) in
+    let idle = and-parts _ _ (grid .0) in
     let kva = and-parts _ _ (idle .0) in
     kva .0
 

@@ -14,7 +14,7 @@ pub fn step(v: &[u8]) {
         stored: octets::u64_at(v, 20),
         rating: octets::u32_at(v, 28),
         kva: octets::u32_at(v, 32),
-        idle_loss: octets::u32_at(v, 36),
+        dc_loss: octets::u32_at(v, 36),
         var_request: octets::i32_at(v, 40),
         weight: octets::u16_at(v, 44),
         inverter: octets::u16_at(v, 46),
@@ -23,6 +23,7 @@ pub fn step(v: &[u8]) {
         priority: octets::u8_at(v, 52),
         provide: octets::u32_at(v, 32),
         absorb: octets::u32_at(v, 32),
+        grid_loss: 0,
     };
     tell(storage::step(u, octets::u32_at(v, 0), octets::i32_at(v, 53)));
 }

@@ -18,7 +18,7 @@ pub fn pass_within(
     s: Settings,
     measure: i64,
     t: Totals,
-    units: &[[u64; 16]],
+    units: &[[u64; 17]],
     stored: &[u64],
     requests: &mut [i32],
 ) -> Passed
@@ -58,7 +58,7 @@ fn pass_with(
     stored: &[u64],
     rating: &[u32],
     weight: &[u16],
-    units: &mut [[u64; 16]],
+    units: &mut [[u64; 17]],
     requests: &mut [i32],
 ) -> Passed
     requires { ⌜ Sound s measure (fleetOf (now rated) (now reserve) (now stored) (now rating) (now weight)) (length (now requests)) ⌝ }
@@ -85,7 +85,7 @@ fn pass_over(
     ensures { λ r. ⌜ DonePass s measure (fleetOf (now (rated .entry)) (now (reserve .entry)) (now (stored .entry)) (now (rating .entry)) (now (weight .entry))) (now (requests .entry)) (now (requests .exit)) r ⌝ }
 {
     let n = requests.len();
-    let mut units = [[0u64; 16]; 64];
+    let mut units = [[0u64; 17]; 64];
     pass_with(
         s,
         measure,

@@ -5,7 +5,7 @@ ghost use Rattle.controller.specs.Posts.{SameLengths, MemberRow, fleetBy
 use unit::Unit;
 
 // The row of a unit of which a pass knows these values alone.
-fn member_row(rated: u64, reserve: u64, rating: u32, weight: u16) -> [u64; 16]
+fn member_row(rated: u64, reserve: u64, rating: u32, weight: u16) -> [u64; 17]
     ensures { λ r. ⌜ MemberRow rated reserve rating weight r ⌝ }
 {
     let u = Unit {
@@ -14,7 +14,7 @@ fn member_row(rated: u64, reserve: u64, rating: u32, weight: u16) -> [u64; 16]
         stored: 0,
         rating,
         kva: 0,
-        idle_loss: 0,
+        dc_loss: 0,
         var_request: 0,
         weight,
         inverter: 0,
@@ -23,6 +23,7 @@ fn member_row(rated: u64, reserve: u64, rating: u32, weight: u16) -> [u64; 16]
         priority: 0,
         provide: 0,
         absorb: 0,
+        grid_loss: 0,
     };
     unit::row(u, 0, 0)
 }
@@ -34,7 +35,7 @@ pub fn fill(
     stored: &[u64],
     rating: &[u32],
     weight: &[u16],
-    rows: &mut [[u64; 16]],
+    rows: &mut [[u64; 17]],
 )
     requires { ⌜ SameLengths (fleetOf (now rated) (now reserve) (now stored) (now rating) (now weight)) (length (now rows)) ⌝ }
     ensures { λ _. ⌜ fleetBy (now (rows .exit)) (now (stored .entry)) ≡ fleetOf (now (rated .entry)) (now (reserve .entry)) (now (stored .entry)) (now (rating .entry)) (now (weight .entry)) ⌝ }

@@ -33,7 +33,7 @@ fn next_request(
     factor: u16,
     need: i64,
     weights: u64,
-    units: &[[u64; 16]],
+    units: &[[u64; 17]],
     i: usize,
     held: u64,
     request: i32,
@@ -60,7 +60,7 @@ pub fn share_all(
     factor: u16,
     need: i64,
     weights: u64,
-    units: &[[u64; 16]],
+    units: &[[u64; 17]],
     stored: &[u64],
     requests: &mut [i32],
 ) -> bool

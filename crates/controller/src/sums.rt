@@ -23,7 +23,7 @@ pub fn energy(xs: &[u64]) -> u64
 }
 
 // The sums over a fleet that no step changes.
-pub fn summed(units: &[[u64; 16]]) -> Totals
+pub fn summed(units: &[[u64; 17]]) -> Totals
     requires { ⌜ Addable (columnBy (λ (u : Unit). u .rated) (now units)) ⌝ }
     requires { ⌜ Addable (columnBy (λ (u : Unit). u .reserve) (now units)) ⌝ }
     ensures { λ r. ⌜ TotalsOf (now (units .entry)) r ⌝ }

@@ -117,7 +117,7 @@ unit stored kva idle vars inverter charge discharge priority = record {
   stored = stored;
   rating = 1000;
   kva = kva;
-  «idle_loss» = idle;
+  «dc_loss» = idle;
   «var_request» = vars;
   weight = 1;
   inverter = inverter;
@@ -126,6 +126,7 @@ unit stored kva idle vars inverter charge discharge priority = record {
   priority = priority;
   provide = kva;
   absorb = kva;
+  «grid_loss» = 0;
 }
 
 -- with var limits of its own
@@ -136,7 +137,7 @@ limited u provide absorb = record {
   stored = u .stored;
   rating = u .rating;
   kva = u .kva;
-  «idle_loss» = u .«idle_loss»;
+  «dc_loss» = u .«dc_loss»;
   «var_request» = u .«var_request»;
   weight = u .weight;
   inverter = u .inverter;
@@ -145,4 +146,5 @@ limited u provide absorb = record {
   priority = u .priority;
   provide = provide;
   absorb = absorb;
+  «grid_loss» = u .«grid_loss»;
 }

@@ -14,8 +14,8 @@ use Rattle.unit.specs.declared.Unit.{Unit}
 use Rattle.unit.specs.Ranges.{idleDraw, memberIn, unitIn, holding, Ranged}
 use Rattle.unit.proofs.RangeLaws.{Bounds, bounds}
 use Rattle.storage.specs.declared.Outcome.{Outcome}
-use Rattle.storage.specs.Step.{stepOf, gridWatts, varsOf}
-use Rattle.storage.specs.Posts.{idleVars, restOf}
+use Rattle.storage.specs.Step.{stepOf, inverterWatts, varsOf}
+use Rattle.storage.specs.Posts.{idleVars, restDraw, restOf}
 use Rattle.storage.proofs.StepLaws.{idle-step}
 
 -- ---- a unit that holds something else
@@ -29,12 +29,12 @@ holding-in u s e h =
 pub holding-ranged : (u : Unit) (s seconds : ℕ) → Ranged u seconds → s ≤ u .rated → Ranged (holding u s) seconds
 holding-ranged u s seconds r h = record { unit = holding-in u s (r .unit) h; seconds-in = r .seconds-in }
 
-holding-draw : (u : Unit) (s : ℕ) → idleDraw (holding u s) ≡ idleDraw u
+holding-draw : (u : Unit) (s : ℕ) → restDraw (holding u s) ≡ restDraw u
 unfolding idleDraw
 holding-draw u s = refl
 
 holding-vars : (u : Unit) (s : ℕ) → idleVars (holding u s) ≡ idleVars u
-unfolding varsOf gridWatts idleDraw
+unfolding varsOf inverterWatts idleDraw
 holding-vars u s = refl
 
 -- ---- a step as the code has it: the unit that it read, with what it holds now
@@ -45,10 +45,10 @@ step-is u v s seconds r o f e d = d ∙ ap₂ (λ (w : Unit) (z : ℤ). stepOf (
 nothing-asked : (r : ℤ) → mag r < 2 ^ 31 → ofZ w32 r ≡ 0 → r ≡ pos 0
 nothing-asked r f e = sym (read w32 r f) ∙ ap (toZ w32) e
 
-pub rest-is : (u : Unit) (s seconds draw : ℕ) (vars r : ℤ) (o : Outcome) → draw ≡ idleDraw u → vars ≡ idleVars u → mag vars < 2 ^ 31 → mag r < 2 ^ 31 → ofZ w32 r ≡ 0
+pub rest-is : (u : Unit) (s seconds draw : ℕ) (vars r : ℤ) (o : Outcome) → draw ≡ restDraw u → vars ≡ idleVars u → mag vars < 2 ^ 31 → mag r < 2 ^ 31 → ofZ w32 r ≡ 0
     → o ≡ restOf draw (toZ w32 (ofZ w32 vars)) s seconds → o ≡ stepOf (holding u s) seconds r
 rest-is u s seconds draw vars r o ed ev g f z e =
-    let d : draw ≡ idleDraw (holding u s) = ed ∙ sym (holding-draw u s) in
+    let d : draw ≡ restDraw (holding u s) = ed ∙ sym (holding-draw u s) in
     let v : toZ w32 (ofZ w32 vars) ≡ idleVars (holding u s) = read w32 vars g ∙ ev ∙ sym (holding-vars u s) in
     e ∙ ap₂ (λ (n : ℕ) (y : ℤ). restOf n y s seconds) d v ∙ sym (idle-step (holding u s) seconds)
     ∙ ap (stepOf (holding u s) seconds) (sym (nothing-asked r f z))

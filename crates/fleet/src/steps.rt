@@ -13,7 +13,7 @@ use records::RECORD_BYTES;
 use site::Step;
 
 // The requests after a reading: one pass, and none if the reading is missing.
-fn ask(f: Frame, rows: &[[u64; 16]], r: Reading, stored: &[u64], requests: &mut [i32])
+fn ask(f: Frame, rows: &[[u64; 17]], r: Reading, stored: &[u64], requests: &mut [i32])
     requires { ⌜ Ready f (now rows) ⌝ }
     requires { ⌜ Held (siteIn f (now rows)) (now stored) (now requests) ⌝ }
     ensures { λ _. ⌜ now (requests .exit) ≡ askedBy (siteIn f (now (rows .entry))) (now (stored .entry)) (now (requests .entry)) r ⌝ }
@@ -33,7 +33,7 @@ fn ask(f: Frame, rows: &[[u64; 16]], r: Reading, stored: &[u64], requests: &mut 
 // One step of every unit, and their records from a place of the room on.
 fn give_all(
     f: Frame,
-    rows: &[[u64; 16]],
+    rows: &[[u64; 17]],
     step: u32,
     requests: &[i32],
     stored: &mut [u64],
@@ -61,7 +61,7 @@ fn give_all(
 // One step of a site: what stands afterwards, and the step's records from a place of the room on.
 pub fn step(
     f: Frame,
-    rows: &[[u64; 16]],
+    rows: &[[u64; 17]],
     k: u32,
     s: Step,
     stored: &mut [u64],

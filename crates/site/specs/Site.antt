@@ -26,7 +26,7 @@ noUnit = record {
   stored = 0;
   rating = 0;
   kva = 0;
-  «idle_loss» = 0;
+  «dc_loss» = 0;
   «var_request» = pos 0;
   weight = 0;
   inverter = 0;
@@ -35,6 +35,7 @@ noUnit = record {
   priority = 0;
   provide = 0;
   absorb = 0;
+  «grid_loss» = 0;
 }
 
 abbrev pub unitOf : Site → ℕ → Unit

@@ -22,7 +22,7 @@ fn write_steps(
     file: &[u8],
     count: u32,
     f: Frame,
-    rows: &[[u64; 16]],
+    rows: &[[u64; 17]],
     stored: &mut [u64],
     requests: &mut [i32],
     on: &mut [bool],
@@ -54,7 +54,7 @@ fn write_steps(
 fn write_with(
     file: &[u8],
     count: u32,
-    rows: &mut [[u64; 16]],
+    rows: &mut [[u64; 17]],
     stored: &mut [u64],
     requests: &mut [i32],
     on: &mut [bool],
@@ -77,7 +77,7 @@ pub fn write(file: &[u8], count: u32) -> bool
 {
     let n = stick::units(file);
     let m = stick::roofs(file);
-    let mut rows = [[0u64; 16]; 64];
+    let mut rows = [[0u64; 17]; 64];
     let mut stored = [0u64; 64];
     let mut requests = [0i32; 64];
     let mut on = [false; 64];

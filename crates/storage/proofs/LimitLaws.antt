@@ -85,11 +85,11 @@ pub takeable-within : (u : Unit) (s p : ℕ) → addedBy u s (takeable u s p) �
 unfolding takeable addedBy
 takeable-within u s p = go (eq-zero-or-pos (takeable u s p))
   where
-    nothing : (x : ℕ) → x ≡ 0 → x * u .inverter / 10000 - u .«idle_loss» ≡ 0
+    nothing : (x : ℕ) → x ≡ 0 → x * u .inverter / 10000 - u .«dc_loss» ≡ 0
     nothing x e = let m : x * u .inverter ≡ 0 = ap (λ (n : ℕ). n * u .inverter) e ∙ zero-mul (u .inverter) in omega arith
 
     go : (takeable u s p ≡ 0) ⊎ (0 < takeable u s p) → addedBy u s (takeable u s p) ≤ u .rated - u .stored
-    go (inl e) = let z : 0 ≡ addedBy u s (takeable u s p) = added-none (takeable u s p * u .inverter / 10000 - u .«idle_loss») s (u .charge) (nothing (takeable u s p) e) in omega arith
+    go (inl e) = let z : 0 ≡ addedBy u s (takeable u s p) = added-none (takeable u s p * u .inverter / 10000 - u .«dc_loss») s (u .charge) (nothing (takeable u s p) e) in omega arith
     go (inr h) = leb-true (addedBy u s (takeable u s p)) (u .rated - u .stored) (largest-passes (λ (x : ℕ). leb (addedBy u s x) (u .rated - u .stored)) p h)
 
 module _ (u : Unit) (s p : ℕ) (b : Bounds u s) where
@@ -97,28 +97,28 @@ module _ (u : Unit) (s p : ℕ) (b : Bounds u s) where
   some-inverter = omega arith
 
   pub deliverable-is : deliverable u s p
-      ≡ min p (((u .stored - u .reserve) * u .discharge / (s * 10000) - u .«idle_loss») * u .inverter / 10000)
+      ≡ min p (((u .stored - u .reserve) * u .discharge / (s * 10000) - u .«dc_loss») * u .inverter / 10000)
   unfolding deliverable
   deliverable-is =
       largest-upto (λ (x : ℕ). leb (removedBy u s x) (u .stored - u .reserve)) p
-      (((u .stored - u .reserve) * u .discharge / (s * 10000) - u .«idle_loss») * u .inverter / 10000)
-      (λ x h. removed-test x (u .inverter) (u .«idle_loss») s (u .discharge) (u .stored - u .reserve) (omega arith) (omega arith) (omega arith) h)
+      (((u .stored - u .reserve) * u .discharge / (s * 10000) - u .«dc_loss») * u .inverter / 10000)
+      (λ x h. removed-test x (u .inverter) (u .«dc_loss») s (u .discharge) (u .stored - u .reserve) (omega arith) (omega arith) (omega arith) h)
 
   pub takeable-is : takeable u s p
-      ≡ min p (((((u .rated - u .stored + 1) * 10000 - 1) / (s * u .charge) + u .«idle_loss» + 1) * 10000 - 1) / u .inverter)
+      ≡ min p (((((u .rated - u .stored + 1) * 10000 - 1) / (s * u .charge) + u .«dc_loss» + 1) * 10000 - 1) / u .inverter)
   unfolding takeable
   takeable-is =
       largest-upto (λ (x : ℕ). leb (addedBy u s x) (u .rated - u .stored)) p
-      (((((u .rated - u .stored + 1) * 10000 - 1) / (s * u .charge) + u .«idle_loss» + 1) * 10000 - 1) / u .inverter)
-      (λ x h. added-test x (u .inverter) (u .«idle_loss») s (u .charge) (u .rated - u .stored) some-inverter some)
+      (((((u .rated - u .stored + 1) * 10000 - 1) / (s * u .charge) + u .«dc_loss» + 1) * 10000 - 1) / u .inverter)
+      (λ x h. added-test x (u .inverter) (u .«dc_loss») s (u .charge) (u .rated - u .stored) some-inverter some)
     where
       some : 0 < s * u .charge
       some = let m : 1 * 1000 ≤ s * u .charge = mul-le-mul (b .seconds-least) (b .charge-least) in omega arith
 
   -- none where no more than the idle loss can be drawn
-  pub deliverable-none : (u .stored - u .reserve) * u .discharge / (s * 10000) ≤ u .«idle_loss» → 0 ≡ deliverable u s p
+  pub deliverable-none : (u .stored - u .reserve) * u .discharge / (s * 10000) ≤ u .«dc_loss» → 0 ≡ deliverable u s p
   deliverable-none h =
-      drawn-none p ((u .stored - u .reserve) * u .discharge / (s * 10000) - u .«idle_loss») (u .inverter) (omega arith) ∙ sym deliverable-is
+      drawn-none p ((u .stored - u .reserve) * u .discharge / (s * 10000) - u .«dc_loss») (u .inverter) (omega arith) ∙ sym deliverable-is
 
   -- nor where nothing lies above the reserve
   pub deliverable-empty : u .stored ≤ u .reserve → 0 ≡ deliverable u s p

@@ -15,13 +15,14 @@ use Rattle.whole.specs.Circle.{varsIn}
 use Rattle.whole.specs.Largest.{legOf}
 use Rattle.whole.specs.Signed.{negative, signed}
 use Rattle.unit.proofs.RangeLaws.{Bounds}
+use Rattle.storage.proofs.GridLaws.{lower}
 use Rattle.storage.proofs.StepLaws.{Able, removal-covers, addition-covered}
 use Rattle.unit.specs.declared.Unit.{Unit}
 use Rattle.storage.specs.declared.Flow.{Flow}
 use Rattle.storage.specs.declared.Flow.the-variants.{Out, In, Idle}
 use Rattle.unit.specs.Ranges.{idleDraw}
-use Rattle.storage.specs.Relied.{Conserved}
-use Rattle.storage.specs.Step.{limitedVars, heldSize, removedBy, addedBy, takeable, charged, flowOf, gridWatts, storedOf, lossOf, varsOf, outcomeOf}
+use Rattle.storage.specs.Relied.{Balanced, Conserved}
+use Rattle.storage.specs.Step.{limitedVars, heldSize, removedBy, addedBy, takeable, charged, flowOf, gridLoss, inverterWatts, gridWatts, storedOf, lossOf, varsOf, outcomeOf}
 
 -- ---- the vars leave the watts in the circle
 pub vars-in-circle : (u : Unit) (watts : ℤ) → natAbs watts ≤ u .kva
@@ -61,10 +62,9 @@ vars-absorbed u watts = side-absorbed (negative (u .«var_request»)) (natAbs (u
 draw-size : (d n : ℕ) → d ≤ n → natAbs (negℤ (pos d)) ≤ n
 draw-size d n h = le-trans (le-of-eq (size-neg (pos d))) h
 
-drawn : (seconds stored d : ℕ) (vars : ℤ) (after loss : ℕ) → after + loss ≡ stored + d * seconds
-    → Conserved seconds stored (record { watts = negℤ (pos d); vars = vars; stored = after; loss = loss })
-drawn seconds stored zero vars after loss e = omega arith
-drawn seconds stored (suc d) vars after loss e = e
+drawn : (seconds stored d after loss : ℕ) → after + loss ≡ stored + d * seconds → Balanced seconds stored (negℤ (pos d)) after loss
+drawn seconds stored zero after loss e = omega arith
+drawn seconds stored (suc d) after loss e = e
 
 -- ---- a flow of at most p, for which the store has enough above the reserve, or room
 module _ (u : Unit) (seconds p : ℕ) where
@@ -82,43 +82,48 @@ module _ (u : Unit) (seconds p : ℕ) where
     never-above (In x) a = omega arith
     never-above Idle a = omega arith
 
-    pub watts-le : p ≤ u .kva → (f : Flow) → Able u seconds p f → natAbs (gridWatts u f) ≤ u .kva
-    unfolding gridWatts
+    pub watts-le : p ≤ u .kva → (f : Flow) → Able u seconds p f → natAbs (inverterWatts u f) ≤ u .kva
+    unfolding inverterWatts
     watts-le h (Out x) a = le-trans (a .0) h
     watts-le h (In x) a = draw-size x (u .kva) (le-trans (a .0) h)
     watts-le h Idle a = draw-size (idleDraw u) (u .kva) (b .draw-most)
 
-    pub conserves : (f : Flow) → Able u seconds p f → Conserved seconds (u .stored) (outcomeOf u seconds f)
-    unfolding outcomeOf
-    conserves (Out x) a = let l : x * seconds ≤ removedBy u seconds x = removal-covers u seconds x b in omega arith
-    conserves (In x) a =
+    -- by the inverter's watts, and so by those at the grid
+    balances : (f : Flow) → Able u seconds p f → Balanced seconds (u .stored) (inverterWatts u f) (storedOf u seconds f) (lossOf u seconds f)
+    unfolding inverterWatts storedOf lossOf
+    balances (Out x) a = let l : x * seconds ≤ removedBy u seconds x = removal-covers u seconds x b in omega arith
+    balances (In x) a =
         let l : addedBy u seconds x ≤ x * seconds = addition-covered u seconds x b in
-        drawn seconds (u .stored) x (varsOf u (gridWatts u (In x))) (storedOf u seconds (In x)) (lossOf u seconds (In x)) (omega arith)
-    conserves Idle a = drawn seconds (u .stored) (idleDraw u) (varsOf u (gridWatts u Idle)) (u .stored) (lossOf u seconds Idle) refl
+        drawn seconds (u .stored) x (storedOf u seconds (In x)) (lossOf u seconds (In x)) (omega arith)
+    balances Idle a = drawn seconds (u .stored) (idleDraw u) (u .stored) (lossOf u seconds Idle) refl
 
-  pub no-more : (n : ℕ) → p ≤ n → (f : Flow) → Able u seconds p f → gridWatts u f ≤ℤ pos n
-  unfolding gridWatts
+    pub conserves : (f : Flow) → Able u seconds p f → Conserved seconds (u .stored) (outcomeOf u seconds f)
+    unfolding outcomeOf gridWatts
+    conserves f a = lower seconds (u .stored) (storedOf u seconds f) (lossOf u seconds f) (inverterWatts u f) (gridLoss u) (balances f a)
+
+  pub no-more : (n : ℕ) → p ≤ n → (f : Flow) → Able u seconds p f → inverterWatts u f ≤ℤ pos n
+  unfolding inverterWatts
   no-more n h (Out x) a = record { le = le→leb x n (le-trans (a .0) h) }
   no-more n h (In x) a = draw-below x n
   no-more n h Idle a = draw-below (idleDraw u) n
 
-  pub moves-no-more : (n : ℕ) → p ≤ n → (f : Flow) → Able u seconds p f → (natAbs (gridWatts u f) ≤ n) ⊎ (gridWatts u f ≡ negℤ (pos (idleDraw u)))
-  unfolding gridWatts
+  pub moves-no-more : (n : ℕ) → p ≤ n → (f : Flow) → Able u seconds p f → (natAbs (inverterWatts u f) ≤ n) ⊎ (inverterWatts u f ≡ negℤ (pos (idleDraw u)))
+  unfolding inverterWatts
   moves-no-more n h (Out x) a = inl (le-trans (a .0) h)
   moves-no-more n h (In x) a = inl (draw-size x n (le-trans (a .0) h))
   moves-no-more n h Idle a = inr refl
 
 -- what is asked of a charging unit flows in, or nothing flows
-pub charging-draws : (u : Unit) (seconds : ℕ) (request : ℤ) (x : ℕ) → request ≡ negsuc x → gridWatts u (flowOf u seconds request) ≤ℤ pos 0
-unfolding flowOf charged gridWatts
-charging-draws u seconds request x e = subst⁻¹ (λ (r : ℤ). gridWatts u (flowOf u seconds r) ≤ℤ pos 0) e asked
+pub charging-draws : (u : Unit) (seconds : ℕ) (request : ℤ) (x : ℕ) → request ≡ negsuc x → inverterWatts u (flowOf u seconds request) ≤ℤ pos 0
+unfolding flowOf charged inverterWatts
+charging-draws u seconds request x e = subst⁻¹ (λ (r : ℤ). inverterWatts u (flowOf u seconds r) ≤ℤ pos 0) e asked
   where
     P : ℕ
     P = heldSize u (negsuc x)
 
-    by-addition : (b : Bool) → gridWatts u (cond b Idle (In (takeable u seconds P))) ≤ℤ pos 0
+    by-addition : (b : Bool) → inverterWatts u (cond b Idle (In (takeable u seconds P))) ≤ℤ pos 0
     by-addition true = draw-below (idleDraw u) 0
     by-addition false = draw-below (takeable u seconds P) 0
 
-    asked : gridWatts u (flowOf u seconds (negsuc x)) ≤ℤ pos 0
+    asked : inverterWatts u (flowOf u seconds (negsuc x)) ≤ℤ pos 0
     asked = by-addition (eqb (addedBy u seconds (takeable u seconds P)) 0)

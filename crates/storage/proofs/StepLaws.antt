@@ -1,22 +1,23 @@
 -- What flows in a step and what a step gives, case by case as the code meets them; and that what flows can be carried. Assumes nothing.
-use mathlib.Core.Path.{_≡_, refl, sym, ap, _∙_, subst, subst⁻¹}
+use mathlib.Core.Path.{_≡_, refl, sym, ap, ap₂, _∙_, subst, subst⁻¹}
 use mathlib.Core.Bool.{Bool, true, false, not, cond, _&&_}
 use Prim.Native.Nat.{ℕ, zero, suc, _+_, _-_, _*_, _≤_, _<_, _^_}
-use native.Mathlib.Nat.{le-refl, mul-le-mul, lt-of-le-of-lt}
+use native.Mathlib.Nat.{le-refl, le-trans, le-of-eq, mul-le-mul, lt-of-le-of-lt, add-le-add, add-mul}
 use native.Mathlib.Omega.{arith}
 use lib.Dec.{ltb, eqb, lit<}
-use lib.IntN.{ℤ, pos, negℤ, natAbs}
+use lib.IntN.{ℤ, pos, negℤ, natAbs, _-ℤ_}
 use lib.Signed.{mag}
 use mir.Syntax.{w32}
 use mir.Val.{toZ, ofZ}
 use borrow.Author.Tests.{eq-eqb, ne-eqb, lt-ltb, le-ltb, ltb-false, le-leb, lt-leb, not-false}
 use Rattle.whole.proofs.Choice.{by-test}
 use Rattle.whole.proofs.OverLaws.{and-parts}
-use Rattle.whole.proofs.SignLaws.{read}
+use Rattle.whole.proofs.SignLaws.{read, size-neg}
 use Rattle.whole.specs.Largest.{largest}
 use Rattle.whole.specs.Signed.{negative}
 use Rattle.unit.proofs.RangeLaws.{Bounds, bounds}
 use Rattle.storage.proofs.EnergyLaws.{energy-fits, removed-covers, added-covered}
+use Rattle.storage.proofs.GridLaws.{draw-more}
 use Rattle.storage.proofs.LimitLaws.{held-read, held-most, deliverable-most, deliverable-within, takeable-most, takeable-within}
 use Rattle.unit.specs.declared.Unit.{Unit}
 use Rattle.storage.specs.declared.Flow.{Flow}
@@ -26,8 +27,8 @@ use Rattle.storage.specs.declared.Outcome.{Outcome}
 use Rattle.storage.specs.declared.Stepped.the-variants.{Done, RefusedBy}
 use Rattle.unit.specs.Ranges.{idleDraw, unitIn, secondsIn, editionIn, inEdition, Ranged}
 use Rattle.storage.specs.Ranges.{stepRefusal}
-use Rattle.storage.specs.Posts.{Carried, Moving, movedBy, moveBy, idleVars, restOf}
-use Rattle.storage.specs.Step.{removedBy, addedBy, deliverable, takeable, heldSize, outFlow, discharged, charged, flowOf, gridWatts, varsOf, storedOf, lossOf, outcomeOf, stepOf, steppedOf, steppedAs}
+use Rattle.storage.specs.Posts.{Carried, Moving, movedBy, moveBy, idleVars, restDraw, restOf}
+use Rattle.storage.specs.Step.{removedBy, addedBy, deliverable, takeable, heldSize, outFlow, discharged, charged, flowOf, gridLoss, inverterWatts, gridWatts, varsOf, storedOf, lossOf, outcomeOf, stepOf, steppedOf, steppedAs}
 
 -- ---- what flows, case by case
 module _ (u : Unit) (s p : ℕ) where
@@ -95,11 +96,11 @@ module _ (u : Unit) (s : ℕ) (request : ℤ) (n : ℕ) (h : mag request < 2 ^ 3
 module _ (u : Unit) (s x : ℕ) (b : Bounds u s) where
   pub removal-covers : x * s ≤ removedBy u s x
   unfolding removedBy
-  removal-covers = removed-covers x (u .inverter) (u .«idle_loss») s (u .discharge) (omega arith) (b .inverter-most) (omega arith) (b .discharge-most)
+  removal-covers = removed-covers x (u .inverter) (u .«dc_loss») s (u .discharge) (omega arith) (b .inverter-most) (omega arith) (b .discharge-most)
 
   pub addition-covered : addedBy u s x ≤ x * s
   unfolding addedBy
-  addition-covered = added-covered x (u .inverter) (u .«idle_loss») s (u .charge) (b .inverter-most) (b .charge-most)
+  addition-covered = added-covered x (u .inverter) (u .«dc_loss») s (u .charge) (b .inverter-most) (b .charge-most)
 
 -- ---- what flows is at most the held size p; what it removes lies above the reserve, and what it adds has room
 abbrev pub Able : Unit → ℕ → ℕ → Flow → Type 0
@@ -162,6 +163,30 @@ module _ (u : Unit) (s : ℕ) where
   unfolding movedBy
   in-moves x e n h = move-is (In x) e n h
 
+-- a flow that the unit can carry is small
+flow-small : (u : Unit) (s : ℕ) (f : Flow) (moved : ℕ) → Moving u s f moved → natAbs (inverterWatts u f) ≤ 100000000
+unfolding inverterWatts
+flow-small u s (Out x) moved m = let b = bounds (m .ranged) in let k = m .carried in omega arith
+flow-small u s (In x) moved m = let b = bounds (m .ranged) in let k = m .carried in le-trans (le-of-eq (size-neg (pos x))) (omega arith)
+flow-small u s Idle moved m = let b = bounds (m .ranged) in le-trans (le-of-eq (size-neg (pos (idleDraw u)))) (omega arith)
+
+-- and so is its loss, and the loss at the grid
+loss-small : (u : Unit) (s : ℕ) (f : Flow) (moved : ℕ) → Moving u s f moved → lossOf u s f ≤ 10000000000000
+unfolding lossOf
+loss-small u s (Out x) moved m = let b = bounds (m .ranged) in let k = m .carried in omega arith
+loss-small u s (In x) moved m =
+    let b = bounds (m .ranged) in
+    let k = m .carried in
+    let l : x * s ≤ 100000000 * 86400 = mul-le-mul (le-trans (k .0) (b .kva-most)) (b .seconds-most) in
+    omega arith
+loss-small u s Idle moved m =
+    let b = bounds (m .ranged) in
+    let l : idleDraw u * s ≤ 100000000 * 86400 = mul-le-mul (le-trans (b .draw-most) (b .kva-most)) (b .seconds-most) in
+    omega arith
+
+pub grid-fits : (u : Unit) (s : ℕ) → Ranged u s → gridLoss u * s < 2 ^ 64
+grid-fits u s r = lt-of-le-of-lt (mul-le-mul (bounds r .grid-most) (bounds r .seconds-most)) (lit< tt)
+
 -- the flow that the code has, of the request that is read back from its bits, and what it moves
 module _ (u : Unit) (s : ℕ) (request : ℤ) (h : mag request < 2 ^ 31) (m : Move) (e : m ≡ moveBy u s (flowOf u s (toZ w32 (ofZ w32 request)))) where
   flow-read : m ≡ moveBy u s (flowOf u s request)
@@ -173,13 +198,27 @@ module _ (u : Unit) (s : ℕ) (request : ℤ) (h : mag request < 2 ^ 31) (m : Mo
       subst⁻¹ (λ (n : Move). Moving u s (n .flow) (n .moved)) flow-read (record { ranged = r; carried = k; moved-is = refl })
 
   -- a step is the outcome of its flow, each number as the code has it
-  pub outcome-is : (watts vars : ℤ) → mag watts < 2 ^ 31 → mag vars < 2 ^ 31 → (stored loss : ℕ)
-      → watts ≡ gridWatts u (m .flow) → vars ≡ varsOf u (toZ w32 (ofZ w32 watts)) → stored ≡ storedOf u s (m .flow) → loss ≡ lossOf u s (m .flow)
-      → _≡_ {A = Outcome} (record { watts = toZ w32 (ofZ w32 watts); vars = toZ w32 (ofZ w32 vars); stored = stored; loss = loss }) (stepOf u s request)
-  unfolding stepOf outcomeOf
-  outcome-is watts vars hw hv stored loss ew ev es el =
+  pub outcome-is : (carried watts vars : ℤ) → mag carried < 2 ^ 31 → mag watts < 2 ^ 31 → mag vars < 2 ^ 31 → (stored loss : ℕ)
+      → carried ≡ inverterWatts u (m .flow) → watts ≡ toZ w32 (ofZ w32 carried) -ℤ pos (gridLoss u) → vars ≡ varsOf u (toZ w32 (ofZ w32 carried))
+      → stored ≡ storedOf u s (m .flow) → loss ≡ lossOf u s (m .flow)
+      → _≡_ {A = Outcome} (record { watts = toZ w32 (ofZ w32 watts); vars = toZ w32 (ofZ w32 vars); stored = stored; loss = loss + gridLoss u * s }) (stepOf u s request)
+  unfolding stepOf outcomeOf gridWatts
+  outcome-is carried watts vars hc hw hv stored loss ec ew ev es el =
       let r : m .flow ≡ flowOf u s request = ap (λ (n : Move). n .flow) flow-read in
+      let k : toZ w32 (ofZ w32 carried) ≡ inverterWatts u (flowOf u s request) = read w32 carried hc ∙ ec ∙ ap (inverterWatts u) r in
       cc (read w32 watts hw, read w32 vars hv)
+
+  -- the loss is at most what the store holds, or what is taken from the grid, and that at the grid comes to it
+  pub loss-fits : Ranged u s → (loss : ℕ) → loss ≡ lossOf u s (m .flow) → loss + gridLoss u * s < 2 ^ 64
+  loss-fits r loss e =
+      let l : gridLoss u * s ≤ 10000000 * 86400 = mul-le-mul (bounds r .grid-most) (bounds r .seconds-most) in
+      let k : loss ≤ 10000000000000 = subst⁻¹ (λ (n : ℕ). n ≤ 10000000000000) e (loss-small u s (m .flow) (m .moved) (moving r)) in
+      lt-of-le-of-lt (add-le-add k l) (lit< tt)
+
+  -- what the inverter carries is small
+  pub carried-small : Ranged u s → (carried : ℤ) → carried ≡ inverterWatts u (m .flow) → mag carried < 2 ^ 31 → natAbs (toZ w32 (ofZ w32 carried)) ≤ 100000000
+  carried-small r carried e h =
+      subst⁻¹ (λ (z : ℤ). natAbs z ≤ 100000000) (read w32 carried h ∙ e) (flow-small u s (m .flow) (m .moved) (moving r))
 
 -- ---- the numbers of a step by what its flow moves, for each kind of flow, and what keeps them in their types
 module _ {u : Unit} {s : ℕ} {flow : Flow} {moved : ℕ} (m : Moving u s flow moved) where
@@ -208,9 +247,9 @@ module _ {u : Unit} {s : ℕ} {flow : Flow} {moved : ℕ} (m : Moving u s flow m
     pub out-fits : x * s < 2 ^ 64
     out-fits = energy-fits x s out-small (bounds (m .ranged) .seconds-most)
 
-    pub out-watts : pos x ≡ gridWatts u flow
-    unfolding gridWatts
-    out-watts = sym (ap (gridWatts u) e)
+    pub out-watts : pos x ≡ inverterWatts u flow
+    unfolding inverterWatts
+    out-watts = sym (ap (inverterWatts u) e)
 
     pub out-stored : u .stored - moved ≡ storedOf u s flow
     unfolding storedOf
@@ -243,9 +282,9 @@ module _ {u : Unit} {s : ℕ} {flow : Flow} {moved : ℕ} (m : Moving u s flow m
     pub in-fits : x * s < 2 ^ 64
     in-fits = energy-fits x s in-small (bounds (m .ranged) .seconds-most)
 
-    pub in-watts : negℤ (pos x) ≡ gridWatts u flow
-    unfolding gridWatts
-    in-watts = sym (ap (gridWatts u) e)
+    pub in-watts : negℤ (pos x) ≡ inverterWatts u flow
+    unfolding inverterWatts
+    in-watts = sym (ap (inverterWatts u) e)
 
     pub in-stored : u .stored + moved ≡ storedOf u s flow
     unfolding storedOf
@@ -268,9 +307,9 @@ module _ {u : Unit} {s : ℕ} {flow : Flow} {moved : ℕ} (m : Moving u s flow m
     pub idle-fits : moved * s < 2 ^ 64
     idle-fits = energy-fits moved s idle-small (bounds (m .ranged) .seconds-most)
 
-    pub idle-watts : negℤ (pos moved) ≡ gridWatts u flow
-    unfolding gridWatts
-    idle-watts = ap (λ (n : ℕ). negℤ (pos n)) idle-moved ∙ sym (ap (gridWatts u) e)
+    pub idle-watts : negℤ (pos moved) ≡ inverterWatts u flow
+    unfolding inverterWatts
+    idle-watts = ap (λ (n : ℕ). negℤ (pos n)) idle-moved ∙ sym (ap (inverterWatts u) e)
 
     pub idle-stored : u .stored ≡ storedOf u s flow
     unfolding storedOf
@@ -288,11 +327,13 @@ module _ (u : Unit) (s : ℕ) where
       let m = held-most u (pos 0) .0 in
       sym (discharged-nothing u s (heldSize u (pos 0)) (omega arith) ∙ flow-out u s (pos 0) refl)
 
-  idle-outcome : outcomeOf u s Idle ≡ restOf (idleDraw u) (idleVars u) (u .stored) s
-  unfolding outcomeOf gridWatts storedOf lossOf
-  idle-outcome = refl
+  idle-outcome : outcomeOf u s Idle ≡ restOf (restDraw u) (idleVars u) (u .stored) s
+  unfolding outcomeOf inverterWatts gridWatts storedOf lossOf
+  idle-outcome =
+      ap₂ (λ (w : ℤ) (l : ℕ). record { watts = w; vars = idleVars u; stored = u .stored; loss = l }) (draw-more (idleDraw u) (gridLoss u))
+      (sym (add-mul (idleDraw u) (gridLoss u) s))
 
-  pub idle-step : stepOf u s (pos 0) ≡ restOf (idleDraw u) (idleVars u) (u .stored) s
+  pub idle-step : stepOf u s (pos 0) ≡ restOf (restDraw u) (idleVars u) (u .stored) s
   unfolding stepOf
   idle-step = ap (outcomeOf u s) idle-flows ∙ idle-outcome
 
@@ -302,12 +343,20 @@ idle-draw-small u h n e =
     let b : Bounds u 1 = bounds (record { unit = h; seconds-in = refl }) in
     omega (arith, e)
 
+pub rest-draw-small : (u : Unit) → unitIn u ≡ true → (n : ℕ) → n ≡ idleDraw u → n + gridLoss u ≤ 110000000
+rest-draw-small u h n e =
+    let b : Bounds u 1 = bounds (record { unit = h; seconds-in = refl }) in
+    omega (arith, e)
+
+pub resting-small : (u : Unit) → unitIn u ≡ true → (n : ℕ) → n ≡ restDraw u → n ≤ 110000000
+resting-small u h n e = subst⁻¹ (λ (k : ℕ). k ≤ 110000000) e (rest-draw-small u h (idleDraw u) refl)
+
 pub idle-vars-most : (u : Unit) → unitIn u ≡ true → natAbs (u .«var_request») ≤ 100000000
 idle-vars-most u h = let b : Bounds u 1 = bounds (record { unit = h; seconds-in = refl }) in b .vars-most
 
 pub idle-vars-are : (u : Unit) (n : ℕ) → n ≡ idleDraw u → (watts vars : ℤ) → mag watts < 2 ^ 31 → mag vars < 2 ^ 31 → watts ≡ negℤ (pos n)
     → vars ≡ varsOf u (toZ w32 (ofZ w32 watts)) → toZ w32 (ofZ w32 vars) ≡ idleVars u
-unfolding gridWatts
+unfolding inverterWatts
 idle-vars-are u n e watts vars hw hv ew ev =
     read w32 vars hv ∙ ev ∙ ap (varsOf u) (read w32 watts hw ∙ ew ∙ ap (λ (k : ℕ). negℤ (pos k)) e)
 
@@ -317,7 +366,7 @@ pub rest-is : (draw : ℕ) (vars : ℤ) (held s : ℕ) (watts : ℤ) → mag wat
 rest-is draw vars held s watts hw hv ew = cc (read w32 watts hw, read w32 vars hv)
 
 -- its loss fits 64 bits, whatever the step's length
-pub rest-fits : (draw s : ℕ) → draw ≤ 100000000 → s < 2 ^ 32 → draw * s < 2 ^ 64
+pub rest-fits : (draw s : ℕ) → draw ≤ 110000000 → s < 2 ^ 32 → draw * s < 2 ^ 64
 rest-fits draw s hd hs =
     let l : s ≤ 4294967295 = omega arith in
     lt-of-le-of-lt (mul-le-mul hd l) (lit< tt)

@@ -1,5 +1,5 @@
 -- Nobody has to believe this file: the parts of contracts by name, and what the code of a step may count on.
-use Prim.Native.Nat.{ℕ, _-_, _*_, _≤_, _<_}
+use Prim.Native.Nat.{ℕ, _+_, _-_, _*_, _≤_, _<_}
 use mathlib.Core.List.{List, []}
 use lib.ListN.{length, getD}
 use lib.IntN.{ℤ, pos, negℤ}
@@ -11,7 +11,7 @@ use Rattle.storage.specs.declared.Move.{Move}
 use Rattle.storage.specs.declared.Outcome.{Outcome}
 use Rattle.unit.specs.Ranges.{idleDraw, Ranged}
 use Rattle.unit.specs.Rows.{unitBy, drawBy, varsBy}
-use Rattle.storage.specs.Step.{removedBy, addedBy, gridWatts, varsOf}
+use Rattle.storage.specs.Step.{removedBy, addedBy, inverterWatts, varsOf}
 
 -- a flow that the unit can carry: at most S, and no more than the store holds above 0 or has room for
 abbrev pub Carried : Unit → ℕ → Flow → Type 0
@@ -37,7 +37,11 @@ pub record Moving (u : Unit) (seconds : ℕ) (flow : Flow) (moved : ℕ) : Type 
 
 -- the vars of a unit that idles
 abbrev pub idleVars : Unit → ℤ
-idleVars u = varsOf u (gridWatts u Idle)
+idleVars u = varsOf u (inverterWatts u Idle)
+
+-- and what it draws at the grid
+abbrev pub restDraw : Unit → ℕ
+restDraw u = idleDraw u + u .«grid_loss»
 
 -- what a step gives where the unit idles, by what it draws and its vars then
 abbrev pub restOf : ℕ → ℤ → ℕ → ℕ → Outcome
@@ -46,9 +50,9 @@ restOf draw vars held seconds = record { watts = negℤ (pos draw); vars = vars;
 -- ---- rows of units, with what each draws while it idles and its vars then
 pub record RowOf (u : Unit) (row : List ℕ) : Type 0 where
   pub unit-is : unitBy row ≡ u
-  pub draw-is : drawBy row ≡ idleDraw u
+  pub draw-is : drawBy row ≡ restDraw u
   pub vars-is : varsBy row ≡ idleVars u
 
 pub record Rested (rows : List (List ℕ)) : Type 0 where
-  pub draws : (i : ℕ) → i < length rows → drawBy (getD rows i []) ≡ idleDraw (unitBy (getD rows i []))
+  pub draws : (i : ℕ) → i < length rows → drawBy (getD rows i []) ≡ restDraw (unitBy (getD rows i []))
   pub still : (i : ℕ) → i < length rows → varsBy (getD rows i []) ≡ idleVars (unitBy (getD rows i []))

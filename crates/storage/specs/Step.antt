@@ -2,7 +2,7 @@
 use Prim.Native.Nat.{ℕ, zero, suc, _+_, _-_, _*_, _/_, min}
 use mathlib.Core.Bool.{cond}
 use lib.Dec.{leb, ltb, eqb}
-use lib.IntN.{ℤ, pos, negℤ, natAbs}
+use lib.IntN.{ℤ, pos, negℤ, natAbs, _-ℤ_}
 use Rattle.whole.specs.Circle.{wattsIn, varsIn}
 use Rattle.whole.specs.Largest.{largest}
 use Rattle.whole.specs.Quotient.{ceil}
@@ -16,10 +16,13 @@ use Rattle.storage.specs.declared.Stepped.the-variants.{Done, RefusedBy}
 use Rattle.unit.specs.Ranges.{idleDraw, editionIn, inEdition}
 use Rattle.storage.specs.Ranges.{stepRefusal}
 
--- U2: the loss that sits on the DC side is the idle loss; what limits a unit's vars is its limit for absorbing where it is asked to absorb, else that for
+-- U2: the loss that sits on the DC side, and that at the grid; what limits a unit's vars is its limit for absorbing where it is asked to absorb, else that for
 -- providing
 abbrev pub directLoss : Unit → ℕ
-directLoss u = u .«idle_loss»
+directLoss u = u .«dc_loss»
+
+abbrev pub gridLoss : Unit → ℕ
+gridLoss u = u .«grid_loss»
 
 abbrev pub varLimit : Unit → ℕ
 varLimit u = cond (negative (u .«var_request»)) (u .absorb) (u .provide)
@@ -70,12 +73,17 @@ unfoldable pub flowOf : Unit → ℕ → ℤ → Flow
 unfolding heldSize discharged charged
 flowOf u seconds request = let p = heldSize u request in cond (negative request) (charged u seconds p) (discharged u seconds p)
 
--- U9: the watts at the grid; an idle unit draws its idle draw
-unfoldable pub gridWatts : Unit → Flow → ℤ
+-- U9: the inverter's watts; that of an idle unit draws the idle draw
+unfoldable pub inverterWatts : Unit → Flow → ℤ
 unfolding idleDraw
-gridWatts u (Out x) = pos x
-gridWatts u (In x) = negℤ (pos x)
-gridWatts u Idle = negℤ (pos (idleDraw u))
+inverterWatts u (Out x) = pos x
+inverterWatts u (In x) = negℤ (pos x)
+inverterWatts u Idle = negℤ (pos (idleDraw u))
+
+-- and at the grid, less the loss there
+unfoldable pub gridWatts : Unit → Flow → ℤ
+unfolding inverterWatts
+gridWatts u flow = inverterWatts u flow -ℤ pos (gridLoss u)
 
 -- U10: the store after the step
 unfoldable pub storedOf : Unit → ℕ → Flow → ℕ
@@ -84,7 +92,7 @@ storedOf u seconds (Out x) = u .stored - removedBy u seconds x
 storedOf u seconds (In x) = u .stored + addedBy u seconds x
 storedOf u seconds Idle = u .stored
 
--- U11: the loss
+-- U11: the loss, but for that at the grid
 unfoldable pub lossOf : Unit → ℕ → Flow → ℕ
 unfolding removedBy addedBy idleDraw
 lossOf u seconds (Out x) = removedBy u seconds x - x * seconds
@@ -98,10 +106,13 @@ varsOf u watts = varsIn (u .kva) (negative (u .«var_request»)) (limitedVars u)
 
 -- what a step gives, by what flows
 unfoldable pub outcomeOf : Unit → ℕ → Flow → Outcome
-unfolding gridWatts storedOf lossOf varsOf
-outcomeOf u seconds flow =
-    let watts = gridWatts u flow in
-    record { watts = watts; vars = varsOf u watts; stored = storedOf u seconds flow; loss = lossOf u seconds flow }
+unfolding inverterWatts gridWatts storedOf lossOf varsOf
+outcomeOf u seconds flow = record {
+  watts = gridWatts u flow;
+  vars = varsOf u (inverterWatts u flow);
+  stored = storedOf u seconds flow;
+  loss = lossOf u seconds flow + gridLoss u * seconds;
+}
 
 -- one step
 unfoldable pub stepOf : Unit → ℕ → ℤ → Outcome

@@ -12,7 +12,7 @@ pub fn removed(u: Unit, seconds: u32, p: u64) -> u64
 {
     let d = whole::ceil(p * 10000, u.inverter as u64);
     whole::ceil(
-        (d + (u.idle_loss as u64)) * (seconds as u64) * 10000,
+        (d + (u.dc_loss as u64)) * (seconds as u64) * 10000,
         u.discharge as u64,
     )
 }
@@ -24,7 +24,7 @@ pub fn added(u: Unit, seconds: u32, p: u64) -> u64
     ensures { λ r. ⌜ r ≡ addedBy u seconds p ⌝ }
 {
     let d = p * (u.inverter as u64) / 10000;
-    let idle = u.idle_loss as u64;
+    let idle = u.dc_loss as u64;
     if d <= idle {
         return 0;
     }
@@ -43,7 +43,7 @@ pub fn deliver(u: Unit, seconds: u32, p: u64) -> u64
     }
     let available = u.stored - u.reserve;
     let drawn = available * (u.discharge as u64) / ((seconds as u64) * 10000);
-    let idle = u.idle_loss as u64;
+    let idle = u.dc_loss as u64;
     if drawn < idle {
         return 0;
     }
@@ -58,6 +58,6 @@ pub fn take_in(u: Unit, seconds: u32, p: u64) -> u64
 {
     let room = u.rated - u.stored;
     let kept = ((room + 1) * 10000 - 1) / ((seconds as u64) * (u.charge as u64));
-    let d = kept + (u.idle_loss as u64);
+    let d = kept + (u.dc_loss as u64);
     whole::least64(p, ((d + 1) * 10000 - 1) / (u.inverter as u64))
 }

@@ -1,7 +1,8 @@
 ghost use mathlib.Core.Path.{_≡_};
 ghost use Prim.Native.Nat.{_≤_};
+ghost use lib.IntN.{pos, natAbs, _-ℤ_};
 ghost use Rattle.storage.specs.declared.Flow.the-variants.{Idle};
-ghost use Rattle.storage.specs.Step.{discharged, charged, flowOf, gridWatts, storedOf, lossOf};
+ghost use Rattle.storage.specs.Step.{discharged, charged, flowOf, inverterWatts, storedOf, lossOf};
 ghost use Rattle.unit.specs.Ranges.{Ranged};
 ghost use Rattle.storage.specs.Posts.{Moving, moveBy};
 use super::Flow;
@@ -109,10 +110,10 @@ pub fn flow(u: Unit, seconds: u32, request: i32) -> Move
     discharge(u, seconds, p)
 }
 
-// The watts at the grid.
+// The inverter's watts.
 pub fn watts(u: Unit, seconds: u32, flow: Flow, moved: u64) -> i32
     requires { ⌜ Moving u seconds flow moved ⌝ }
-    ensures { λ r. ⌜ r ≡ gridWatts u flow ⌝ }
+    ensures { λ r. ⌜ r ≡ inverterWatts u flow ⌝ }
 {
     match flow {
         Flow::Out(x) => whole::signed32(false, x as u32),
@@ -143,4 +144,14 @@ pub fn loss(u: Unit, seconds: u32, flow: Flow, moved: u64) -> u64
         Flow::In(x) => x * (seconds as u64) - moved,
         Flow::Idle => moved * (seconds as u64),
     }
+}
+
+// The watts at the grid: the inverter's, less the loss there.
+pub fn at_grid(u: Unit, carried: i32) -> i32
+    requires { ⌜ natAbs carried ≤ 100000000 ⌝ }
+    requires { ⌜ u .«grid_loss» ≤ 10000000 ⌝ }
+    ensures { λ r. ⌜ r ≡ carried -ℤ pos (u .«grid_loss») ⌝ }
+{
+    let lost = whole::signed32(false, u.grid_loss);
+    carried - lost
 }

@@ -6,10 +6,10 @@ use super::steps;
 use unit::Unit;
 
 // The row of a unit in its ranges, with what it draws while it idles and its vars then.
-pub fn row_of(u: Unit) -> [u64; 16]
+pub fn row_of(u: Unit) -> [u64; 17]
     requires { ⌜ unitIn u ≡ true ⌝ }
     ensures { λ r. ⌜ RowOf u r ⌝ }
 {
-    let draw = unit::idle_draw(u) as u32;
+    let draw = (unit::idle_draw(u) as u32) + u.grid_loss;
     unit::row(u, draw, steps::idle_vars(u))
 }

@@ -18,12 +18,13 @@ pub fn step_within(u: Unit, seconds: u32, request: i32) -> Outcome
     let m = flows::flow(u, seconds, request);
     let flow = m.flow;
     let moved = m.moved;
-    let watts = flows::watts(u, seconds, flow, moved);
+    let carried = flows::watts(u, seconds, flow, moved);
+    let lost = (u.grid_loss as u64) * (seconds as u64);
     Outcome {
-        watts,
-        vars: limits::vars(u, watts),
+        watts: flows::at_grid(u, carried),
+        vars: limits::vars(u, carried),
         stored: flows::stored(u, seconds, flow, moved),
-        loss: flows::loss(u, seconds, flow, moved),
+        loss: flows::loss(u, seconds, flow, moved) + lost,
     }
 }
 
@@ -38,7 +39,7 @@ pub fn idle_vars(u: Unit) -> i32
 // One step of a unit that is asked nothing, by what it draws while it idles, its vars then, and what
 // it holds.
 pub fn rest(draw: u32, vars: i32, held: u64, seconds: u32) -> Outcome
-    requires { ⌜ draw ≤ 100000000 ⌝ }
+    requires { ⌜ draw ≤ 110000000 ⌝ }
     ensures { λ r. ⌜ r ≡ restOf draw vars held seconds ⌝ }
 {
     Outcome {

@@ -18,7 +18,8 @@ pub record Bounds (u : Unit) (seconds : ℕ) : Type 0 where
   pub rating-most : u .rating ≤ 100000000
   pub kva-least : 1 ≤ u .kva
   pub kva-most : u .kva ≤ 100000000
-  pub idle-most : u .«idle_loss» ≤ 10000000
+  pub idle-most : u .«dc_loss» ≤ 10000000
+  pub grid-most : u .«grid_loss» ≤ 10000000
   pub vars-most : natAbs (u .«var_request») ≤ 100000000
   pub weight-most : u .weight ≤ 10000
   pub inverter-least : 1000 ≤ u .inverter
@@ -50,7 +51,8 @@ bounds {u} {seconds} r =
     let charge = and-parts _ _ (discharge .0) in
     let inverter = and-parts _ _ (charge .0) in
     let vars = and-parts _ _ (inverter .0) in
-    let idle = and-parts _ _ (vars .0) in
+    let grid = and-parts _ _ (vars .0) in
+    let idle = and-parts _ _ (grid .0) in
     let kva = and-parts _ _ (idle .0) in
     let weight = and-parts _ _ (kva .0) in
     let rating = and-parts _ _ (weight .0) in
@@ -73,6 +75,7 @@ bounds {u} {seconds} r =
       kva-least = kva-in .0;
       kva-most = kva-in .1;
       idle-most = leb-true _ _ (idle .1);
+      grid-most = leb-true _ _ (grid .1);
       vars-most = leb-true _ _ (vars .1);
       weight-most = weight-in .1;
       inverter-least = inverter-in .0;

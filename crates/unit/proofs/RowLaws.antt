@@ -37,7 +37,7 @@ unit-back u draw vars e =
     cc (
       cut-back (u .rating) 100000000 4294967296 (b .rating-most) (lit< tt),
       cut-back (u .kva) 100000000 4294967296 (b .kva-most) (lit< tt),
-      cut-back (u .«idle_loss») 10000000 4294967296 (b .idle-most) (lit< tt),
+      cut-back (u .«dc_loss») 10000000 4294967296 (b .idle-most) (lit< tt),
       asked,
       cut-back (u .weight) 10000 65536 (b .weight-most) (lit< tt),
       cut-back (u .inverter) 10000 65536 (b .inverter-most) (lit< tt),
@@ -46,6 +46,7 @@ unit-back u draw vars e =
       cut-back (u .priority) 1 256 (b .priority-most) (lit< tt),
       cut-back (u .provide) 100000000 4294967296 (le-trans (b .provide-most) (b .kva-most)) (lit< tt),
       cut-back (u .absorb) 100000000 4294967296 (le-trans (b .absorb-most) (b .kva-most)) (lit< tt),
+      cut-back (u .«grid_loss») 10000000 4294967296 (b .grid-most) (lit< tt),
     ) in
     same
 

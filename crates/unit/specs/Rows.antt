@@ -1,4 +1,4 @@
--- Nobody has to believe this file: it is how the code carries units. A row has a unit's fourteen values in the file's order, then what the unit draws
+-- Nobody has to believe this file: it is how the code carries units. A row has a unit's fifteen values in the file's order, then what the unit draws
 -- while it idles and its vars then; a signed number stands by its 32 bits.
 use Prim.Native.Nat.{ℕ, _%_}
 use mathlib.Core.List.{List, [], _∷_, map}
@@ -10,8 +10,9 @@ use Rattle.unit.specs.declared.Unit.{Unit}
 
 unfoldable pub rowOf : Unit → ℕ → ℤ → List ℕ
 rowOf u draw vars =
-    u .rated ∷ u .reserve ∷ u .stored ∷ u .rating ∷ u .kva ∷ u .«idle_loss» ∷ ofZ w32 (u .«var_request») ∷ u .weight
-    ∷ u .inverter ∷ u .charge ∷ u .discharge ∷ u .priority ∷ u .provide ∷ u .absorb ∷ draw ∷ ofZ w32 vars ∷ []
+    u .rated ∷ u .reserve ∷ u .stored ∷ u .rating ∷ u .kva ∷ u .«dc_loss» ∷ ofZ w32 (u .«var_request») ∷ u .weight
+    ∷ u .inverter ∷ u .charge ∷ u .discharge ∷ u .priority ∷ u .provide ∷ u .absorb ∷ u .«grid_loss»
+    ∷ draw ∷ ofZ w32 vars ∷ []
 
 -- the unit of a row, whatever the row holds, with its var request
 abbrev pub unitWith : List ℕ → ℤ → Unit
@@ -21,7 +22,7 @@ unitWith row vars = record {
   stored = getD row 2 0;
   rating = getD row 3 0 % 4294967296;
   kva = getD row 4 0 % 4294967296;
-  «idle_loss» = getD row 5 0 % 4294967296;
+  «dc_loss» = getD row 5 0 % 4294967296;
   «var_request» = vars;
   weight = getD row 7 0 % 65536;
   inverter = getD row 8 0 % 65536;
@@ -30,16 +31,17 @@ unitWith row vars = record {
   priority = getD row 11 0 % 256;
   provide = getD row 12 0 % 4294967296;
   absorb = getD row 13 0 % 4294967296;
+  «grid_loss» = getD row 14 0 % 4294967296;
 }
 
 unfoldable pub unitBy : List ℕ → Unit
 unitBy row = unitWith row (toZ w32 (getD row 6 0 % 4294967296))
 
 unfoldable pub drawBy : List ℕ → ℕ
-drawBy row = getD row 14 0 % 4294967296
+drawBy row = getD row 15 0 % 4294967296
 
 unfoldable pub varsBy : List ℕ → ℤ
-varsBy row = toZ w32 (getD row 15 0 % 4294967296)
+varsBy row = toZ w32 (getD row 16 0 % 4294967296)
 
 -- the units of rows
 unfoldable pub unitsBy : List (List ℕ) → List Unit

@@ -3,8 +3,11 @@
 mod ranges;
 mod rows;
 
+pub use ranges::direct_in;
 pub use ranges::edition_in;
+pub use ranges::grid_in;
 pub use ranges::idle_draw;
+pub use ranges::idle_loss;
 pub use ranges::in_edition;
 pub use ranges::limit_in;
 pub use ranges::member_in;
@@ -22,14 +25,14 @@ pub use rows::vars_of;
 pub use rows::weight_of;
 
 // A unit's values, in the order of the file. Priority 0 is watts, 1 vars; `provide` and `absorb` are
-// the most vars either way.
+// the most vars either way. The idle loss sits on the DC side, or at the grid.
 pub struct Unit {
     pub rated: u64,
     pub reserve: u64,
     pub stored: u64,
     pub rating: u32,
     pub kva: u32,
-    pub idle_loss: u32,
+    pub dc_loss: u32,
     pub var_request: i32,
     pub weight: u16,
     pub inverter: u16,
@@ -38,4 +41,5 @@ pub struct Unit {
     pub priority: u8,
     pub provide: u32,
     pub absorb: u32,
+    pub grid_loss: u32,
 }

@@ -1,12 +1,12 @@
 ghost use mathlib.Core.Path.{_≡_};
-ghost use Rattle.unit.specs.Ranges.{idleDraw, memberIn, unitIn, secondsIn, editionIn, limitIn, inEdition};
+ghost use Rattle.unit.specs.Ranges.{idleDraw, memberIn, unitIn, secondsIn, editionIn, limitIn, directIn, gridIn, inEdition, idleLoss};
 use super::Unit;
 
-// The watts that an idle unit draws from the grid.
+// The watts that the inverter of an idle unit draws.
 pub fn idle_draw(u: Unit) -> u64
     ensures { λ r. ⌜ r ≡ idleDraw u ⌝ }
 {
-    whole::ceil((u.idle_loss as u64) * 10000, u.inverter as u64)
+    whole::ceil((u.dc_loss as u64) * 10000, u.inverter as u64)
 }
 
 // The five values that a pass looks at are in their ranges.
@@ -29,7 +29,8 @@ pub fn unit_in(u: Unit) -> bool
     let draw = idle_draw(u);
     member
         & ((1 <= u.kva) & (u.kva <= 100000000))
-        & (u.idle_loss <= 10000000)
+        & (u.dc_loss <= 10000000)
+        & (u.grid_loss <= 10000000)
         & (vars <= 100000000)
         & ((1000 <= u.inverter) & (u.inverter <= 10000))
         & ((1000 <= u.charge) & (u.charge <= 10000))
@@ -44,7 +45,7 @@ pub fn unit_in(u: Unit) -> bool
 pub fn edition_in(edition: u8) -> bool
     ensures { λ r. ⌜ r ≡ editionIn edition ⌝ }
 {
-    (1 <= edition) & (edition <= 2)
+    (1 <= edition) & (edition <= 3)
 }
 
 // A var limit of a unit: its own from edition 2 on, S before.
@@ -52,6 +53,31 @@ pub fn limit_in(edition: u8, kva: u32, own: u32) -> u32
     ensures { λ r. ⌜ r ≡ limitIn edition kva own ⌝ }
 {
     if 2 <= edition { own } else { kva }
+}
+
+// The loss on the DC side of a unit with an idle loss: none in edition 3.
+pub fn direct_in(edition: u8, loss: u32) -> u32
+    ensures { λ r. ⌜ r ≡ directIn edition loss ⌝ }
+{
+    if 3 <= edition { 0 } else { loss }
+}
+
+// Its loss at the grid: all of it in edition 3.
+pub fn grid_in(edition: u8, loss: u32) -> u32
+    ensures { λ r. ⌜ r ≡ gridIn edition loss ⌝ }
+{
+    if 3 <= edition { loss } else { 0 }
+}
+
+// The idle loss, wherever it sits.
+pub fn idle_loss(u: Unit) -> u32
+    ensures { λ r. ⌜ r ≡ idleLoss u ⌝ }
+{
+    if u.grid_loss == 0 {
+        u.dc_loss
+    } else {
+        u.grid_loss
+    }
 }
 
 // The unit as its edition has it.
@@ -64,7 +90,7 @@ pub fn in_edition(edition: u8, u: Unit) -> Unit
         stored: u.stored,
         rating: u.rating,
         kva: u.kva,
-        idle_loss: u.idle_loss,
+        dc_loss: direct_in(edition, u.dc_loss),
         var_request: u.var_request,
         weight: u.weight,
         inverter: u.inverter,
@@ -73,6 +99,7 @@ pub fn in_edition(edition: u8, u: Unit) -> Unit
         priority: u.priority,
         provide: limit_in(edition, u.kva, u.provide),
         absorb: limit_in(edition, u.kva, u.absorb),
+        grid_loss: grid_in(edition, u.dc_loss),
     }
 }
 

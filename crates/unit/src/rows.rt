@@ -6,7 +6,7 @@ ghost use Rattle.unit.specs.Rows.{rowOf, unitBy, drawBy, varsBy, storesB
 use super::Unit;
 
 // The row of a unit, with what it draws while it idles and its vars then.
-pub fn row(u: Unit, draw: u32, vars: i32) -> [u64; 16]
+pub fn row(u: Unit, draw: u32, vars: i32) -> [u64; 17]
     ensures { λ r. ⌜ r ≡ rowOf u draw vars ⌝ }
 {
     let asked = octets::pattern_of(u.var_request);
@@ -17,7 +17,7 @@ pub fn row(u: Unit, draw: u32, vars: i32) -> [u64; 16]
         u.stored,
         u.rating as u64,
         u.kva as u64,
-        u.idle_loss as u64,
+        u.dc_loss as u64,
         asked as u64,
         u.weight as u64,
         u.inverter as u64,
@@ -26,13 +26,14 @@ pub fn row(u: Unit, draw: u32, vars: i32) -> [u64; 16]
         u.priority as u64,
         u.provide as u64,
         u.absorb as u64,
+        u.grid_loss as u64,
         draw as u64,
         still as u64,
     ]
 }
 
 // The unit of row i.
-pub fn unit_of(units: &[[u64; 16]], i: usize) -> Unit
+pub fn unit_of(units: &[[u64; 17]], i: usize) -> Unit
     requires { ⌜ i < length (now units) ⌝ }
     ensures { λ r. ⌜ r ≡ unitBy (getD (now (units .entry)) i []) ⌝ }
 {
@@ -42,7 +43,7 @@ pub fn unit_of(units: &[[u64; 16]], i: usize) -> Unit
         stored: units[i][2],
         rating: (units[i][3] % 4294967296) as u32,
         kva: (units[i][4] % 4294967296) as u32,
-        idle_loss: (units[i][5] % 4294967296) as u32,
+        dc_loss: (units[i][5] % 4294967296) as u32,
         var_request: octets::signed_of((units[i][6] % 4294967296) as u32),
         weight: (units[i][7] % 65536) as u16,
         inverter: (units[i][8] % 65536) as u16,
@@ -51,39 +52,40 @@ pub fn unit_of(units: &[[u64; 16]], i: usize) -> Unit
         priority: (units[i][11] % 256) as u8,
         provide: (units[i][12] % 4294967296) as u32,
         absorb: (units[i][13] % 4294967296) as u32,
+        grid_loss: (units[i][14] % 4294967296) as u32,
     }
 }
 
 // Single values of the unit of row i.
-pub fn rated_of(units: &[[u64; 16]], i: usize) -> u64
+pub fn rated_of(units: &[[u64; 17]], i: usize) -> u64
     requires { ⌜ i < length (now units) ⌝ }
     ensures { λ r. ⌜ r ≡ unitBy (getD (now (units .entry)) i []) .rated ⌝ }
 {
     units[i][0]
 }
 
-pub fn reserve_of(units: &[[u64; 16]], i: usize) -> u64
+pub fn reserve_of(units: &[[u64; 17]], i: usize) -> u64
     requires { ⌜ i < length (now units) ⌝ }
     ensures { λ r. ⌜ r ≡ unitBy (getD (now (units .entry)) i []) .reserve ⌝ }
 {
     units[i][1]
 }
 
-pub fn stored_of(units: &[[u64; 16]], i: usize) -> u64
+pub fn stored_of(units: &[[u64; 17]], i: usize) -> u64
     requires { ⌜ i < length (now units) ⌝ }
     ensures { λ r. ⌜ r ≡ unitBy (getD (now (units .entry)) i []) .stored ⌝ }
 {
     units[i][2]
 }
 
-pub fn rating_of(units: &[[u64; 16]], i: usize) -> u32
+pub fn rating_of(units: &[[u64; 17]], i: usize) -> u32
     requires { ⌜ i < length (now units) ⌝ }
     ensures { λ r. ⌜ r ≡ unitBy (getD (now (units .entry)) i []) .rating ⌝ }
 {
     (units[i][3] % 4294967296) as u32
 }
 
-pub fn weight_of(units: &[[u64; 16]], i: usize) -> u16
+pub fn weight_of(units: &[[u64; 17]], i: usize) -> u16
     requires { ⌜ i < length (now units) ⌝ }
     ensures { λ r. ⌜ r ≡ unitBy (getD (now (units .entry)) i []) .weight ⌝ }
 {
@@ -91,23 +93,23 @@ pub fn weight_of(units: &[[u64; 16]], i: usize) -> u16
 }
 
 // What the unit of row i draws while it idles.
-pub fn draw_of(units: &[[u64; 16]], i: usize) -> u32
+pub fn draw_of(units: &[[u64; 17]], i: usize) -> u32
     requires { ⌜ i < length (now units) ⌝ }
     ensures { λ r. ⌜ r ≡ drawBy (getD (now (units .entry)) i []) ⌝ }
 {
-    (units[i][14] % 4294967296) as u32
+    (units[i][15] % 4294967296) as u32
 }
 
 // Its vars then.
-pub fn vars_of(units: &[[u64; 16]], i: usize) -> i32
+pub fn vars_of(units: &[[u64; 17]], i: usize) -> i32
     requires { ⌜ i < length (now units) ⌝ }
     ensures { λ r. ⌜ r ≡ varsBy (getD (now (units .entry)) i []) ⌝ }
 {
-    octets::signed_of((units[i][15] % 4294967296) as u32)
+    octets::signed_of((units[i][16] % 4294967296) as u32)
 }
 
 // Fills a list with what the units of rows hold.
-pub fn stores(units: &[[u64; 16]], stored: &mut [u64])
+pub fn stores(units: &[[u64; 17]], stored: &mut [u64])
     requires { ⌜ length (now stored) ≡ length (now units) ⌝ }
     ensures { λ _. ⌜ now (stored .exit) ≡ storesBy (now (units .entry)) ⌝ }
 {

@@ -79,7 +79,7 @@ unitOf rated reserve stored rating kva idle var weight inverter charge discharge
   stored = stored;
   rating = rating;
   kva = kva;
-  «idle_loss» = idle;
+  «dc_loss» = idle;
   «var_request» = var;
   weight = weight;
   inverter = inverter;
@@ -88,6 +88,7 @@ unitOf rated reserve stored rating kva idle var weight inverter charge discharge
   priority = priority;
   provide = provide;
   absorb = absorb;
+  «grid_loss» = 0;
 }
 
 pub record StepSeen (a : Stepped) (number : ℕ) (watts watts′ vars vars′ : ℤ) (stored stored′ loss loss′ : ℕ) : Type 0 where

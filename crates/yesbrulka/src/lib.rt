@@ -6,6 +6,7 @@ ghost use lib.ListN.{length};
 ghost use Rattle.whole.specs.Call.{numberOf, heldAfter};
 ghost use Rattle.reading.specs.Conversion.{wattsOf, wattsCall};
 ghost use Rattle.unit.specs.declared.Unit.{Unit};
+ghost use Rattle.unit.specs.Ranges.{idleLoss};
 ghost use Rattle.controller.specs.Answers.{passAnswer, passLeaves};
 ghost use Rattle.settling.specs.Answers.{studyAnswer, studyLeaves, studyCall};
 ghost use Rattle.storage.specs.Step.{steppedAs};
@@ -262,7 +263,7 @@ pub extern "C" fn yb_step_as(
         stored,
         rating,
         kva,
-        idle_loss,
+        dc_loss: idle_loss,
         var_request,
         weight,
         inverter,
@@ -271,6 +272,7 @@ pub extern "C" fn yb_step_as(
         priority,
         provide,
         absorb,
+        grid_loss: 0,
     };
     match storage::step_as(edition, u, seconds, request) {
         Stepped::Done(o) => {
@@ -419,7 +421,7 @@ pub extern "C" fn yb_unit(
     ensures { λ _. ⌜ now (stored .exit) ≡ heldAfter (unitSaid (now (file .entry)) unit) (λ (u : Unit). u .stored) (now (stored .entry)) ⌝ }
     ensures { λ _. ⌜ now (rating .exit) ≡ heldAfter (unitSaid (now (file .entry)) unit) (λ (u : Unit). u .rating) (now (rating .entry)) ⌝ }
     ensures { λ _. ⌜ now (kva .exit) ≡ heldAfter (unitSaid (now (file .entry)) unit) (λ (u : Unit). u .kva) (now (kva .entry)) ⌝ }
-    ensures { λ _. ⌜ now («idle_loss» .exit) ≡ heldAfter (unitSaid (now (file .entry)) unit) (λ (u : Unit). u .«idle_loss») (now («idle_loss» .entry)) ⌝ }
+    ensures { λ _. ⌜ now («idle_loss» .exit) ≡ heldAfter (unitSaid (now (file .entry)) unit) (λ (u : Unit). idleLoss u) (now («idle_loss» .entry)) ⌝ }
     ensures { λ _. ⌜ now («var_request» .exit) ≡ heldAfter (unitSaid (now (file .entry)) unit) (λ (u : Unit). u .«var_request») (now («var_request» .entry)) ⌝ }
     ensures { λ _. ⌜ now (weight .exit) ≡ heldAfter (unitSaid (now (file .entry)) unit) (λ (u : Unit). u .weight) (now (weight .entry)) ⌝ }
     ensures { λ _. ⌜ now (inverter .exit) ≡ heldAfter (unitSaid (now (file .entry)) unit) (λ (u : Unit). u .inverter) (now (inverter .entry)) ⌝ }
@@ -430,12 +432,13 @@ pub extern "C" fn yb_unit(
     match ask::unit(file, unit) {
         UnitAnswer::UnitSaid(u) => {
             let vars = u.var_request;
+            let lost = unit::idle_loss(u);
             *rated = u.rated;
             *reserve = u.reserve;
             *stored = u.stored;
             *rating = u.rating;
             *kva = u.kva;
-            *idle_loss = u.idle_loss;
+            *idle_loss = lost;
             *var_request = vars;
             *weight = u.weight;
             *inverter = u.inverter;

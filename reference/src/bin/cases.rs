@@ -16,7 +16,7 @@ use yesbrulka_reference::samples::fleets::{self, PassCall, StudyCall};
 use yesbrulka_reference::samples::inverters::{self, SolarCall};
 use yesbrulka_reference::samples::sticks::{self, Field};
 use yesbrulka_reference::samples::units::{self, StepCall};
-use yesbrulka_reference::samples::{self, limits, roofs, seasons, Draw};
+use yesbrulka_reference::samples::{self, limits, older, roofs, seasons, Draw};
 use yesbrulka_reference::season;
 use yesbrulka_reference::solar::{Produced, Weather};
 use yesbrulka_reference::stick::{self, Answer, Run};
@@ -715,12 +715,50 @@ fn roof_check_cases(cases: &mut Cases) {
     }
 }
 
-/// Files of both editions: units of either length, and var limits at their ends and beside them.
-fn limits_check_cases(cases: &mut Cases) {
-    let mut draw = Draw::from_seed(16);
+/// What the stored files of units with var limits are made with, up to an edition.
+struct Limited {
+    limited: fn(Run, &mut Draw) -> Run,
+    run: fn(usize, usize, usize, &mut Draw) -> Run,
+    damaged: fn(&mut Draw) -> Vec<u8>,
+    shuffled: fn(&mut Draw) -> Vec<u8>,
+    ends: Vec<fn(&mut StepCall)>,
+    bad_values: Vec<fn(&mut StepCall)>,
+    /// Editions and idle losses of the whole case.
+    whole: Vec<(u8, u32)>,
+}
+
+/// Editions 1 and 2.
+fn up_to_2() -> Limited {
+    Limited {
+        limited: limits::limited,
+        run: limits::run,
+        damaged: limits::damaged_file,
+        shuffled: limits::shuffled_file,
+        ends: [units::ENDS.as_slice(), &limits::ENDS].concat(),
+        bad_values: [units::BAD_VALUES.as_slice(), &limits::BAD_VALUES].concat(),
+        whole: vec![(1, 0), (2, 0)],
+    }
+}
+
+/// Edition 3, and the others beside it.
+fn up_to_3() -> Limited {
+    Limited {
+        limited: older::older,
+        run: older::run,
+        damaged: older::damaged_file,
+        shuffled: older::shuffled_file,
+        ends: older::ends(3),
+        bad_values: older::bad_values(3),
+        whole: vec![(3, 0), (3, 1), (3, 1_001), (3, older::MOST)],
+    }
+}
+
+/// Files of several editions: units of either length, and var limits and idle losses at their ends and beside them.
+fn limits_check_cases(cases: &mut Cases, seed: u64, kind: &Limited) {
+    let mut draw = Draw::from_seed(seed);
     // One unit and two steps, one of them missing.
-    let run = sticks::with(&limits::limited(sticks::run(1, 0, &mut draw), &mut draw), |run| {
-        run.readings = vec![sticks::power_reading(&mut Draw::from_seed(16)), Reading::Missing];
+    let run = sticks::with(&(kind.limited)(sticks::run(1, 0, &mut draw), &mut draw), |run| {
+        run.readings = vec![sticks::power_reading(&mut Draw::from_seed(seed)), Reading::Missing];
     });
     let long = sticks::fields(&run);
     let short = sticks::fields(&sticks::with(&run, |run| run.site.edition = 1));
@@ -743,8 +781,7 @@ fn limits_check_cases(cases: &mut Cases) {
     for at in 0..3 {
         field_cases(cases, &long, at, &[0, 3, 0x0A], &mut draw);
     }
-    let changes = units::ENDS.iter().chain(&units::BAD_VALUES).chain(&limits::ENDS);
-    for change in changes.chain(&limits::BAD_VALUES) {
+    for change in kind.ends.iter().chain(&kind.bad_values) {
         cases.check(&sticks::file(&sticks::with_unit(&run, 0, change)));
     }
     for fleet in sticks::bad_fleets(&run) {
@@ -752,13 +789,13 @@ fn limits_check_cases(cases: &mut Cases) {
     }
     // Several things wrong at once, and fleets of other sizes.
     for _ in 0..160 {
-        cases.check(&limits::damaged_file(&mut draw));
+        cases.check(&(kind.damaged)(&mut draw));
     }
     for _ in 0..40 {
-        cases.check(&limits::shuffled_file(&mut draw));
+        cases.check(&(kind.shuffled)(&mut draw));
     }
     for units in [2, 3, 4, 31, 64] {
-        let run = limits::limited(roofs::run(units, units % 3, 2, &mut draw), &mut draw);
+        let run = (kind.limited)(roofs::run(units, units % 3, 2, &mut draw), &mut draw);
         cases.check(&sticks::file(&run));
         let mut fields = sticks::fields(&run);
         fields.remove(units);
@@ -942,37 +979,37 @@ fn roof_run_cases(cases: &mut Cases) {
     }
 }
 
-/// Runs of both editions, of few steps, to keep the stored files small.
-fn limits_run_cases(cases: &mut Cases) {
-    let mut draw = Draw::from_seed(17);
-    // The whole case with figure D4's unit, in either edition.
-    for edition in 1..=2 {
+/// Runs of several editions, of few steps, to keep the stored files small.
+fn limits_run_cases(cases: &mut Cases, seed: u64, kind: &Limited) {
+    let mut draw = Draw::from_seed(seed);
+    // The whole case with figure D4's unit.
+    for &(edition, idle_loss) in &kind.whole {
         for var_request in [0, 599, 600, 601, 700, -299, -300, -301, -700, 1_001, -1_001] {
             let run = sticks::with(&sticks::whole_case(), |run| {
                 run.site.edition = edition;
-                run.site.units = vec![Unit { var_request, ..limits::figure_unit() }];
+                run.site.units = vec![Unit { idle_loss, var_request, ..limits::figure_unit() }];
             });
             cases.run_of(0, &run);
         }
     }
     for units in (1..=8).chain([16, 33, 64]) {
         let steps = if units == 64 { 3 } else { 1 + units % 3 };
-        cases.run_of(0, &limits::limited(seasons::run(units, steps, &mut draw), &mut draw));
+        cases.run_of(0, &(kind.limited)(seasons::run(units, steps, &mut draw), &mut draw));
     }
     // Values at the ends of their ranges, and the limits about each other and the request.
-    let run = limits::limited(seasons::run(2, 2, &mut draw), &mut draw);
-    for end in units::ENDS.iter().chain(&limits::ENDS) {
+    let run = (kind.limited)(seasons::run(2, 2, &mut draw), &mut draw);
+    for end in &kind.ends {
         cases.run_of(0, &sticks::with_unit(&run, 1, end));
     }
     // Rooms that fit, are longer, or fall short, with inverters or without.
     for round in 0..160 {
         let (units, steps) = (1 + round % 3, draw.below(6) as usize);
         let more = draw.one_of(&[0, 0, 0, 1, 40, -1, -40]);
-        cases.run_of(more, &limits::run(units, round % 2, steps, &mut draw));
+        cases.run_of(more, &(kind.run)(units, round % 2, steps, &mut draw));
     }
     // Refused files, where the room would do.
     for _ in 0..40 {
-        cases.run(600, &limits::damaged_file(&mut draw));
+        cases.run(600, &(kind.damaged)(&mut draw));
     }
     for spoil in limits::BAD_VALUES {
         cases.run(400, &sticks::file(&sticks::with_unit(&run, 1, spoil)));
@@ -980,6 +1017,21 @@ fn limits_run_cases(cases: &mut Cases) {
     let fields = sticks::fields(&run);
     for edition in [0, 1, 2, 3, 4, 255] {
         cases.run(400, &sticks::bytes(&limits::in_edition(edition, &fields)));
+    }
+}
+
+/// Runs of figure D5's unit in edition 3: it gives, takes and rests, with idle losses at and beside the watts.
+fn older_figure_cases(cases: &mut Cases) {
+    for idle_loss in [0, 1, 10, 899, 900, 901, 10_000, older::MOST] {
+        for (mode, kw) in [(1, 0.9), (3, -1.0)] {
+            let run = sticks::with(&sticks::whole_case(), |run| {
+                (run.site.edition, run.site.settings.mode) = (3, mode);
+                run.site.units = vec![Unit { idle_loss, ..units::figure_unit(75_000) }];
+                let power = Reading::Power(Phases { first: kw, second: 0.0, third: 0.0 });
+                run.readings = vec![Reading::Missing, power, Reading::Missing];
+            });
+            cases.run_of(0, &run);
+        }
     }
 }
 
@@ -1002,11 +1054,14 @@ fn main() -> ExitCode {
     solar_cases(&mut cases);
     check_cases(&mut cases);
     roof_check_cases(&mut cases);
-    limits_check_cases(&mut cases);
+    limits_check_cases(&mut cases, 16, &up_to_2());
     value_part_cases(&mut cases);
     run_cases(&mut cases);
     roof_run_cases(&mut cases);
-    limits_run_cases(&mut cases);
+    limits_run_cases(&mut cases, 17, &up_to_2());
+    limits_check_cases(&mut cases, 18, &up_to_3());
+    limits_run_cases(&mut cases, 19, &up_to_3());
+    older_figure_cases(&mut cases);
     for (name, bytes) in names.iter().zip([cases.records.as_slice(), cases.answers.as_bytes()]) {
         if let Err(error) = fs::write(name, bytes) {
             eprintln!("cases: {}: {error}", name.to_string_lossy());

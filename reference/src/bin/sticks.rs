@@ -1,8 +1,8 @@
 //! Writes the sample sticks: `sticks FOLDER`.
 //!
-//! `season.stick`, `harvest.stick`, `roof.stick` and `vineyard.stick` are complete; each of the others is one of these,
-//! or one like it, after one thing that happens to sticks. The same files come out every time, so that the gate can
-//! compare them with the stored ones.
+//! `season.stick`, `harvest.stick`, `roof.stick`, `vineyard.stick` and `mill.stick` are complete; each of the others is
+//! one of these, or one like it, after one thing that happens to sticks. The same files come out every time, so that
+//! the gate can compare them with the stored ones.
 
 use std::path::PathBuf;
 use std::process::ExitCode;
@@ -335,6 +335,14 @@ fn between_hours(day: &[i64; 24], step: usize) -> i64 {
     (day[hour] * (4 - quarter) + day[(hour + 1) % 24] * quarter) / 4
 }
 
+/// A quarter's reading of a meter that is told by the hour, in hundreds of W of all three phases, of which each has so
+/// many parts in a hundred.
+fn quarter(meter: &[i64; 24], step: usize, noise: i64, parts: [i64; 3]) -> Reading {
+    let watts = between_hours(meter, step) + noise;
+    let [first, second, third] = parts.map(|part| (watts * part / 10) as f64 / 100.0);
+    Reading::Power(Phases { first, second, third })
+}
+
 /// A quarter's weather: a clear morning, clouds after noon, and a station that was silent for an hour in the morning
 /// and now and then.
 fn roof_weather(step: usize) -> Option<Weather> {
@@ -360,14 +368,11 @@ fn roof_reading(step: usize) -> Reading {
     if (50..53).contains(&step) || step % 29 == 5 {
         return Reading::Missing;
     }
-    // In hundreds of W, of all three phases.
     let meter = [
         180, 175, 170, 170, 190, 260, 320, 240, 90, -160, -340, -480, -560, -520, -390, -240, -80, 110, 290,
         380, 330, 270, 220, 190,
     ];
-    let noise = (step * 43 % 37) as i64 - 18;
-    let kw = |part: i64| ((between_hours(&meter, step) + noise) * part / 10) as f64 / 100.0;
-    Reading::Power(Phases { first: kw(36), second: kw(33), third: kw(31) })
+    quarter(&meter, step, (step * 43 % 37) as i64 - 18, [36, 33, 31])
 }
 
 /// The complete sticks of the roof's day, and what happened to others like it.
@@ -516,14 +521,12 @@ fn vineyard_reading(step: usize) -> Reading {
     if step % 37 == 11 {
         return Reading::Missing;
     }
-    // In hundreds of W, of all three phases. The meter is behind the batteries: once these give, it shows less.
+    // The meter is behind the batteries: once these give, it shows less.
     let meter = [
         310, 300, 290, 290, 320, 420, 610, 780, 690, 560, 530, 520, 505, 530, 560, 580, 640, 720, 700, 560,
         470, 420, 370, 330,
     ];
-    let noise = (step * 53 % 41) as i64 - 20;
-    let kw = |part: i64| ((between_hours(&meter, step) + noise) * part / 10) as f64 / 100.0;
-    Reading::Power(Phases { first: kw(40), second: kw(31), third: kw(29) })
+    quarter(&meter, step, (step * 53 % 41) as i64 - 20, [40, 31, 29])
 }
 
 /// The complete stick of the vineyard, and what happened to others like it.
@@ -548,6 +551,82 @@ fn vineyard_examples() -> Vec<(&'static str, u32, Vec<u8>)> {
         // Written by a planner that is newer than the library.
         ("refused-05-unknown-edition.stick", 5, changed(&|fields| fields[0].value[0] = 4)),
     ]
+}
+
+/// A mill with its bakery and ice house, whose plan was made with the older storage model, in edition 3: what a battery
+/// loses is drawn at its grid connection, also while it gives. The mill's gives vars before watts; the ice house's
+/// is small, and the cooling at its connection takes more than its inverter could carry.
+fn mill() -> Run {
+    let kwh = 3_600_000;
+    let mill = Unit {
+        rated: 420 * kwh,
+        reserve: 42 * kwh,
+        stored: 380 * kwh,
+        rating: 30_000,
+        kva: 30_000,
+        idle_loss: 900,
+        var_request: 25_000,
+        weight: 5,
+        inverter: 9_700,
+        charge: 9_500,
+        discharge: 9_500,
+        priority: 1,
+        provide: 18_000,
+        absorb: 18_000,
+    };
+    let bakery = Unit {
+        rated: 60 * kwh,
+        reserve: 6 * kwh,
+        stored: 54 * kwh,
+        rating: 15_000,
+        kva: 15_000,
+        idle_loss: 350,
+        var_request: -9_000,
+        weight: 4,
+        priority: 0,
+        provide: 15_000,
+        absorb: 12_000,
+        ..mill
+    };
+    let ice_house = Unit {
+        rated: 20 * kwh,
+        reserve: 2 * kwh,
+        stored: 20 * kwh,
+        rating: 1_500,
+        kva: 1_600,
+        idle_loss: 2_100,
+        var_request: 700,
+        weight: 1,
+        provide: 1_600,
+        absorb: 1_600,
+        ..bakery
+    };
+    Run {
+        site: Site {
+            edition: 3,
+            seconds: 900,
+            units: vec![mill, bakery, ice_house],
+            settings: Settings { mode: 1, target: 48_000, band: 3_000, factor: 500 },
+            phase: 0,
+            inverters: Vec::new(),
+        },
+        readings: (0..DAY).map(mill_reading).collect(),
+        weather: Vec::new(),
+    }
+}
+
+/// A quarter at the mill: the ovens before dawn, the stones by day. The meter was silent at midnight, until it was set,
+/// and now and then.
+fn mill_reading(step: usize) -> Reading {
+    if step < 4 || step % 31 == 23 {
+        return Reading::Missing;
+    }
+    // The meter is behind the batteries: once these give, it shows less.
+    let meter = [
+        300, 360, 600, 640, 560, 440, 390, 420, 520, 560, 520, 440, 380, 450, 540, 560, 480, 400, 370, 360,
+        340, 320, 310, 300,
+    ];
+    quarter(&meter, step, (step * 47 % 43) as i64 - 21, [38, 32, 30])
 }
 
 /// The name of each stick, the number that its check gives, and its bytes.
@@ -599,6 +678,7 @@ fn examples() -> Vec<(&'static str, u32, Vec<u8>)> {
     ];
     all.extend(roof_examples());
     all.extend(vineyard_examples());
+    all.push(("mill.stick", 0, sticks::file(&mill())));
     all
 }
 
@@ -636,7 +716,7 @@ mod tests {
     #[test]
     fn every_number_that_a_file_can_have_is_there() {
         let numbers: Vec<u32> = examples().iter().map(|&(_, number, _)| number).collect();
-        assert_eq!(numbers, [0, 0, 1, 2, 3, 4, 5, 6, 7, 8, 9, 12, 0, 4, 4, 4, 5, 5, 6, 6, 0, 3, 5, 5]);
+        assert_eq!(numbers, [0, 0, 1, 2, 3, 4, 5, 6, 7, 8, 9, 12, 0, 4, 4, 4, 5, 5, 6, 6, 0, 3, 5, 5, 0]);
     }
 
     /// The place of what is wrong with each of the vineyard's sticks: its second unit, its third, and the fleet.
@@ -710,6 +790,37 @@ mod tests {
         assert!(count(&|step| step.solar[0].produced.on) > 20);
         let without = sticks::with(&run, |run| run.site.edition = 1);
         assert!(season::steps(&without) != steps);
+    }
+
+    /// What a reader of the mill's result is to see: units at rest that draw their idle losses, watts at the grid that
+    /// are an idle loss below the request, one that draws while it gives, vars at a limit and cut by the circle of the
+    /// inverter's watts, one that runs down to its reserve, and a plan that edition 2 would refuse.
+    #[test]
+    fn the_mill_is_worth_reading() {
+        let run = stick::read(&sticks::file(&mill())).unwrap();
+        assert_eq!((run.site.edition, run.site.units.len(), run.readings.len()), (3, 3, DAY));
+        let steps = season::steps(&run);
+        let count = |of: &dyn Fn(&Step) -> bool| steps.iter().filter(|step| of(step)).count();
+        let of = |step: &Step, unit: usize| (step.records[unit].request, step.records[unit].stepped);
+        let losses = [900, 350, 2_100];
+        let rests = |step: &Step| (0..3).all(|unit| of(step, unit).1.watts == -losses[unit]);
+        assert!(count(&|step| step.passed.is_none() && rests(step)) >= 4);
+        assert!(count(&rests) > 20, "{}", count(&rests));
+        let gives = |step: &Step, unit: usize| {
+            of(step, unit).0 > 0 && of(step, unit).0 - losses[unit] == of(step, unit).1.watts
+        };
+        assert!((0..3).all(|unit| count(&|step| gives(step, unit)) > 10));
+        assert!(count(&|step| gives(step, 2) && of(step, 2).1.watts < 0) > 10);
+        // Vars first leave the mill 24,000 W. The bakery's watts leave it no vars; at the grid there would be room.
+        assert_eq!(count(&|step| of(step, 0).1.vars == 18_000), DAY);
+        assert!(count(&|step| of(step, 0).0 > 24_000 && of(step, 0).1.watts == 23_100) > 10);
+        assert!(count(&|step| of(step, 1).1.watts == 14_650 && of(step, 1).1.vars == 0) > 5);
+        assert!(count(&|step| of(step, 1).1.vars == -9_000) > 20);
+        // The bakery's runs down to its reserve, and draws its idle loss though it is asked.
+        assert!(count(&|step| of(step, 1).0 > 0 && of(step, 1).1.watts == -350) > 20);
+        assert_eq!(steps.iter().filter(|step| of(step, 0).1.stored <= run.site.units[0].reserve).count(), 0);
+        let in_2 = sticks::with(&run, |run| run.site.edition = 2);
+        assert_eq!(stick::check(&sticks::file(&in_2)).place, 9 + 2 * 60);
     }
 
     /// What a reader of the roof's result is to see: inverters that turn on in the morning and off in the evening and

@@ -1,4 +1,4 @@
-//! Var limits: calls of a step in which they decide, runs of either edition, and every kind of damage that can come
+//! Var limits: calls of a step in which they decide, runs of editions 1 and 2, and every kind of damage that can come
 //! over the edition of a file and over the units that have limits.
 
 use super::sticks::{self, Field};
@@ -118,13 +118,13 @@ fn either_edition(run: Run, draw: &mut Draw) -> Run {
     }
 }
 
-/// A run of either edition, with inverters or without, that is not to be refused.
+/// A run of edition 1 or 2, with inverters or without, that is not to be refused.
 pub fn run(units: usize, inverters: usize, steps: usize, draw: &mut Draw) -> Run {
     let run = roofs::run(units, inverters, steps, draw);
     either_edition(run, draw)
 }
 
-/// A run of either edition of a few units, up to two inverters and a few steps, so that its file is small.
+/// A run of edition 1 or 2 of a few units, up to two inverters and a few steps, so that its file is small.
 pub fn small_run(draw: &mut Draw) -> Run {
     let run = draw.one_of(&[sticks::small_run, roofs::small_run])(draw);
     either_edition(run, draw)
@@ -137,7 +137,7 @@ pub fn in_edition(edition: u8, fields: &[Field]) -> Vec<Field> {
     fields
 }
 
-/// A unit's field of either edition whose values are good in some file.
+/// A unit's field of edition 1 or 2 whose values are good in some file.
 fn any_unit(draw: &mut Draw) -> Field {
     let edition = 1 + draw.below(2) as u8;
     sticks::unit_field(edition, &step_call(draw).unit)
@@ -162,7 +162,7 @@ pub fn damage(fields: &mut Vec<Field>, at: usize, draw: &mut Draw) {
     }
 }
 
-/// Gives a unit's field the other edition's length, or one about it; with so many bytes, or with those that it had.
+/// Gives a unit's field the length of another edition, or one about it; with so many bytes, or with those that it had.
 fn spoil_length(field: &mut Field, draw: &mut Draw) {
     let length = draw.one_of(&[49, 49, 57, 57, 48, 50, 53, 56, 58]);
     match draw.below(3) {
@@ -188,12 +188,12 @@ fn spoil_limits(value: &mut [u8], draw: &mut Draw) {
     }
 }
 
-/// A small file of either edition with a few pieces of damage, and its end cut off or not.
+/// A small file of edition 1 or 2 with a few pieces of damage, and its end cut off or not.
 pub fn damaged_file(draw: &mut Draw) -> Vec<u8> {
     roofs::damaged(sticks::fields(&small_run(draw)), damage, draw)
 }
 
-/// Fields of the list in any order, in a file of either edition, with good values for the most part.
+/// Fields of the list in any order, in a file of edition 1 or 2, with good values for the most part.
 pub fn shuffled_file(draw: &mut Draw) -> Vec<u8> {
     roofs::shuffled(&small_run(draw), draw)
 }
@@ -209,7 +209,7 @@ mod tests {
         let mut draw = Draw::from_seed(110);
         for _ in 0..30_000 {
             let call = step_call(&mut draw);
-            assert!(call.edition == 2 && call.unit.in_range() && call.step().is_ok(), "{call:?}");
+            assert!(call.edition == 2 && call.unit.in_range(2) && call.step().is_ok(), "{call:?}");
         }
         assert!(figure_steps().iter().all(|call| call.step().is_ok()));
     }
@@ -270,7 +270,7 @@ mod tests {
             let answer = stick::check(&file);
             let tag =
                 file.get(answer.place as usize).copied().filter(|_| ![0, 8, 9].contains(&answer.number));
-            let edition = file.get(3).copied().unwrap_or(0).min(3);
+            let edition = file.get(3).copied().unwrap_or(0).min(4);
             *met.entry((answer.number, tag, edition)).or_insert(0u32) += 1;
         }
         for edition in 1..=2 {
@@ -283,7 +283,7 @@ mod tests {
                 assert!(count > 150, "{number} of a unit in edition {edition}: {count}");
             }
         }
-        for edition in [0, 3] {
+        for edition in [0, 4] {
             let count = met.get(&(5, Some(FLEET), edition)).copied().unwrap_or(0);
             assert!(count > 150, "edition {edition}: {count}");
         }

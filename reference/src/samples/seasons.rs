@@ -73,7 +73,7 @@ fn unit(seconds: u32, scale: u64, mode: u8, draw: &mut Draw) -> Unit {
 /// part of it to move, or all, little or nothing.
 fn set_energies(unit: &mut Unit, seconds: u32, mode: u8, draw: &mut Draw) {
     let power = unit.rating.min(unit.kva).into();
-    let moved = if mode == 3 { unit.added(power, seconds) } else { unit.removed(power, seconds) };
+    let moved = if mode == 3 { unit.added(1, power, seconds) } else { unit.removed(1, power, seconds) };
     let tenths = draw.one_of(&[1, 3, 8, 10, 11, 15, 25, 40, 80, 200]);
     let rated = (moved * tenths / 10).clamp(1, i128::from(*RATED.end())) as u64;
     unit.rated = rated;
@@ -174,7 +174,7 @@ mod tests {
         let mut draw = Draw::from_seed(92);
         for units in (1..=64).chain(1..=64) {
             let run = run(units, 3, &mut draw);
-            assert!(run.site.units.iter().all(Unit::in_range) && run.site.settings.in_range());
+            assert!(run.site.units.iter().all(|unit| unit.in_range(1)) && run.site.settings.in_range());
         }
     }
 }

@@ -276,7 +276,7 @@ pub fn with(run: &Run, change: impl Fn(&mut Run)) -> Run {
 }
 
 /// Editions outside their range.
-const BAD_EDITIONS: [u8; 7] = [0, 3, 4, 128, 129, 130, 255];
+const BAD_EDITIONS: [u8; 8] = [0, 4, 5, 128, 129, 130, 131, 255];
 
 /// Fleet fields that are to be refused: an edition, a unit count or seconds outside their ranges.
 pub fn bad_fleets(run: &Run) -> Vec<Field> {

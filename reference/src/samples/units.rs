@@ -28,13 +28,31 @@ impl StepCall {
         storage::step_as(self.edition, self.seconds, &self.unit, self.request)
     }
 
-    /// Sets the kVA rating, with the largest idle loss whose draw is within it or a smaller one, and with limits that
-    /// are.
-    fn set_kva(&mut self, kva: u32) {
+    /// The joules that leave the store where the inverter moves so many watts as it is asked, or that reach it.
+    pub fn moved(&self, watts: i128) -> i128 {
+        let StepCall { edition, seconds, ref unit, request } = *self;
+        match request {
+            1.. => unit.removed(edition, watts, seconds),
+            _ => unit.added(edition, watts, seconds),
+        }
+    }
+
+    /// The inverter's watts in a step that left so many at the grid.
+    pub fn inverter_watts(&self, stepped: &Stepped) -> i64 {
+        i64::from(stepped.watts) + i64::from(self.unit.grid_loss(self.edition))
+    }
+
+    /// Sets the kVA rating, with limits that are within it.
+    pub fn set_kva_alone(&mut self, kva: u32) {
         self.unit.kva = kva;
-        self.unit.idle_loss = self.unit.idle_loss.min(most_idle_loss(&self.unit));
         self.unit.provide = self.unit.provide.min(kva);
         self.unit.absorb = self.unit.absorb.min(kva);
+    }
+
+    /// The same, with the largest idle loss whose draw is within it or a smaller one.
+    fn set_kva(&mut self, kva: u32) {
+        self.set_kva_alone(kva);
+        self.unit.idle_loss = self.unit.idle_loss.min(most_idle_loss(&self.unit));
     }
 
     fn set_inverter(&mut self, inverter: u16) {
@@ -143,6 +161,18 @@ pub const BAD_VALUES: [fn(&mut StepCall); 43] = [
     |call| (call.unit.idle_loss, call.unit.inverter, call.unit.kva) = (10, 9_999, 10),
     |call| (call.unit.idle_loss, call.unit.inverter, call.unit.kva) = (10_000_000, 1_000, 99_999_999),
 ];
+
+/// How many of them every edition refuses; edition 3 tests no idle draw.
+const BAD_IN_ALL: usize = 40;
+
+/// Those of them that an edition refuses.
+pub fn bad_values(edition: u8) -> &'static [fn(&mut StepCall)] {
+    let all: &[_] = &BAD_VALUES;
+    match edition {
+        3 => &all[..BAD_IN_ALL],
+        _ => all,
+    }
+}
 
 /// Requests beyond the rating.
 pub const BAD_REQUESTS: [fn(&mut StepCall); 4] = [
@@ -285,8 +315,8 @@ pub fn step_call(draw: &mut Draw) -> StepCall {
 }
 
 /// The energies: what some count removes or adds, or one joule beside it, or at an end, or any.
-fn set_stores(call: &mut StepCall, draw: &mut Draw) {
-    let StepCall { seconds, unit, request, .. } = *call;
+pub fn set_stores(call: &mut StepCall, draw: &mut Draw) {
+    let StepCall { unit, request, .. } = *call;
     let most = *RATED.end();
     let rated = draw.within(1, most);
     let (reserve, stored) = (draw.within(0, rated), draw.within(0, rated));
@@ -299,9 +329,7 @@ fn set_stores(call: &mut StepCall, draw: &mut Draw) {
         6 => draw.below(3),
         _ => draw.below(size + 1),
     };
-    let moved =
-        if request > 0 { unit.removed(count.into(), seconds) } else { unit.added(count.into(), seconds) };
-    let moved = beside(moved as u64, draw).min(most);
+    let moved = beside(call.moved(count.into()) as u64, draw).min(most);
     // What is beside it: nothing, a little, or any.
     let rest = draw.one_of(&[0, 0, 1, 1_000, most]).min(most - moved);
     let below = if rest == 0 { 0 } else { draw.below(rest + 1) };
@@ -320,4 +348,40 @@ fn set_stores(call: &mut StepCall, draw: &mut Draw) {
         8 => call.set_energies(rated, reserve, rated - draw.below(rated.min(3))),
         _ => call.set_energies(rated, reserve, stored),
     }
+}
+
+/// So many steps of the call's unit, one after the other as a run makes them, with a request that changes now and then.
+pub fn in_a_row(mut call: StepCall, steps: usize, draw: &mut Draw) -> Vec<StepCall> {
+    let mut calls = Vec::new();
+    for _ in 0..steps {
+        if draw.below(20) == 0 {
+            call.request = -call.request;
+        }
+        if draw.below(8) == 0 {
+            call.request = draw.below(u64::from(call.unit.rating) + 1) as i32 * call.request.signum();
+        }
+        calls.push(call);
+        call.unit.stored = call.step().expect("a call that is not to be refused").stored;
+    }
+    calls
+}
+
+/// The call with every request that its rating allows; none where these are many.
+pub fn with_every_request(call: StepCall) -> Vec<StepCall> {
+    let rating = call.unit.rating as i32;
+    let requests = (-rating..=rating).take_while(|_| rating <= 40);
+    requests.map(|request| StepCall { request, ..call }).collect()
+}
+
+/// The call with an available energy, or a room, from nothing to more than it needs, joule by joule; none where these
+/// are many.
+pub fn over_every_joule(call: StepCall) -> Vec<StepCall> {
+    let most = call.moved(call.request.unsigned_abs().into()) as u64 + 2;
+    let reserve = most / 3;
+    let with = |joules| {
+        let stored = if call.request > 0 { reserve + joules } else { reserve + most - joules };
+        let unit = Unit { rated: reserve + most, reserve, stored, ..call.unit };
+        StepCall { unit, ..call }
+    };
+    (0..=most).take_while(|_| most <= 2_000).map(with).collect()
 }

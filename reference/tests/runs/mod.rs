@@ -34,6 +34,12 @@ impl Met {
         }
     }
 
+    fn note_if_in(&mut self, edition: u8, holds: bool, what: &'static str) {
+        if holds {
+            self.note(what, edition.into());
+        }
+    }
+
     /// Each of these was met more than so often.
     pub fn more_than(&self, count: u32, what: &'static str, which: impl IntoIterator<Item = u32>) {
         for which in which {
@@ -76,7 +82,9 @@ impl Met {
                 }
                 let before = if k == 0 { 0 } else { steps[k - 1].records[i].request };
                 self.note_if(record.request.unsigned_abs() < before.unsigned_abs(), "a request taken back");
-                self.unit_step(unit, stored[i], record);
+                self.unit_step(run.site.edition, unit, stored[i], record);
+                let idle = stored[i] == record.stepped.stored;
+                self.note_if_in(run.site.edition, idle && step.passed.is_none(), "idle without a reading");
                 stored[i] = record.stepped.stored;
             }
         }
@@ -125,15 +133,20 @@ impl Met {
 
     /// What decided a unit's step. The classes of a unit that is asked and is cut are of those whose request
     /// the circle left something of.
-    fn unit_step(&mut self, unit: &Unit, stored: u64, record: &Record) {
+    fn unit_step(&mut self, edition: u8, unit: &Unit, stored: u64, record: &Record) {
         let Record { request, stepped, .. } = *record;
         let asked = request.unsigned_abs().min(unit.kva);
         let vars = unit.var_request.unsigned_abs();
         let limited = unit.limited_vars().unsigned_abs();
         let beside = |vars: u32| asked.min(largest_leg(unit.kva, vars));
         let size = if unit.priority == 0 { asked } else { beside(limited) };
-        let given = stepped.watts.unsigned_abs();
+        let watts = stepped.watts + unit.grid_loss(edition) as i32;
+        let given = watts.unsigned_abs();
         let still = stepped.stored == stored;
+        self.note_if_in(edition, still, "idle");
+        self.note_if_in(edition, !still && watts > 0, "gave");
+        self.note_if_in(edition, !still && watts < 0, "took");
+        self.older_step(edition, unit, watts, record);
         self.note("priority", unit.priority.into());
         self.note_if(request.unsigned_abs() == unit.rating, "a request at its rating");
         self.note_if(request.unsigned_abs() > unit.kva, "a request beyond S");
@@ -145,7 +158,7 @@ impl Met {
         self.note_if(by_limit && unit.var_request < 0, "vars beyond the absorb limit");
         self.note_if(by_limit && stepped.vars.unsigned_abs() < limited, "vars cut by limit and circle");
         self.note_if(unit.priority == 1 && size > beside(vars.min(unit.kva)), "watts that a limit left");
-        self.note_if(stepped.watts == 0, "neither gave nor took");
+        self.note_if(watts == 0, "neither gave nor took");
         if request > 0 && size > 0 {
             self.note_if(!still && given == size, "gave it all");
             self.note_if(!still && given < size, "ran empty");
@@ -158,6 +171,23 @@ impl Met {
             self.note_if(still && stored == unit.rated, "was full");
             self.note_if(still && stored < unit.rated, "had too little room");
         }
+    }
+}
+
+impl Met {
+    /// What an idle loss at the grid connection came to.
+    fn older_step(&mut self, edition: u8, unit: &Unit, watts: i32, record: &Record) {
+        let Record { request, stepped, .. } = *record;
+        if edition != 3 {
+            return;
+        }
+        self.note_if(unit.idle_loss == 0, "no idle loss at the grid");
+        self.note_if(unit.idle_loss == 10_000_000, "the most idle loss");
+        self.note_if(unit.idle_draw(2) > unit.kva.into(), "an idle draw above S");
+        self.note_if(watts > 0 && stepped.watts < 0, "gave less than its idle loss");
+        self.note_if(watts > 0 && stepped.watts > 0, "gave more than its idle loss");
+        self.note_if(watts < 0 && stepped.watts < request, "drew more than it was asked");
+        self.note_if(watts == 0 && stepped.vars == unit.limited_vars(), "idle with all its vars");
     }
 }
 

@@ -89,6 +89,11 @@ fn left(answer: &[u8]) -> Left {
     }
 }
 
+/// What a row of answers says of each step.
+pub fn all_left(answer: &[u8]) -> Vec<Left> {
+    answer.chunks(ANSWER).map(left).collect()
+}
+
 /// Makes every step with the archive and with the reference, and compares; tells what the reference says to each. Gives
 /// how many there were.
 pub fn compare(
@@ -108,8 +113,8 @@ pub fn compare(
         frame.iter().for_each(|call| put_step(&mut payload, with, call));
         let answer = host.call(with.op(), &payload);
         assert_eq!(answer.len(), ANSWER * frame.len(), "an answer for each step");
-        for (call, answer) in frame.iter().zip(answer.chunks(ANSWER)) {
-            let (got, expected) = (left(answer), expected(call));
+        for (call, got) in frame.iter().zip(all_left(&answer)) {
+            let expected = expected(call);
             all += 1;
             if got != expected {
                 wrong += 1;

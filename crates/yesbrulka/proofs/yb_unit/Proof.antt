@@ -4,6 +4,7 @@ use mathlib.Core.Path.{sym, ap, _∙_}
 use mir.Syntax.{w32}
 use Rattle.whole.proofs.SignLaws.{read}
 use Rattle.unit.specs.declared.Unit.{Unit}
+use Rattle.unit.specs.Ranges.{idleLoss}
 use Rattle.ask.specs.Says.{refusalOver, unitCall}
 use Rattle.yesbrulka.specs.Calls.{unitSaid}
 use Rattle.yesbrulka.proofs.CallLaws.{call-zero, call-given, call-number, call-kept}
@@ -16,6 +17,9 @@ unit-requires c κs = search needs
 enum-known-u : tie.Need-enum-known-u
 enum-known-u c = search needs
 
+idle-loss-requires : tie.Need-idle-loss-requires
+idle-loss-requires c κs = search needs
+
 enum-known-n : tie.Need-enum-known-n
 enum-known-n c = search needs
 
@@ -24,7 +28,8 @@ cast-result c = search needs
 
 returns : tie.Need-returns
 returns c =
-    let q = c .before .before in
+    let t = c .before in
+    let q = t .before .before in
     let o = q .before .before in
     let a = o .before .before .args in
     let u = q .u .given .0 .0 in
@@ -41,9 +46,9 @@ returns c =
               (
                 call-given (unitSaid (a .file .now) (a .unit)) u is (λ (x : Unit). x .kva) (a .kva .now),
                 (
-                  call-given (unitSaid (a .file .now) (a .unit)) u is (λ (x : Unit). x .«idle_loss») (a .idle-loss .now),
+                  c .idle-loss .ensures ∙ call-given (unitSaid (a .file .now) (a .unit)) u is (λ (x : Unit). idleLoss x) (a .idle-loss .now),
                   (
-                    read w32 (u .«var_request») (c .struct-told .given .1 .1 .1 .1 .1 .1 .0 .1) ∙ call-given (unitSaid (a .file .now) (a .unit)) u is (λ (x : Unit). x .«var_request») (a .var-request .now),
+                    read w32 (u .«var_request») (t .struct-told .given .1 .1 .1 .1 .1 .1 .0 .1) ∙ call-given (unitSaid (a .file .now) (a .unit)) u is (λ (x : Unit). x .«var_request») (a .var-request .now),
                     (
                       call-given (unitSaid (a .file .now) (a .unit)) u is (λ (x : Unit). x .weight) (a .weight .now),
                       (
@@ -85,7 +90,7 @@ returns-2 c =
               (
                 call-kept (unitSaid (a .file .now) (a .unit)) r is (λ (x : Unit). x .kva) (a .kva .now),
                 (
-                  call-kept (unitSaid (a .file .now) (a .unit)) r is (λ (x : Unit). x .«idle_loss») (a .idle-loss .now),
+                  call-kept (unitSaid (a .file .now) (a .unit)) r is (λ (x : Unit). idleLoss x) (a .idle-loss .now),
                   (
                     call-kept (unitSaid (a .file .now) (a .unit)) r is (λ (x : Unit). x .«var_request») (a .var-request .now),
                     (
@@ -112,4 +117,4 @@ returns-2 c =
 
 pub yb-unit-spec : {M : Type 1} → statement M
 yb-unit-spec =
-    tie.close (tie.spec unit-requires enum-known-u enum-known-n cast-result returns returns-2)
+    tie.close (tie.spec unit-requires enum-known-u idle-loss-requires enum-known-n cast-result returns returns-2)

@@ -7,7 +7,7 @@ use lib.ListN.{getD}
 use Rattle.unit.specs.declared.Unit.{Unit}
 use Rattle.unit.specs.Ranges.{holding, Ranged}
 use Rattle.unit.specs.Rows.{unitBy}
-use Rattle.storage.proofs.StepLaws.{idle-draw-small}
+use Rattle.storage.proofs.StepLaws.{resting-small}
 use Rattle.fleet.proofs.UnitLaws.{holding-ranged, step-is, rest-is}
 use Rattle.fleet.proofs.units.give.Statement.{statement}
 use Rattle.fleet.proofs.units.give.Tie as tie
@@ -24,7 +24,7 @@ rest-requires c κs =
     let s = d .before .before in
     let (l, (rs, (rg, w))) = s .pre in
     let u = unitBy (getD (s .args .units .now) (s .args .i) []) in
-    idle-draw-small u (rg .unit) (d .draw-of .result) (d .draw-of .ensures ∙ rs .draws (s .args .i) l)
+    resting-small u (rg .unit) (d .draw-of .result) (d .draw-of .ensures ∙ rs .draws (s .args .i) l)
 
 returns : tie.Need-returns
 returns c =

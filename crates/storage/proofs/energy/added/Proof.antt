@@ -28,7 +28,7 @@ returns : tie.Need-returns
 unfolding addedBy
 returns c =
     let x = c .before .before .before .args in
-    added-none (x .p * x .u .inverter / 10000 - x .u .«idle_loss») (x .seconds) (x .u .charge) (omega arith)
+    added-none (x .p * x .u .inverter / 10000 - x .u .«dc_loss») (x .seconds) (x .u .charge) (omega arith)
 
 sub-result : tie.Need-sub-result
 sub-result c = search needs
@@ -37,7 +37,7 @@ mul-result : tie.Need-mul-result
 mul-result c =
     let s = c .before .before .before in
     let b = bounds (s .pre .0) in
-    let m = added-room (s .args .p) (s .args .u .inverter) (s .args .u .«idle_loss») (s .args .seconds) (s .pre .1) (b .inverter-most) (b .seconds-most) in
+    let m = added-room (s .args .p) (s .args .u .inverter) (s .args .u .«dc_loss») (s .args .seconds) (s .pre .1) (b .inverter-most) (b .seconds-most) in
     omega arith
 
 cast-result : tie.Need-cast-result
@@ -47,7 +47,7 @@ mul-result-2 : tie.Need-mul-result-2
 mul-result-2 c =
     let s = c .before .before .before .before in
     let b = bounds (s .pre .0) in
-    let m = added-room (s .args .p) (s .args .u .inverter) (s .args .u .«idle_loss») (s .args .seconds) (s .pre .1) (b .inverter-most) (b .seconds-most) in
+    let m = added-room (s .args .p) (s .args .u .inverter) (s .args .u .«dc_loss») (s .args .seconds) (s .pre .1) (b .inverter-most) (b .seconds-most) in
     record { fits = lt-of-le-of-lt (mul-le-mul m (b .charge-most)) (lit< tt) }
 
 returns-2 : tie.Need-returns-2

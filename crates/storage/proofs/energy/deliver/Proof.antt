@@ -51,7 +51,7 @@ mul-least64 c =
     let s = c .before .before .before .before .before .before .before in
     let b = bounds (s .pre) in
     let u = s .args .u in
-    let m = delivered-room (u .stored - u .reserve) (u .discharge) (s .args .seconds) (u .«idle_loss») (u .inverter) (omega arith) (b .discharge-most) (b .seconds-least) (b .inverter-most) in
+    let m = delivered-room (u .stored - u .reserve) (u .discharge) (s .args .seconds) (u .«dc_loss») (u .inverter) (omega arith) (b .discharge-most) (b .seconds-least) (b .inverter-most) in
     omega arith
 
 least64-requires : tie.Need-least64-requires

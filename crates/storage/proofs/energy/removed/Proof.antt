@@ -33,7 +33,7 @@ mul-ceil-2 c =
     let b = bounds (s .pre .0) in
     let d = drawn-most (s .args .p) (s .args .u .inverter) (b .inverter-least) in
     let e = c .before .ceil .ensures in
-    let m = removed-room (c .before .ceil .result) (s .args .u .«idle_loss») (s .args .seconds) (omega arith) (b .idle-most) (b .seconds-most) in
+    let m = removed-room (c .before .ceil .result) (s .args .u .«dc_loss») (s .args .seconds) (omega arith) (b .idle-most) (b .seconds-most) in
     omega arith
 
 mul-ceil-3 : tie.Need-mul-ceil-3
@@ -42,7 +42,7 @@ mul-ceil-3 c =
     let b = bounds (s .pre .0) in
     let d = drawn-most (s .args .p) (s .args .u .inverter) (b .inverter-least) in
     let e = c .before .ceil .ensures in
-    let m = removed-room (c .before .ceil .result) (s .args .u .«idle_loss») (s .args .seconds) (omega arith) (b .idle-most) (b .seconds-most) in
+    let m = removed-room (c .before .ceil .result) (s .args .u .«dc_loss») (s .args .seconds) (omega arith) (b .idle-most) (b .seconds-most) in
     omega arith
 
 cast-ceil-3 : tie.Need-cast-ceil-3

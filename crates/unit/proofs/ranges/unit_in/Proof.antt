@@ -22,7 +22,7 @@ cast-result c = search needs
 returns : tie.Need-returns
 unfolding unitIn
 returns c =
-    let d = c .before .before .before .before .before .before .before .before .before .before .before .before .before in
+    let d = c .before .before .before .before .before .before .before .before .before .before .before .before .before .before in
     let v = d .before in
     let t = v .before in
     let m = t .before in

@@ -48,13 +48,16 @@ cast-t15 c = omega (arith, c .struct-known9 .given)
 cast-t16 : tie.Need-cast-t16
 cast-t16 c = omega (arith, c .struct-known10 .given)
 
-cast-t18 : tie.Need-cast-t18
-cast-t18 c = search needs
+cast-t17 : tie.Need-cast-t17
+cast-t17 c = omega (arith, c .struct-known11 .given)
+
+cast-t19 : tie.Need-cast-t19
+cast-t19 c = search needs
 
 returns : tie.Need-returns
 unfolding rowOf
 returns c =
-    let q = c .before .before .before .before .before .before .before .before .before .before in
+    let q = c .before .before .before .before .before .before .before .before .before .before .before in
     let p = q .before in
     let s = p .before .before in
     let told = p .before .struct-told .given in
@@ -79,5 +82,6 @@ row-spec =
     cast-t14
     cast-t15
     cast-t16
-    cast-t18
+    cast-t17
+    cast-t19
     returns)

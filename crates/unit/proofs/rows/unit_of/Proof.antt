@@ -171,10 +171,22 @@ index-2-t93 c = search needs
 cast-t95 : tie.Need-cast-t95
 cast-t95 c = search needs
 
+mul-t96 : tie.Need-mul-t96
+mul-t96 c = search needs
+
+index-1-t100 : tie.Need-index-1-t100
+index-1-t100 c = search needs
+
+index-2-t100 : tie.Need-index-2-t100
+index-2-t100 c = search needs
+
+cast-t102 : tie.Need-cast-t102
+cast-t102 c = search needs
+
 returns : tie.Need-returns
 unfolding unitBy
 returns c =
-    let v = c .before .before .before .before .before .before .before in
+    let v = c .before .before .before .before .before .before .before .before in
     let s = v .before .before .before .before .before .before .before .before in
     ap (unitWith (getD (s .args .units .now) (s .args .i) [])) (read w32 (v .signed-of .result) (v .signed-of .ok) ∙ v .signed-of .ensures)
 
@@ -236,4 +248,8 @@ unit-of-spec =
     index-1-t93
     index-2-t93
     cast-t95
+    mul-t96
+    index-1-t100
+    index-2-t100
+    cast-t102
     returns)
