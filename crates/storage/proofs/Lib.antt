@@ -5,4 +5,3 @@ pub mod GridLaws
 pub mod StepLaws
 pub mod ReliedLaws
 pub mod ReliedProved
-pub mod EditionsProved

@@ -1,7 +1,7 @@
 -- What limits a step, by the definitions: the held request is at most what is asked and at most S, and both energy limits are quotients. Assumes nothing.
 use mathlib.Core.Path.{_≡_, sym, ap, ap₂, _∙_}
 use mathlib.Core.Logic.{_⊎_, inl, inr}
-use mathlib.Core.Bool.{Bool, cond}
+use mathlib.Core.Bool.{Bool, true, false, cond}
 use Prim.Native.Nat.{ℕ, _+_, _-_, _*_, _/_, _≤_, _<_, _^_, min}
 use native.Mathlib.Nat.{le-refl, le-antisymm, mul-le-mul, zero-mul, eq-zero-or-pos}
 use native.Mathlib.Omega.{arith}
@@ -21,6 +21,7 @@ use Rattle.unit.proofs.RangeLaws.{Bounds}
 use Rattle.storage.proofs.EnergyLaws.{removed-test, added-test, added-none, drawn-none, drawable-most}
 use Rattle.unit.specs.declared.Unit.{Unit}
 use Rattle.storage.specs.Step.{limitedVars, heldSize, varsOf, removedBy, addedBy, deliverable, takeable}
+use Rattle.storage.specs.Editions.{varsWithin, AsBefore}
 
 -- ---- v, from what the code has: by the limit for the request's own direction
 module _ (u : Unit) (h : mag (u .«var_request») < 2 ^ 31) (size : ℕ) (es : size ≡ natAbs (toZ w32 (ofZ w32 (u .«var_request»))))
@@ -125,3 +126,19 @@ module _ (u : Unit) (s p : ℕ) (b : Bounds u s) where
   deliverable-empty h =
       let m = drawable-most (u .stored - u .reserve) (u .discharge) s (b .discharge-most) (b .seconds-least) in
       deliverable-none (omega arith)
+
+-- ---- with both limits at S the limit is S whichever way the vars go
+module _ (u : Unit) (provides : u .provide ≡ u .kva) (absorbs : u .absorb ≡ u .kva) where
+  either : (b : Bool) → cond b (u .absorb) (u .provide) ≡ u .kva
+  either true = absorbs
+  either false = provides
+
+  same : limitedVars u ≡ varsWithin u
+  same = ap (min (natAbs (u .«var_request»))) (either (negative (u .«var_request»)))
+
+  pub as-before : AsBefore u
+  unfolding heldSize varsOf
+  as-before = record {
+    held = λ (request : ℤ). ap (λ (v : ℕ). wattsIn (u .kva) (u .priority) v (natAbs request)) same;
+    vars = λ (watts : ℤ). ap (λ (v : ℕ). varsIn (u .kva) (negative (u .«var_request»)) v (natAbs watts)) same;
+  }

@@ -25,6 +25,7 @@ use Rattle.solar.specs.Answers.{listsOf, litOf, litCall}
 use Rattle.storage.specs.declared.Outcome.{Outcome}
 use Rattle.storage.specs.declared.Stepped.{Stepped}
 use Rattle.storage.specs.Answers.{stepCall}
+use Rattle.storage.specs.Step.{steppedAs}
 use Rattle.site.specs.declared.Head.{Head}
 use Rattle.ask.specs.Says.{headAnswer, headCall, unitAnswer, unitCall}
 
@@ -98,9 +99,10 @@ pub record StepSeen (a : Stepped) (number : ℕ) (watts watts′ vars vars′ : 
   pub stored-is : stored′ ≡ heldAfter (stepCall a) (λ (o : Outcome). o .stored) stored
   pub loss-is : loss′ ≡ heldAfter (stepCall a) (λ (o : Outcome). o .loss) loss
 
-abbrev pub StepTold : Stepped → ℕ → Lent ℤ → Lent ℤ → Lent ℕ → Lent ℕ → Type 0
-StepTold a number watts vars stored loss =
-    StepSeen a number (held watts) (left watts) (held vars) (left vars) (held stored) (left stored) (held loss) (left loss)
+-- of a unit of an edition, over so many seconds, at a request
+abbrev pub StepTold : ℕ → Unit → ℕ → ℤ → ℕ → Lent ℤ → Lent ℤ → Lent ℕ → Lent ℕ → Type 0
+StepTold edition u seconds request number watts vars stored loss =
+    StepSeen (steppedAs edition u seconds request) number (held watts) (left watts) (held vars) (left vars) (held stored) (left stored) (held loss) (left loss)
 
 -- yb_solar: the inverter's values in the call's order, the lists of its curves and the weather; the number, and what the step gives
 abbrev pub inverterOf : ℕ → ℕ → ℕ → ℕ → ℕ → ℤ → ℕ → Inverter

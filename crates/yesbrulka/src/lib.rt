@@ -9,7 +9,6 @@ ghost use Rattle.unit.specs.declared.Unit.{Unit};
 ghost use Rattle.unit.specs.Ranges.{idleLoss};
 ghost use Rattle.controller.specs.Answers.{passAnswer, passLeaves};
 ghost use Rattle.settling.specs.Answers.{studyAnswer, studyLeaves, studyCall};
-ghost use Rattle.storage.specs.Step.{steppedAs};
 ghost use Rattle.site.specs.declared.Head.{Head};
 ghost use Rattle.stick.specs.Check.{checkOf};
 ghost use Rattle.parts.specs.Parts.{partStart, partSize};
@@ -203,7 +202,7 @@ pub extern "C" fn yb_step(
     after: &mut u64,
     loss: &mut u64,
 ) -> u32
-    ensures { λ r. ⌜ StepTold (steppedAs 1 (unitOf rated reserve stored rating kva «idle_loss» «var_request» weight inverter charge discharge priority kva kva) seconds request) r watts vars after loss ⌝ }
+    ensures { λ r. ⌜ StepTold 1 (unitOf rated reserve stored rating kva «idle_loss» «var_request» weight inverter charge discharge priority kva kva) seconds request r watts vars after loss ⌝ }
 {
     yb_step_as(
         1,
@@ -255,7 +254,7 @@ pub extern "C" fn yb_step_as(
     after: &mut u64,
     loss: &mut u64,
 ) -> u32
-    ensures { λ r. ⌜ StepTold (steppedAs edition (unitOf rated reserve stored rating kva «idle_loss» «var_request» weight inverter charge discharge priority provide absorb) seconds request) r watts vars after loss ⌝ }
+    ensures { λ r. ⌜ StepTold edition (unitOf rated reserve stored rating kva «idle_loss» «var_request» weight inverter charge discharge priority provide absorb) seconds request r watts vars after loss ⌝ }
 {
     let u = Unit {
         rated,
@@ -306,12 +305,12 @@ pub extern "C" fn yb_solar(
     irradiance: f64,
     temperature: f64,
     on: u8,
-    on_after: &mut u8,
+    after: &mut u8,
     watts: &mut i32,
     vars: &mut i32,
     dc: &mut u64,
 ) -> u32
-    ensures { λ r. ⌜ LitTold (litLent (inverterOf array kva «cut_in» «cut_out» limit «var_request» priority) «warm_x» «warm_y» «eff_x» «eff_y» on irradiance temperature) r «on_after» watts vars dc ⌝ }
+    ensures { λ r. ⌜ LitTold (litLent (inverterOf array kva «cut_in» «cut_out» limit «var_request» priority) «warm_x» «warm_y» «eff_x» «eff_y» on irradiance temperature) r after watts vars dc ⌝ }
 {
     let v = Inverter {
         array,
@@ -330,7 +329,7 @@ pub extern "C" fn yb_solar(
         Lit::Done(g) => {
             let given = g.watts;
             let side = g.vars;
-            *on_after = g.on as u8;
+            *after = g.on as u8;
             *watts = given;
             *vars = side;
             *dc = g.dc;

@@ -13,8 +13,8 @@ step-requires c κs = search needs
 enum-known-g : tie.Need-enum-known-g
 enum-known-g c = search needs
 
-cast-on-after : tie.Need-cast-on-after
-cast-on-after c = search needs
+cast-after : tie.Need-cast-after
+cast-after c = search needs
 
 enum-known-n : tie.Need-enum-known-n
 enum-known-n c = search needs
@@ -28,7 +28,7 @@ returns c =
     let d = q .before .before in
     let s = d .before in
     let a = s .args in
-    lit-done (λ (v : ℤ). inverterOf (a .array) (a .kva) (a .cut-in) (a .cut-out) (a .limit) v (a .priority)) (listsOf (a .warm-x .now) (a .warm-y .now) (a .eff-x .now) (a .eff-y .now)) (a .on) (weatherOf (a .irradiance) (a .temperature)) (a .var-request) (s .fits .var-request .sfits) (d .step .result) (d .step .ensures) (a .on-after .now) (a .watts .now) (a .vars .now) (a .dc .now) (q .g .given .0 .0) (q .g .given .1) (c .before .struct-told2 .given .1 .0 .1) (c .before .struct-told2 .given .1 .1 .0 .1)
+    lit-done (λ (v : ℤ). inverterOf (a .array) (a .kva) (a .cut-in) (a .cut-out) (a .limit) v (a .priority)) (listsOf (a .warm-x .now) (a .warm-y .now) (a .eff-x .now) (a .eff-y .now)) (a .on) (weatherOf (a .irradiance) (a .temperature)) (a .var-request) (s .fits .var-request .sfits) (d .step .result) (d .step .ensures) (a .after .now) (a .watts .now) (a .vars .now) (a .dc .now) (q .g .given .0 .0) (q .g .given .1) (c .before .struct-told2 .given .1 .0 .1) (c .before .struct-told2 .given .1 .1 .0 .1)
 
 returns-2 : tie.Need-returns-2
 returns-2 c =
@@ -36,9 +36,9 @@ returns-2 c =
     let d = q .before .before in
     let s = d .before in
     let a = s .args in
-    lit-refused (λ (v : ℤ). inverterOf (a .array) (a .kva) (a .cut-in) (a .cut-out) (a .limit) v (a .priority)) (listsOf (a .warm-x .now) (a .warm-y .now) (a .eff-x .now) (a .eff-y .now)) (a .on) (weatherOf (a .irradiance) (a .temperature)) (a .var-request) (s .fits .var-request .sfits) (d .step .result) (d .step .ensures) (a .on-after .now) (a .watts .now) (a .vars .now) (a .dc .now) (q .n .given .0 .0) (q .n .given .1)
+    lit-refused (λ (v : ℤ). inverterOf (a .array) (a .kva) (a .cut-in) (a .cut-out) (a .limit) v (a .priority)) (listsOf (a .warm-x .now) (a .warm-y .now) (a .eff-x .now) (a .eff-y .now)) (a .on) (weatherOf (a .irradiance) (a .temperature)) (a .var-request) (s .fits .var-request .sfits) (d .step .result) (d .step .ensures) (a .after .now) (a .watts .now) (a .vars .now) (a .dc .now) (q .n .given .0 .0) (q .n .given .1)
 
 pub yb-solar-spec : {M : Type 1} → statement M
 yb-solar-spec =
     tie.close
-    (tie.spec step-requires enum-known-g cast-on-after enum-known-n cast-result returns returns-2)
+    (tie.spec step-requires enum-known-g cast-after enum-known-n cast-result returns returns-2)
