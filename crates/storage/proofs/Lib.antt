@@ -1,6 +1,4 @@
 -- Laws about the definitions of `specs/`, for this crate's proofs and for those above it; and what a planner relies on, proved from them.
-pub mod EnergyLaws
-pub mod LimitLaws
 pub mod GridLaws
 pub mod StepLaws
 pub mod ReliedLaws

@@ -22,7 +22,8 @@ use Rattle.storage.specs.declared.Flow.{Flow}
 use Rattle.storage.specs.declared.Flow.the-variants.{Out, In, Idle}
 use Rattle.unit.specs.Ranges.{idleDraw}
 use Rattle.storage.specs.Relied.{Balanced, Conserved}
-use Rattle.storage.specs.Step.{limitedVars, heldSize, removedBy, addedBy, takeable, charged, flowOf, gridLoss, inverterWatts, gridWatts, storedOf, lossOf, varsOf, outcomeOf}
+use Rattle.energy.specs.Limits.{limitedVars, heldSize, removedBy, addedBy, takeable, gridLoss, varsOf}
+use Rattle.storage.specs.Step.{charged, flowOf, inverterWatts, gridWatts, storedOf, lossOf, outcomeOf}
 
 -- ---- the vars leave the watts in the circle
 pub vars-in-circle : (u : Unit) (watts : ℤ) → natAbs watts ≤ u .kva

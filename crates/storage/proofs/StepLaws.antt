@@ -16,9 +16,9 @@ use Rattle.whole.proofs.SignLaws.{read, size-neg}
 use Rattle.whole.specs.Largest.{largest}
 use Rattle.whole.specs.Signed.{negative}
 use Rattle.unit.proofs.RangeLaws.{Bounds, bounds}
-use Rattle.storage.proofs.EnergyLaws.{energy-fits, removed-covers, added-covered}
+use Rattle.energy.proofs.EnergyLaws.{energy-fits, removed-covers, added-covered}
 use Rattle.storage.proofs.GridLaws.{draw-more}
-use Rattle.storage.proofs.LimitLaws.{held-read, held-most, deliverable-most, deliverable-within, takeable-most, takeable-within}
+use Rattle.energy.proofs.LimitLaws.{held-read, held-most, deliverable-most, deliverable-within, takeable-most, takeable-within}
 use Rattle.unit.specs.declared.Unit.{Unit}
 use Rattle.storage.specs.declared.Flow.{Flow}
 use Rattle.storage.specs.declared.Flow.the-variants.{Out, In, Idle}
@@ -28,7 +28,8 @@ use Rattle.storage.specs.declared.Stepped.the-variants.{Done, RefusedBy}
 use Rattle.unit.specs.Ranges.{idleDraw, unitIn, secondsIn, editionIn, inEdition, Ranged}
 use Rattle.storage.specs.Ranges.{stepRefusal}
 use Rattle.storage.specs.Posts.{Carried, Moving, movedBy, moveBy, idleVars, restDraw, restOf}
-use Rattle.storage.specs.Step.{removedBy, addedBy, deliverable, takeable, heldSize, outFlow, discharged, charged, flowOf, gridLoss, inverterWatts, gridWatts, varsOf, storedOf, lossOf, outcomeOf, stepOf, steppedOf, steppedAs}
+use Rattle.energy.specs.Limits.{removedBy, addedBy, deliverable, takeable, heldSize, gridLoss, varsOf}
+use Rattle.storage.specs.Step.{outFlow, discharged, charged, flowOf, inverterWatts, gridWatts, storedOf, lossOf, outcomeOf, stepOf, steppedOf, steppedAs}
 
 -- ---- what flows, case by case
 module _ (u : Unit) (s p : ℕ) where

@@ -3,5 +3,4 @@ pub mod Ranges
 pub mod Step
 pub mod Answers
 pub mod Relied
-pub mod Editions
 pub mod Posts

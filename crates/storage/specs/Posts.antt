@@ -11,7 +11,8 @@ use Rattle.storage.specs.declared.Move.{Move}
 use Rattle.storage.specs.declared.Outcome.{Outcome}
 use Rattle.unit.specs.Ranges.{idleDraw, Ranged}
 use Rattle.unit.specs.Rows.{unitBy, drawBy, varsBy}
-use Rattle.storage.specs.Step.{removedBy, addedBy, inverterWatts, varsOf}
+use Rattle.energy.specs.Limits.{removedBy, addedBy, varsOf}
+use Rattle.storage.specs.Step.{inverterWatts}
 
 -- a flow that the unit can carry: at most S, and no more than the store holds above 0 or has room for
 abbrev pub Carried : Unit → ℕ → Flow → Type 0

@@ -7,8 +7,6 @@ ghost use Rattle.unit.specs.Ranges.{Ranged};
 ghost use Rattle.storage.specs.Posts.{Moving, moveBy};
 use super::Flow;
 use super::Move;
-use super::energy;
-use super::limits;
 use unit::Unit;
 
 // What moves where the unit idles.
@@ -103,7 +101,7 @@ pub fn flow(u: Unit, seconds: u32, request: i32) -> Move
     requires { ⌜ Ranged u seconds ⌝ }
     ensures { λ r. ⌜ r ≡ moveBy u seconds (flowOf u seconds request) ⌝ }
 {
-    let p = limits::held(u, request) as u64;
+    let p = energy::held(u, request) as u64;
     if request < 0 {
         return charge(u, seconds, p);
     }

@@ -1,8 +1,6 @@
 // One step of a storage unit. Power is whole watts, positive for discharge; energy is whole joules;
 // efficiencies are parts in 10,000.
-mod energy;
 mod flows;
-mod limits;
 mod rows;
 mod steps;
 

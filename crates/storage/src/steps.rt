@@ -7,7 +7,6 @@ ghost use Rattle.storage.specs.Posts.{idleVars, restOf};
 use super::Outcome;
 use super::Stepped;
 use super::flows;
-use super::limits;
 use unit::Unit;
 
 // One step of a unit that is in its ranges.
@@ -22,7 +21,7 @@ pub fn step_within(u: Unit, seconds: u32, request: i32) -> Outcome
     let lost = (u.grid_loss as u64) * (seconds as u64);
     Outcome {
         watts: flows::at_grid(u, carried),
-        vars: limits::vars(u, carried),
+        vars: energy::vars(u, carried),
         stored: flows::stored(u, seconds, flow, moved),
         loss: flows::loss(u, seconds, flow, moved) + lost,
     }
@@ -33,7 +32,7 @@ pub fn idle_vars(u: Unit) -> i32
     requires { ⌜ unitIn u ≡ true ⌝ }
     ensures { λ r. ⌜ r ≡ idleVars u ⌝ }
 {
-    limits::vars(u, whole::signed32(true, unit::idle_draw(u) as u32))
+    energy::vars(u, whole::signed32(true, unit::idle_draw(u) as u32))
 }
 
 // One step of a unit that is asked nothing, by what it draws while it idles, its vars then, and what

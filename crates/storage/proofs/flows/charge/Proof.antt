@@ -3,10 +3,10 @@ use borrow.Author.Needs.{needs}
 use mathlib.Core.Path.{sym, ap, _∙_, subst}
 use Prim.Native.Nat.{ℕ, _-_, _≤_}
 use Rattle.unit.proofs.RangeLaws.{bounds}
-use Rattle.storage.proofs.LimitLaws.{takeable-all}
+use Rattle.energy.proofs.LimitLaws.{takeable-all}
 use Rattle.storage.proofs.StepLaws.{charged-none, charged-some, in-moves}
 use Rattle.storage.specs.Posts.{moveBy}
-use Rattle.storage.specs.Step.{addedBy}
+use Rattle.energy.specs.Limits.{addedBy}
 use Rattle.storage.proofs.flows.charge.Statement.{statement}
 use Rattle.storage.proofs.flows.charge.Tie as tie
 

@@ -3,7 +3,7 @@
 use borrow.Author.Needs.{needs}
 use mathlib.Core.Path.{ap, _∙_}
 use native.Mathlib.Omega.{arith}
-use Rattle.storage.proofs.LimitLaws.{takeable-most}
+use Rattle.energy.proofs.LimitLaws.{takeable-most}
 use Rattle.storage.proofs.StepLaws.{charged-none, charged-some, in-moves}
 use Rattle.storage.specs.Posts.{moveBy}
 use Rattle.storage.proofs.flows.charge_less.Statement.{statement}

@@ -3,7 +3,7 @@
 use borrow.Author.Needs.{needs}
 use mathlib.Core.Path.{ap, _∙_, subst}
 use Prim.Native.Nat.{ℕ, _-_, _≤_}
-use Rattle.storage.proofs.LimitLaws.{deliverable-all}
+use Rattle.energy.proofs.LimitLaws.{deliverable-all}
 use Rattle.storage.proofs.StepLaws.{discharged-nothing, discharged-below, discharged-some, out-moves}
 use Rattle.storage.specs.Posts.{moveBy}
 use Rattle.storage.proofs.flows.discharge.Statement.{statement}

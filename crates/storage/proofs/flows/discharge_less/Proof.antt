@@ -3,7 +3,7 @@
 use borrow.Author.Needs.{needs}
 use mathlib.Core.Path.{ap, _∙_}
 use native.Mathlib.Omega.{arith}
-use Rattle.storage.proofs.LimitLaws.{deliverable-most}
+use Rattle.energy.proofs.LimitLaws.{deliverable-most}
 use Rattle.storage.proofs.StepLaws.{discharged-none, discharged-some, out-moves}
 use Rattle.storage.specs.Posts.{moveBy}
 use Rattle.storage.proofs.flows.discharge_less.Statement.{statement}

@@ -7,10 +7,10 @@ use native.Mathlib.Nat.{mul-le-mul, lt-of-le-of-lt, lt-of-lt-of-le}
 use native.Mathlib.Omega.{arith}
 use lib.Dec.{lit<}
 use Rattle.unit.proofs.RangeLaws.{bounds}
-use Rattle.storage.proofs.EnergyLaws.{keepable-most}
-use Rattle.storage.proofs.LimitLaws.{takeable-is}
-use Rattle.storage.proofs.energy.take_in.Statement.{statement}
-use Rattle.storage.proofs.energy.take_in.Tie as tie
+use Rattle.energy.proofs.EnergyLaws.{keepable-most}
+use Rattle.energy.proofs.LimitLaws.{takeable-is}
+use Rattle.energy.proofs.energy.take_in.Statement.{statement}
+use Rattle.energy.proofs.energy.take_in.Tie as tie
 
 sub-room : tie.Need-sub-room
 sub-room c = let b = bounds (c .before .pre) in omega arith

@@ -1,9 +1,9 @@
 -- The size of the var request, brought down to the limit for its direction.
 use borrow.Author.Needs.{needs}
 use mathlib.Core.Bool.{true, false}
-use Rattle.storage.proofs.LimitLaws.{limited-by}
-use Rattle.storage.proofs.limits.limited.Statement.{statement}
-use Rattle.storage.proofs.limits.limited.Tie as tie
+use Rattle.energy.proofs.LimitLaws.{limited-by}
+use Rattle.energy.proofs.limits.limited.Statement.{statement}
+use Rattle.energy.proofs.limits.limited.Tie as tie
 
 size32-requires : tie.Need-size32-requires
 size32-requires c κs = search needs

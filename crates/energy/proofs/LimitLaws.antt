@@ -18,10 +18,10 @@ use Rattle.whole.proofs.SignLaws.{read}
 use Rattle.whole.specs.Circle.{wattsIn, varsIn}
 use Rattle.whole.specs.Signed.{negative}
 use Rattle.unit.proofs.RangeLaws.{Bounds}
-use Rattle.storage.proofs.EnergyLaws.{removed-test, added-test, added-none, drawn-none, drawable-most}
+use Rattle.energy.proofs.EnergyLaws.{removed-test, added-test, added-none, drawn-none, drawable-most}
 use Rattle.unit.specs.declared.Unit.{Unit}
-use Rattle.storage.specs.Step.{limitedVars, heldSize, varsOf, removedBy, addedBy, deliverable, takeable}
-use Rattle.storage.specs.Editions.{varsWithin, AsBefore}
+use Rattle.energy.specs.Limits.{limitedVars, heldSize, varsOf, removedBy, addedBy, deliverable, takeable}
+use Rattle.energy.specs.Editions.{varsWithin, AsBefore}
 
 -- ---- v, from what the code has: by the limit for the request's own direction
 module _ (u : Unit) (h : mag (u .«var_request») < 2 ^ 31) (size : ℕ) (es : size ≡ natAbs (toZ w32 (ofZ w32 (u .«var_request»))))

@@ -1,8 +1,8 @@
 -- The circle's watts, of the request's size beside the limited vars.
 use borrow.Author.Needs.{needs}
-use Rattle.storage.proofs.LimitLaws.{held-is}
-use Rattle.storage.proofs.limits.held.Statement.{statement}
-use Rattle.storage.proofs.limits.held.Tie as tie
+use Rattle.energy.proofs.LimitLaws.{held-is}
+use Rattle.energy.proofs.limits.held.Statement.{statement}
+use Rattle.energy.proofs.limits.held.Tie as tie
 
 limited-requires : tie.Need-limited-requires
 limited-requires c κs = search needs

@@ -2,10 +2,10 @@
 use borrow.Author.Needs.{needs}
 use native.Mathlib.Omega.{arith}
 use Rattle.unit.proofs.RangeLaws.{bounds}
-use Rattle.storage.proofs.EnergyLaws.{drawn-most, removed-room}
-use Rattle.storage.specs.Step.{removedBy}
-use Rattle.storage.proofs.energy.removed.Statement.{statement}
-use Rattle.storage.proofs.energy.removed.Tie as tie
+use Rattle.energy.proofs.EnergyLaws.{drawn-most, removed-room}
+use Rattle.energy.specs.Limits.{removedBy}
+use Rattle.energy.proofs.energy.removed.Statement.{statement}
+use Rattle.energy.proofs.energy.removed.Tie as tie
 
 mul-ceil : tie.Need-mul-ceil
 mul-ceil c = search needs

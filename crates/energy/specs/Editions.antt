@@ -5,7 +5,7 @@ use lib.IntN.{ℤ, natAbs}
 use Rattle.whole.specs.Circle.{wattsIn, varsIn}
 use Rattle.whole.specs.Signed.{negative}
 use Rattle.unit.specs.declared.Unit.{Unit}
-use Rattle.storage.specs.Step.{heldSize, varsOf}
+use Rattle.energy.specs.Limits.{heldSize, varsOf}
 
 -- the size of the var request, at most S
 abbrev pub varsWithin : Unit → ℕ

@@ -1,7 +1,7 @@
 ghost use mathlib.Core.Path.{_≡_};
 ghost use Prim.Native.Nat.{_≤_};
 ghost use lib.IntN.{natAbs};
-ghost use Rattle.storage.specs.Step.{limitedVars, heldSize, varsOf};
+ghost use Rattle.energy.specs.Limits.{limitedVars, heldSize, varsOf};
 use unit::Unit;
 
 // The size of the var request, at most the limit for its direction.

@@ -6,10 +6,10 @@ use Prim.Native.Nat.{_-_, _*_, _≤_}
 use native.Mathlib.Nat.{mul-le-mul, le-of-lt}
 use native.Mathlib.Omega.{arith}
 use Rattle.unit.proofs.RangeLaws.{bounds}
-use Rattle.storage.proofs.EnergyLaws.{delivered-room}
-use Rattle.storage.proofs.LimitLaws.{deliverable-is, deliverable-none, deliverable-empty}
-use Rattle.storage.proofs.energy.deliver.Statement.{statement}
-use Rattle.storage.proofs.energy.deliver.Tie as tie
+use Rattle.energy.proofs.EnergyLaws.{delivered-room}
+use Rattle.energy.proofs.LimitLaws.{deliverable-is, deliverable-none, deliverable-empty}
+use Rattle.energy.proofs.energy.deliver.Statement.{statement}
+use Rattle.energy.proofs.energy.deliver.Tie as tie
 
 returns : tie.Need-returns
 returns c =

@@ -3,9 +3,9 @@ use borrow.Author.Needs.{needs}
 use mathlib.Core.Path.{_∙_}
 use mir.Syntax.{w32}
 use Rattle.whole.proofs.SignLaws.{read}
-use Rattle.storage.proofs.LimitLaws.{vars-are}
-use Rattle.storage.proofs.limits.vars.Statement.{statement}
-use Rattle.storage.proofs.limits.vars.Tie as tie
+use Rattle.energy.proofs.LimitLaws.{vars-are}
+use Rattle.energy.proofs.limits.vars.Statement.{statement}
+use Rattle.energy.proofs.limits.vars.Tie as tie
 
 below-zero32-requires : tie.Need-below-zero32-requires
 below-zero32-requires c κs = search needs

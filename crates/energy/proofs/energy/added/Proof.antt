@@ -6,10 +6,10 @@ use native.Mathlib.Nat.{mul-le-mul, lt-of-le-of-lt}
 use native.Mathlib.Omega.{arith}
 use lib.Dec.{lit<}
 use Rattle.unit.proofs.RangeLaws.{bounds}
-use Rattle.storage.proofs.EnergyLaws.{added-room, added-none}
-use Rattle.storage.specs.Step.{addedBy}
-use Rattle.storage.proofs.energy.added.Statement.{statement}
-use Rattle.storage.proofs.energy.added.Tie as tie
+use Rattle.energy.proofs.EnergyLaws.{added-room, added-none}
+use Rattle.energy.specs.Limits.{addedBy}
+use Rattle.energy.proofs.energy.added.Statement.{statement}
+use Rattle.energy.proofs.energy.added.Tie as tie
 
 cast-d : tie.Need-cast-d
 cast-d c = search needs

@@ -1,6 +1,6 @@
 ghost use mathlib.Core.Path.{_≡_};
 ghost use Prim.Native.Nat.{_≤_};
-ghost use Rattle.storage.specs.Step.{removedBy, addedBy, deliverable, takeable};
+ghost use Rattle.energy.specs.Limits.{removedBy, addedBy, deliverable, takeable};
 ghost use Rattle.unit.specs.Ranges.{Ranged};
 use unit::Unit;
 
