@@ -12,8 +12,8 @@ use Rattle.whole.proofs.OverLaws.{and-parts}
 use Rattle.unit.specs.declared.Unit.{Unit}
 use Rattle.unit.specs.Ranges.{memberIn, unitIn}
 use Rattle.unit.specs.Rows.{unitsBy, storesBy}
-use Rattle.controller.specs.Ranges.{fleetFor, memberAt, lengthsOk, lengthsIn}
-use Rattle.controller.specs.Posts.{fleetBy}
+use Rattle.members.specs.Ranges.{fleetFor, memberAt, lengthsOk, lengthsIn}
+use Rattle.members.specs.Posts.{fleetBy}
 use Rattle.controller.proofs.SoundLaws.{same-lengths}
 use Rattle.site.specs.Site.{noUnit, count, unitOf}
 use Rattle.stick.specs.Site.{siteOf}

@@ -6,8 +6,8 @@ use Prim.Native.Nat.{ℕ}
 use lib.IntN.{ℤ}
 use lib.ListN.{length}
 use Rattle.whole.specs.Over.{allOf}
-use Rattle.controller.specs.declared.Settings.{Settings}
-use Rattle.controller.specs.Ranges.{memberAt, lengthsIn}
+use Rattle.rules.specs.declared.Settings.{Settings}
+use Rattle.members.specs.Ranges.{memberAt, lengthsIn}
 use Rattle.settling.specs.declared.Trial.{Trial}
 use Rattle.settling.specs.declared.Studied.{Studied}
 use Rattle.settling.specs.declared.StudyAnswer.the-variants.{StudyDone, StudyRefused}

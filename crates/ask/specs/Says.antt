@@ -8,7 +8,7 @@ use lib.IntN.{ℤ}
 use lib.ListN.{length}
 use Rattle.whole.specs.Call.{Call, Gave, Refused, Refusal}
 use Rattle.unit.specs.declared.Unit.{Unit}
-use Rattle.controller.specs.Ranges.{Fleet, fleetFor}
+use Rattle.members.specs.Ranges.{Fleet, fleetFor}
 use Rattle.settling.specs.declared.Trial.{Trial}
 use Rattle.settling.specs.declared.Studied.{Studied}
 use Rattle.settling.specs.declared.StudyAnswer.{StudyAnswer}

@@ -23,7 +23,7 @@ fn study_with(
 {
     stick::load(file, rows);
     unit::stores(rows, stored);
-    let t = controller::summed(rows);
+    let t = members::summed(rows);
     settling::settle_within(q, t, rows, stored, requests)
 }
 

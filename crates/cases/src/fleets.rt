@@ -1,10 +1,10 @@
 ghost use Prim.Native.Nat.{_≤_};
 ghost use lib.ListN.{length};
-ghost use Rattle.controller.specs.Ranges.{fleetOf};
-ghost use Rattle.controller.specs.Posts.{SameLengths};
+ghost use Rattle.members.specs.Ranges.{fleetOf};
+ghost use Rattle.members.specs.Posts.{SameLengths};
 use super::say;
 use controller::PassAnswer;
-use controller::Settings;
+use rules::Settings;
 use settling::StudyAnswer;
 use settling::Trial;
 

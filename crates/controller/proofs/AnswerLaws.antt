@@ -7,11 +7,14 @@ use lib.Dec.{eqb, eqb·suc-zero}
 use lib.IntN.{ℤ}
 use lib.ListN.{length}
 use Rattle.whole.specs.Over.{allOf}
-use Rattle.controller.specs.declared.Settings.{Settings}
+use Rattle.rules.specs.declared.Settings.{Settings}
 use Rattle.controller.specs.declared.Passed.{Passed}
 use Rattle.controller.specs.declared.PassAnswer.the-variants.{PassDone, PassRefused}
-use Rattle.controller.specs.Ranges.{Fleet, settingsIn, measureIn, memberAt, lengthsIn, requestsIn, passRefusal}
-use Rattle.controller.specs.Pass.{passOf, changedOf}
+use Rattle.rules.specs.Ranges.{settingsIn, measureIn}
+use Rattle.members.specs.Ranges.{Fleet, memberAt, lengthsIn, requestsIn}
+use Rattle.controller.specs.Ranges.{passRefusal}
+use Rattle.members.specs.Sums.{changedOf}
+use Rattle.controller.specs.Pass.{passOf}
 use Rattle.controller.specs.Posts.{DonePass}
 use Rattle.controller.specs.Answers.{reportOf, passAnswer, passLeaves}
 

@@ -10,10 +10,12 @@ use lib.Signed.{ltZ}
 use Rattle.whole.specs.Over.{each}
 use Rattle.whole.proofs.Choice.{by-test}
 use Rattle.whole.proofs.OverLaws.{none-of, each-length, each-at}
-use Rattle.controller.specs.declared.Settings.{Settings}
-use Rattle.controller.specs.Ranges.{Fleet, someAbove, someBelow}
+use Rattle.rules.specs.declared.Settings.{Settings}
+use Rattle.members.specs.Ranges.{Fleet, someAbove, someBelow}
 use Rattle.controller.specs.OneSign.{OneSign, OneSignLaw}
-use Rattle.controller.specs.Pass.{total, charges, needOf, rests, spent, allInBand, shareOf, limited, withMode, unableAt, requestAfter, passOf}
+use Rattle.rules.specs.Rules.{charges, shareOf, limited, withMode}
+use Rattle.members.specs.Sums.{total, unableAt}
+use Rattle.controller.specs.Pass.{needOf, rests, spent, allInBand, requestAfter, passOf}
 
 left-none : (a b : Bool) → a ≡ false → (a && b) ≡ false
 left-none a b e = ap (λ (x : Bool). x && b) e

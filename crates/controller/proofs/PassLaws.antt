@@ -13,15 +13,20 @@ use Rattle.whole.specs.Over.{each}
 use Rattle.whole.proofs.OverLaws.{sum-upto, none-of}
 use Rattle.unit.specs.declared.Unit.{Unit}
 use Rattle.unit.proofs.RowLaws.{column-count}
-use Rattle.controller.specs.declared.Settings.{Settings}
-use Rattle.controller.specs.declared.Asked.{Asked}
+use Rattle.rules.specs.declared.Settings.{Settings}
+use Rattle.rules.specs.declared.Asked.{Asked}
 use Rattle.controller.specs.declared.Passed.{Passed}
-use Rattle.controller.specs.declared.Totals.{Totals}
-use Rattle.controller.specs.Ranges.{Fleet, someAbove, someBelow}
-use Rattle.controller.specs.Pass.{total, charges, plainNeed, sumOfAll, needOf, rests, unable, spent, inBand, allInBand, requestAfter, passOf, differ, changedOf}
-use Rattle.controller.specs.Posts.{AskedOf, SameLengths, TotalsOf, Sharing, Sound, DonePass, fleetBy, columnBy, needFrom, restsBy, spentBy, sharedBy}
-use Rattle.controller.proofs.DifferLaws.{same-same}
-use Rattle.controller.proofs.RuleLaws.{back64, read-sized, need-size, rests-is, band-is}
+use Rattle.members.specs.declared.Totals.{Totals}
+use Rattle.members.specs.Ranges.{Fleet, someAbove, someBelow}
+use Rattle.rules.specs.Rules.{charges, plainNeed, unable, inBand}
+use Rattle.members.specs.Sums.{total, sumOfAll, differ, changedOf}
+use Rattle.controller.specs.Pass.{needOf, rests, spent, allInBand, requestAfter, passOf}
+use Rattle.rules.specs.Posts.{needFrom, restsBy}
+use Rattle.members.specs.Posts.{AskedOf, SameLengths, TotalsOf, Sharing, fleetBy, columnBy, spentBy, sharedBy}
+use Rattle.controller.specs.Posts.{Sound, DonePass}
+use Rattle.members.proofs.DifferLaws.{same-same}
+use Rattle.controller.proofs.AlikeLaws.{rests-is, band-is}
+use Rattle.rules.proofs.RuleLaws.{back64, read-sized, need-size}
 
 -- a fleet's sums
 pub record TotalsFor (f : Fleet) (n : ℕ) (t : Totals) : Type 0 where

@@ -19,11 +19,13 @@ use Rattle.unit.specs.Ranges.{memberIn, unitIn}
 use Rattle.unit.specs.Rows.{unitBy}
 use Rattle.unit.proofs.RangeLaws.{Bounds, bounds}
 use Rattle.unit.proofs.RowLaws.{column-count}
-use Rattle.controller.specs.declared.Settings.{Settings}
+use Rattle.rules.specs.declared.Settings.{Settings}
 use Rattle.whole.specs.Interval.{between}
-use Rattle.controller.specs.Ranges.{Fleet, settingsIn, measureIn, memberAt, lengthsOk, lengthsIn}
-use Rattle.controller.proofs.ColumnLaws.{column-is}
-use Rattle.controller.specs.Posts.{SameLengths, Addable, Sound, fleetBy, columnBy}
+use Rattle.rules.specs.Ranges.{settingsIn, measureIn}
+use Rattle.members.specs.Ranges.{Fleet, memberAt, lengthsOk, lengthsIn}
+use Rattle.members.proofs.ColumnLaws.{column-is}
+use Rattle.members.specs.Posts.{SameLengths, Addable, fleetBy, columnBy}
+use Rattle.controller.specs.Posts.{Sound}
 
 -- ---- lengths
 record Lengths (a b c d e n : ℕ) : Type 0 where

@@ -7,9 +7,10 @@ use lib.IntN.{ℤ, pos}
 use lib.ListN.{length}
 use Rattle.whole.specs.Over.{each}
 use Rattle.whole.proofs.OverLaws.{each-length}
-use Rattle.controller.specs.declared.Settings.{Settings}
-use Rattle.controller.specs.Ranges.{Fleet}
-use Rattle.controller.specs.Pass.{charges, needOf, rests, spent, allInBand, requestAfter, passOf}
+use Rattle.rules.specs.declared.Settings.{Settings}
+use Rattle.members.specs.Ranges.{Fleet}
+use Rattle.rules.specs.Rules.{charges}
+use Rattle.controller.specs.Pass.{needOf, rests, spent, allInBand, requestAfter, passOf}
 
 kept-length : (a b c : Bool) (rs x y : List ℤ) → length x ≡ length rs → length y ≡ length rs → length (cond a rs (cond b x (cond c rs y))) ≡ length rs
 kept-length true b c rs x y p q = refl

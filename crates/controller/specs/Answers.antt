@@ -5,12 +5,14 @@ use mathlib.Core.List.{List}
 use lib.Dec.{eqb}
 use lib.IntN.{ℤ}
 use Rattle.whole.specs.Call.{Call, Gave, Refused, refusal}
-use Rattle.controller.specs.declared.Settings.{Settings}
+use Rattle.rules.specs.declared.Settings.{Settings}
 use Rattle.controller.specs.declared.Passed.{Passed}
 use Rattle.controller.specs.declared.PassAnswer.{PassAnswer}
 use Rattle.controller.specs.declared.PassAnswer.the-variants.{PassDone, PassRefused}
-use Rattle.controller.specs.Ranges.{Fleet, passRefusal}
-use Rattle.controller.specs.Pass.{needOf, passOf, changedOf}
+use Rattle.members.specs.Ranges.{Fleet}
+use Rattle.controller.specs.Ranges.{passRefusal}
+use Rattle.members.specs.Sums.{changedOf}
+use Rattle.controller.specs.Pass.{needOf, passOf}
 
 -- what it reports
 unfoldable pub reportOf : Settings → ℤ → Fleet → List ℤ → Passed

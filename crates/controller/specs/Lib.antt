@@ -1,4 +1,4 @@
--- The controller: settings and ranges, and one pass.
+-- The controller: one pass, and what it refuses.
 pub mod Ranges
 pub mod Pass
 pub mod OneSign

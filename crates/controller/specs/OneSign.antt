@@ -3,8 +3,8 @@ use mathlib.Core.Bool.{false, _&&_}
 use mathlib.Core.List.{List}
 use mathlib.Core.Path.{_≡_}
 use lib.IntN.{ℤ}
-use Rattle.controller.specs.declared.Settings.{Settings}
-use Rattle.controller.specs.Ranges.{Fleet, someAbove, someBelow}
+use Rattle.rules.specs.declared.Settings.{Settings}
+use Rattle.members.specs.Ranges.{Fleet, someAbove, someBelow}
 use Rattle.controller.specs.Pass.{passOf}
 
 -- not requests of both signs

@@ -1,77 +1,13 @@
--- A fleet as the controller sees it, the ranges of its settings and measure (rules Q17 to Q20 and Q23), and what a pass without a file refuses, in the
--- order of rule N15: lengths (10), values (5), then requests (10).
+-- What a pass without a file refuses, in the order of rule N15: lengths (10), values (5), then requests (10).
 use Prim.Native.Nat.{ℕ}
-use mathlib.Core.Bool.{Bool, not, cond, _&&_}
-use mathlib.Core.List.{List, map}
-use lib.Dec.{leb, eqb}
-use lib.IntN.{ℤ, pos, natAbs}
-use lib.ListN.{length, getD}
-use lib.Signed.{ltZ}
-use Rattle.whole.specs.Interval.{between}
-use Rattle.whole.specs.Over.{allOf, someOf}
-use Rattle.unit.specs.declared.Unit.{Unit}
-use Rattle.unit.specs.Ranges.{memberIn}
-use Rattle.controller.specs.declared.Settings.{Settings}
-
--- the lists that are lent for a fleet, an element for each unit
-pub record Fleet : Type 0 where
-  pub rated : List ℕ
-  pub reserve : List ℕ
-  pub stored : List ℕ
-  pub rating : List ℕ
-  pub weight : List ℕ
-
-abbrev pub fleetOf : List ℕ → List ℕ → List ℕ → List ℕ → List ℕ → Fleet
-fleetOf a b c d e = record { rated = a; reserve = b; stored = c; rating = d; weight = e }
-
--- the fleet of these units, with so much stored in each
-abbrev pub fleetFor : List Unit → List ℕ → Fleet
-fleetFor units stored =
-    fleetOf (map (λ (u : Unit). u .rated) units) (map (λ (u : Unit). u .reserve) units) stored (map (λ (u : Unit). u .rating) units)
-    (map (λ (u : Unit). u .weight) units)
-
--- the settings of a pass: mode 1 to 3, target -10^8 to 10^8 W, band 0 to 2 × 10^8 W, factor 1 to 1,000 thousandths
-unfoldable pub settingsIn : Settings → Bool
-settingsIn s =
-    between 1 3 (s .mode) && leb (natAbs (s .target)) 100000000 && leb (s .band) 200000000 && between 1 1000 (s .factor)
-
--- a measure handed straight to a pass: -3 × 10^8 to 3 × 10^8 W
-unfoldable pub measureIn : ℤ → Bool
-measureIn m = leb (natAbs m) 300000000
-
--- unit i's values
-unfoldable pub memberAt : Fleet → ℕ → Bool
-unfolding memberIn
-memberAt f i = memberIn (getD (f .rated) i 0) (getD (f .reserve) i 0) (getD (f .stored) i 0) (getD (f .rating) i 0) (getD (f .weight) i 0)
-
--- lent lists of equal length, 1 to 64
-unfoldable pub lengthsOk : ℕ → ℕ → ℕ → ℕ → ℕ → ℕ → Bool
-lengthsOk rated reserve stored rating weight n =
-    between 1 64 n && eqb rated n && eqb reserve n && eqb stored n && eqb rating n && eqb weight n
-
-abbrev pub lengthsIn : Fleet → ℕ → Bool
-lengthsIn f n = lengthsOk (length (f .rated)) (length (f .reserve)) (length (f .stored)) (length (f .rating)) (length (f .weight)) n
-
--- some request is above 0; some is below 0
-unfoldable pub someAbove : List ℤ → Bool
-unfolding someOf
-someAbove rs = someOf (length rs) (λ (i : ℕ). ltZ (pos 0) (getD rs i (pos 0)))
-
-unfoldable pub someBelow : List ℤ → Bool
-unfolding someOf
-someBelow rs = someOf (length rs) (λ (i : ℕ). ltZ (getD rs i (pos 0)) (pos 0))
-
--- no request beyond its rating in size, and not requests of both signs
-unfoldable pub withinRatings : List ℕ → List ℤ → Bool
-unfolding allOf
-withinRatings rating rs = allOf (length rs) (λ (i : ℕ). leb (natAbs (getD rs i (pos 0))) (getD rating i 0))
-
-unfoldable pub requestsOk : List ℕ → List ℤ → Bool
-unfolding withinRatings someAbove someBelow
-requestsOk rating rs = withinRatings rating rs && not (someAbove rs && someBelow rs)
-
-abbrev pub requestsIn : Fleet → List ℤ → Bool
-requestsIn f rs = requestsOk (f .rating) rs
+use mathlib.Core.Bool.{not, cond, _&&_}
+use mathlib.Core.List.{List}
+use lib.IntN.{ℤ}
+use lib.ListN.{length}
+use Rattle.whole.specs.Over.{allOf}
+use Rattle.rules.specs.declared.Settings.{Settings}
+use Rattle.rules.specs.Ranges.{settingsIn, measureIn}
+use Rattle.members.specs.Ranges.{Fleet, memberAt, lengthsOk, lengthsIn, requestsOk, requestsIn}
 
 -- what a pass refuses: 0 for nothing
 unfoldable pub passRefusal : Settings → ℤ → Fleet → List ℤ → ℕ

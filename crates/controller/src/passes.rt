@@ -1,17 +1,13 @@
 ghost use mathlib.Core.Path.{_≡_};
 ghost use lib.ListN.{length};
-ghost use Rattle.controller.specs.Ranges.{fleetOf};
-ghost use Rattle.controller.specs.Posts.{Sound, DonePass, TotalsOf, fleetBy};
+ghost use Rattle.members.specs.Ranges.{fleetOf};
+ghost use Rattle.members.specs.Posts.{TotalsOf, fleetBy};
+ghost use Rattle.controller.specs.Posts.{Sound, DonePass};
 ghost use Rattle.controller.specs.Answers.{passAnswer, passLeaves};
 use super::PassAnswer;
 use super::Passed;
-use super::Settings;
-use super::Totals;
-use super::ranges;
-use super::rows;
-use super::rules;
-use super::shares;
-use super::sums;
+use members::Totals;
+use rules::Settings;
 
 // One pass over a fleet in its ranges, P1 to P6: its units as rows, their sums, and what each holds.
 pub fn pass_within(
@@ -26,7 +22,7 @@ pub fn pass_within(
     requires { ⌜ TotalsOf (now units) t ⌝ }
     ensures { λ r. ⌜ DonePass s measure (fleetBy (now (units .entry)) (now (stored .entry))) (now (requests .entry)) (now (requests .exit)) r ⌝ }
 {
-    let a = sums::asked(requests);
+    let a = members::asked_of(requests);
     let need = rules::need(s, measure, a);
     let charging = s.mode == 3;
     if rules::rests(charging, need, a) {
@@ -35,8 +31,8 @@ pub fn pass_within(
             changed: false,
         };
     }
-    if rules::is_spent(charging, t.rated, t.reserve, stored) {
-        let changed = shares::clear(requests);
+    if members::is_spent(charging, t.rated, t.reserve, stored) {
+        let changed = members::clear(requests);
         return Passed { need, changed };
     }
     if rules::in_band(s.band, need) {
@@ -45,7 +41,7 @@ pub fn pass_within(
             changed: false,
         };
     }
-    let changed = shares::share_all(charging, s.factor, need, t.weight, units, stored, requests);
+    let changed = members::share_all(charging, s.factor, need, t.weight, units, stored, requests);
     Passed { need, changed }
 }
 
@@ -65,8 +61,8 @@ fn pass_with(
     requires { ⌜ length (now units) ≡ length (now requests) ⌝ }
     ensures { λ r. ⌜ DonePass s measure (fleetOf (now (rated .entry)) (now (reserve .entry)) (now (stored .entry)) (now (rating .entry)) (now (weight .entry))) (now (requests .entry)) (now (requests .exit)) r ⌝ }
 {
-    rows::fill(rated, reserve, stored, rating, weight, units);
-    let t = sums::summed(units);
+    members::fill(rated, reserve, stored, rating, weight, units);
+    let t = members::summed(units);
     pass_within(s, measure, t, units, stored, requests)
 }
 
@@ -116,7 +112,7 @@ pub fn pass(
     ensures { λ r. ⌜ now (requests .exit) ≡ passLeaves s measure (fleetOf (now (rated .entry)) (now (reserve .entry)) (now (stored .entry)) (now (rating .entry)) (now (weight .entry))) (now (requests .entry)) ⌝ }
 {
     let n = requests.len();
-    if !ranges::lengths_in(
+    if !members::lengths_in(
         rated.len(),
         reserve.len(),
         stored.len(),
@@ -126,11 +122,11 @@ pub fn pass(
     ) {
         return PassAnswer::PassRefused(10);
     }
-    let fine = ranges::settings_in(s) & ranges::measure_in(measure);
-    if !(fine & ranges::units_in(rated, reserve, stored, rating, weight)) {
+    let fine = rules::settings_in(s) & rules::measure_in(measure);
+    if !(fine & members::units_in(rated, reserve, stored, rating, weight)) {
         return PassAnswer::PassRefused(5);
     }
-    if !ranges::requests_in(rating, requests) {
+    if !members::requests_in(rating, requests) {
         return PassAnswer::PassRefused(10);
     }
     PassAnswer::PassDone(pass_over(s, measure, rated, reserve, stored, rating, weight, requests))

@@ -4,7 +4,7 @@ use mathlib.Core.List.{List, [], _∷_, _++_}
 use Prim.Native.Nat.{ℕ, _+_}
 use lib.IntN.{ℤ, pos, negℤ}
 use lib.ListN.{replicate}
-use Rattle.controller.specs.Ranges.{Fleet, fleetOf}
+use Rattle.members.specs.Ranges.{Fleet, fleetOf}
 use Rattle.octets.specs.BigEndian.{bytesOf}
 use Rattle.unit.specs.declared.Unit.{Unit}
 use Rattle.figures.specs.Rows.{Row, row, values, refused, refusedAt, measures, pass, study, step, field, check, run, bytes, set, unit}

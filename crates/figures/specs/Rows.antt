@@ -11,9 +11,9 @@ use Rattle.octets.specs.BigEndian.{bytesOf}
 use Rattle.unit.specs.declared.Unit.{Unit}
 use Rattle.reading.specs.Conversion.{wattsOf, wattsCall}
 use Rattle.reading.specs.Choice.{measureOf, measureCall}
-use Rattle.controller.specs.declared.Settings.{Settings}
+use Rattle.rules.specs.declared.Settings.{Settings}
 use Rattle.controller.specs.declared.Passed.{Passed}
-use Rattle.controller.specs.Ranges.{Fleet}
+use Rattle.members.specs.Ranges.{Fleet}
 use Rattle.controller.specs.Answers.{passAnswer, passLeaves, passCall}
 use Rattle.settling.specs.declared.Trial.{Trial}
 use Rattle.settling.specs.declared.Studied.{Studied}

@@ -6,7 +6,7 @@ use lib.IntN.{ℤ, pos, negℤ}
 use lib.ListN.{length, replicate}
 use Rattle.whole.specs.Largest.{legOf}
 use Rattle.octets.specs.BigEndian.{bytesOf}
-use Rattle.controller.specs.Ranges.{Fleet, fleetOf}
+use Rattle.members.specs.Ranges.{Fleet, fleetOf}
 use Rattle.unit.specs.declared.Unit.{Unit}
 use Rattle.figures.specs.Rows.{Row, row, values, refused, refusedAt, kilowatts, pass, study, step, run, bytes, set, unit}
 

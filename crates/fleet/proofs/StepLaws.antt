@@ -26,9 +26,10 @@ use Rattle.reading.proofs.MeasureLaws.{measure-small}
 use Rattle.unit.specs.declared.Unit.{Unit}
 use Rattle.unit.specs.Ranges.{holding}
 use Rattle.unit.specs.Rows.{unitBy}
-use Rattle.controller.specs.Ranges.{fleetFor}
+use Rattle.members.specs.Ranges.{fleetFor}
 use Rattle.controller.specs.Pass.{passOf}
-use Rattle.controller.specs.Posts.{Sound, fleetBy}
+use Rattle.members.specs.Posts.{fleetBy}
+use Rattle.controller.specs.Posts.{Sound}
 use Rattle.controller.proofs.SoundLaws.{rows-sound}
 use Rattle.controller.proofs.StandsLaws.{pass-length}
 use Rattle.storage.specs.declared.Outcome.{Outcome}

@@ -5,7 +5,7 @@ use mathlib.Core.Path.{_≡_}
 use lib.IntN.{ℤ}
 use lib.ListN.{length, getD}
 use Rattle.unit.specs.Rows.{unitsBy}
-use Rattle.controller.specs.Posts.{TotalsOf}
+use Rattle.members.specs.Posts.{TotalsOf}
 use Rattle.storage.specs.Posts.{Rested}
 use Rattle.site.specs.declared.Head.{Head}
 use Rattle.site.specs.Site.{Site, count, unitOf}

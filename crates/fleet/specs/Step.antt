@@ -11,7 +11,7 @@ use Rattle.reading.specs.declared.Reading.the-variants.{Missing, Power}
 use Rattle.reading.specs.Choice.{measureOf, measureCall}
 use Rattle.unit.specs.declared.Unit.{Unit}
 use Rattle.unit.specs.Ranges.{holding}
-use Rattle.controller.specs.Ranges.{fleetFor}
+use Rattle.members.specs.Ranges.{fleetFor}
 use Rattle.controller.specs.Pass.{passOf}
 use Rattle.storage.specs.declared.Outcome.{Outcome}
 use Rattle.storage.specs.Step.{stepOf}

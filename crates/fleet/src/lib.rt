@@ -4,7 +4,7 @@
 mod steps;
 mod units;
 
-use controller::Totals;
+use members::Totals;
 use site::Head;
 pub use steps::step;
 pub use units::framed;

@@ -22,7 +22,7 @@ pub fn framed(head: Head, units: &[[u64; 17]]) -> Frame
 {
     Frame {
         head,
-        totals: controller::summed(units),
+        totals: members::summed(units),
     }
 }
 
@@ -33,7 +33,7 @@ pub fn start(units: &[[u64; 17]], stored: &mut [u64], requests: &mut [i32])
     ensures { λ _. ⌜ standing (now (stored .exit)) (now (requests .exit)) ≡ atFirst (unitsBy (now (units .entry))) ⌝ }
 {
     unit::stores(units, stored);
-    controller::clear(requests);
+    members::clear(requests);
 }
 
 // One step of the unit of row i, which holds so much and is asked a request. One that is asked

@@ -14,7 +14,7 @@ use Rattle.reading.specs.declared.Reading.the-variants.{Missing, Power}
 use Rattle.reading.specs.declared.Measure.{Measure}
 use Rattle.reading.specs.declared.Measure.the-variants.{Chosen, RefusedBy}
 use Rattle.reading.specs.Choice.{measureOf, measureCall}
-use Rattle.controller.specs.Ranges.{fleetFor, someAbove, someBelow}
+use Rattle.members.specs.Ranges.{fleetFor, someAbove, someBelow}
 use Rattle.controller.specs.OneSign.{OneSign}
 use Rattle.controller.proofs.OneSign.{one-sign}
 use Rattle.site.specs.declared.Step.{Step}

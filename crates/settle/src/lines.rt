@@ -67,7 +67,7 @@ pub fn units(file: &[u8], requests: &[i32])
 pub fn left(load: u32, target: i32, band: u32, requests: &[i32])
     requires { ⌜ length (now requests) ≤ 64 ⌝ }
 {
-    let sum = controller::asked_of(requests).sum;
+    let sum = members::asked_of(requests).sum;
     let left = sums::minus(load as i64, sum);
     let off = whole::size64(sums::minus(left, target as i64));
     text(b"sum of requests ");

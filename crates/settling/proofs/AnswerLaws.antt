@@ -7,7 +7,7 @@ use lib.Dec.{eqb, eqb·suc-zero}
 use lib.IntN.{ℤ}
 use lib.ListN.{length}
 use Rattle.whole.specs.Over.{allOf}
-use Rattle.controller.specs.Ranges.{Fleet, memberAt, lengthsIn}
+use Rattle.members.specs.Ranges.{Fleet, memberAt, lengthsIn}
 use Rattle.controller.proofs.AnswerLaws.{first-fails, second-fails, none-fails}
 use Rattle.settling.specs.declared.Trial.{Trial}
 use Rattle.settling.specs.declared.Studied.{Studied}

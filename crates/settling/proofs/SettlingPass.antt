@@ -18,10 +18,12 @@ use Rattle.whole.proofs.OverLaws.{none-at, none-of, each-at}
 use Rattle.settling.proofs.DifferenceLaws.{above-by, less-by}
 use Rattle.settling.proofs.SettlingSteps.{step}
 use Rattle.settling.proofs.SettlingStill.{studied-length}
-use Rattle.controller.specs.declared.Settings.{Settings}
-use Rattle.controller.specs.Ranges.{Fleet, someAbove, someBelow}
-use Rattle.controller.specs.Pass.{total, charges, sumOfAll, plainNeed, needOf, rests, spent, inBand, allInBand, requestAfter}
-use Rattle.controller.proofs.RuleLaws.{rests-is, band-is}
+use Rattle.rules.specs.declared.Settings.{Settings}
+use Rattle.members.specs.Ranges.{Fleet, someAbove, someBelow}
+use Rattle.rules.specs.Rules.{charges, plainNeed, inBand}
+use Rattle.members.specs.Sums.{total, sumOfAll}
+use Rattle.controller.specs.Pass.{needOf, rests, spent, allInBand, requestAfter}
+use Rattle.controller.proofs.AlikeLaws.{rests-is, band-is}
 use Rattle.settling.specs.Study.{studyPass}
 use Rattle.settling.specs.Settling.{Premises, ratingAbove}
 

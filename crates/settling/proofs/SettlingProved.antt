@@ -21,9 +21,9 @@ use Rattle.settling.proofs.DifferenceLaws.{no-smaller}
 use Rattle.settling.proofs.SettlingSteps.{after, Kept, kept-none, kept-step, step-rises, settled-step}
 use Rattle.settling.proofs.SettlingStill.{next-requests, still, still-after}
 use Rattle.settling.proofs.SettlingPass.{Requests, sum-is, gap, stepOf, measure-is, pass-steps}
-use Rattle.controller.specs.declared.Settings.{Settings}
-use Rattle.controller.specs.Ranges.{Fleet}
-use Rattle.controller.specs.Pass.{differ}
+use Rattle.rules.specs.declared.Settings.{Settings}
+use Rattle.members.specs.Ranges.{Fleet}
+use Rattle.members.specs.Sums.{differ}
 use Rattle.settling.specs.Study.{studyPass}
 use Rattle.settling.specs.Settling.{Premises, SettlingLaw, Above, ratingAbove, requestsAt, requestAt, measureAt, gapAt, changes, changing}
 

@@ -8,10 +8,10 @@ use native.Mathlib.Nat.{add-zero, add-suc}
 use native.Mathlib.Omega.{arith}
 use lib.IntN.{ℤ, pos, _-ℤ_}
 use lib.ListN.{length, replicate, length-replicate}
-use Rattle.controller.specs.declared.Settings.{Settings}
-use Rattle.controller.specs.Ranges.{Fleet}
-use Rattle.controller.specs.Pass.{sumOfAll, changedOf}
-use Rattle.controller.proofs.DifferLaws.{unchanged}
+use Rattle.rules.specs.declared.Settings.{Settings}
+use Rattle.members.specs.Ranges.{Fleet}
+use Rattle.members.specs.Sums.{sumOfAll, changedOf}
+use Rattle.members.proofs.DifferLaws.{unchanged}
 use Rattle.controller.proofs.StandsLaws.{pass-length}
 use Rattle.settling.specs.Study.{studyPass, passes}
 use Rattle.settling.specs.Settling.{requestsAt, changes}

@@ -13,18 +13,20 @@ use mir.Syntax.{w64}
 use mir.Val.{SFits}
 use Rattle.whole.specs.Over.{each, eachFrom}
 use Rattle.whole.proofs.SignLaws.{size-sum, size-neg, minus-fits, minus-is}
-use Rattle.controller.specs.declared.Settings.{Settings}
-use Rattle.controller.specs.declared.Asked.{Asked}
+use Rattle.rules.specs.declared.Settings.{Settings}
+use Rattle.rules.specs.declared.Asked.{Asked}
 use Rattle.controller.specs.declared.Passed.{Passed}
 use Rattle.settling.specs.declared.Studied.{Studied}
-use Rattle.controller.specs.Ranges.{Fleet}
-use Rattle.controller.specs.Pass.{passOf, changedOf}
+use Rattle.members.specs.Ranges.{Fleet}
+use Rattle.members.specs.Sums.{changedOf}
+use Rattle.controller.specs.Pass.{passOf}
 use Rattle.settling.specs.declared.Trial.{Trial}
 use Rattle.settling.specs.Study.{shaving, Study, studyPass, studyFrom, studyOf}
 use Rattle.settling.specs.Posts.{DoneStudy, Measured, Trying}
-use Rattle.controller.specs.Posts.{AskedOf, Sound, DonePass}
-use Rattle.controller.proofs.RuleLaws.{back64, read-sized}
-use Rattle.controller.proofs.DifferLaws.{unchanged}
+use Rattle.members.specs.Posts.{AskedOf}
+use Rattle.controller.specs.Posts.{Sound, DonePass}
+use Rattle.rules.proofs.RuleLaws.{back64, read-sized}
+use Rattle.members.proofs.DifferLaws.{unchanged}
 use Rattle.controller.proofs.SoundLaws.{at-measure, units-as-lent}
 use Rattle.controller.proofs.StandsLaws.{pass-length}
 

@@ -13,9 +13,9 @@ use Rattle.whole.specs.Over.{sumOf}
 use Rattle.whole.proofs.Choice.{by-test, passed-failed}
 use Rattle.settling.proofs.SumLaws.{sum-still}
 use Rattle.settling.proofs.SettlingStill.{next-requests, still-after}
-use Rattle.controller.specs.declared.Settings.{Settings}
-use Rattle.controller.specs.Ranges.{Fleet}
-use Rattle.controller.specs.Pass.{changedOf}
+use Rattle.rules.specs.declared.Settings.{Settings}
+use Rattle.members.specs.Ranges.{Fleet}
+use Rattle.members.specs.Sums.{changedOf}
 use Rattle.settling.specs.Study.{Study, studyPass, studyFrom, studyOf}
 use Rattle.settling.specs.Settling.{StudyLaw, requestsAt, changes, changing}
 

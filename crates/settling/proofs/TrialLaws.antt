@@ -15,9 +15,10 @@ use Rattle.whole.specs.Over.{allOf}
 use Rattle.whole.proofs.Choice.{passed-failed}
 use Rattle.whole.proofs.OverLaws.{and-parts}
 use Rattle.whole.proofs.SignLaws.{read}
-use Rattle.controller.specs.declared.Settings.{Settings}
-use Rattle.controller.specs.Ranges.{Fleet, settingsIn, memberAt, lengthsIn}
-use Rattle.controller.proofs.RuleLaws.{back64}
+use Rattle.rules.specs.declared.Settings.{Settings}
+use Rattle.rules.specs.Ranges.{settingsIn}
+use Rattle.members.specs.Ranges.{Fleet, memberAt, lengthsIn}
+use Rattle.rules.proofs.RuleLaws.{back64}
 use Rattle.controller.proofs.SoundLaws.{same-lengths, sound}
 use Rattle.settling.specs.declared.Trial.{Trial}
 use Rattle.settling.specs.Study.{shaving, trialIn}

@@ -7,7 +7,7 @@ use lib.Dec.{eqb}
 use lib.IntN.{ℤ}
 use lib.ListN.{length}
 use Rattle.whole.specs.Call.{Call, Gave, Refused, refusal}
-use Rattle.controller.specs.Ranges.{Fleet}
+use Rattle.members.specs.Ranges.{Fleet}
 use Rattle.settling.specs.declared.Trial.{Trial}
 use Rattle.settling.specs.declared.Studied.{Studied}
 use Rattle.settling.specs.declared.StudyAnswer.{StudyAnswer}

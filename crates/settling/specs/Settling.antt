@@ -11,9 +11,9 @@ use lib.IntN.{ℤ, pos, natAbs, _-ℤ_}
 use lib.ListN.{getD, replicate}
 use lib.Signed.{_≤ℤ_, _<ℤ_}
 use Rattle.whole.specs.Over.{sumOf}
-use Rattle.controller.specs.declared.Settings.{Settings}
-use Rattle.controller.specs.Ranges.{Fleet}
-use Rattle.controller.specs.Pass.{total, sumOfAll, changedOf}
+use Rattle.rules.specs.declared.Settings.{Settings}
+use Rattle.members.specs.Ranges.{Fleet}
+use Rattle.members.specs.Sums.{total, sumOfAll, changedOf}
 use Rattle.settling.specs.Study.{studyPass, passes, studyOf}
 
 -- the premises; of the ranges only what is needed: a factor of at most 1,000 thousandths and weights from 1 up

@@ -7,11 +7,13 @@ use lib.IntN.{ℤ, pos, _-ℤ_}
 use lib.ListN.{replicate}
 use lib.Signed.{leZ}
 use Rattle.whole.specs.Over.{allOf}
-use Rattle.controller.specs.declared.Settings.{Settings}
+use Rattle.rules.specs.declared.Settings.{Settings}
 use Rattle.whole.specs.Interval.{between}
 use Rattle.settling.specs.declared.Trial.{Trial}
-use Rattle.controller.specs.Ranges.{Fleet, settingsIn, memberAt, lengthsOk, lengthsIn}
-use Rattle.controller.specs.Pass.{sumOfAll, passOf, changedOf}
+use Rattle.rules.specs.Ranges.{settingsIn}
+use Rattle.members.specs.Ranges.{Fleet, memberAt, lengthsOk, lengthsIn}
+use Rattle.members.specs.Sums.{sumOfAll, changedOf}
+use Rattle.controller.specs.Pass.{passOf}
 
 -- the settings of a study: mode 1, whatever mode they have
 abbrev pub shaving : Settings → Settings

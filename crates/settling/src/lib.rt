@@ -1,7 +1,7 @@
 // The settling study: where a peak-shaving fleet settles over a fixed load.
 mod study;
 
-use controller::Settings;
+use rules::Settings;
 pub use study::settle;
 pub use study::settle_within;
 pub use study::trial_in;

@@ -2,16 +2,17 @@ ghost use mathlib.Core.Path.{_≡_};
 ghost use Prim.Native.Nat.{_≤_};
 ghost use lib.IntN.{natAbs};
 ghost use lib.ListN.{length};
-ghost use Rattle.controller.specs.Ranges.{fleetOf};
-ghost use Rattle.controller.specs.Posts.{Sound, TotalsOf, fleetBy};
+ghost use Rattle.members.specs.Ranges.{fleetOf};
+ghost use Rattle.members.specs.Posts.{TotalsOf, fleetBy};
+ghost use Rattle.controller.specs.Posts.{Sound};
 ghost use Rattle.settling.specs.Study.{shaving, trialIn};
 ghost use Rattle.settling.specs.Posts.{DoneTrial, Measured, Trying};
 ghost use Rattle.settling.specs.Answers.{studyAnswer, studyLeaves};
 use super::Studied;
 use super::StudyAnswer;
 use super::Trial;
-use controller::Settings;
-use controller::Totals;
+use members::Totals;
+use rules::Settings;
 
 // The settings of a study: mode 1, whatever the mode was.
 fn shaved(s: Settings) -> Settings
@@ -32,7 +33,7 @@ pub fn trial_in(q: Trial) -> bool
     let s = q.settings;
     let load = q.load;
     let budget = q.budget;
-    controller::settings_in(shaved(s))
+    rules::settings_in(shaved(s))
         & ((0 <= load) & (load <= 100000000))
         & ((1 <= budget) & (budget <= 10000))
 }
@@ -43,7 +44,7 @@ fn measure(load: i64, requests: &[i32]) -> i64
     requires { ⌜ natAbs load ≤ 100000000 ⌝ }
     ensures { λ r. ⌜ Measured load (now (requests .entry)) r ⌝ }
 {
-    load - controller::asked_of(requests).sum
+    load - members::asked_of(requests).sum
 }
 
 // A study of a fleet in its ranges, as rows, with their sums and what each unit holds: passes from
@@ -63,7 +64,7 @@ pub fn settle_within(
     let s = shaved(given);
     let load = q.load;
     let budget = q.budget;
-    controller::clear(requests);
+    members::clear(requests);
     let mut passes: u32 = 0;
     while passes < budget {
         let m = measure(load, requests);
@@ -97,8 +98,8 @@ fn settle_with(
     requires { ⌜ length (now units) ≡ length (now requests) ⌝ }
     ensures { λ r. ⌜ DoneTrial q (fleetOf (now (rated .entry)) (now (reserve .entry)) (now (stored .entry)) (now (rating .entry)) (now (weight .entry))) (length (now (requests .entry))) (now (requests .exit)) r ⌝ }
 {
-    controller::fill(rated, reserve, stored, rating, weight, units);
-    let t = controller::summed(units);
+    members::fill(rated, reserve, stored, rating, weight, units);
+    let t = members::summed(units);
     settle_within(q, t, units, stored, requests)
 }
 
@@ -145,7 +146,7 @@ pub fn settle(
     ensures { λ r. ⌜ now (requests .exit) ≡ studyLeaves q (fleetOf (now (rated .entry)) (now (reserve .entry)) (now (stored .entry)) (now (rating .entry)) (now (weight .entry))) (now (requests .entry)) ⌝ }
 {
     let n = requests.len();
-    if !controller::lengths_in(
+    if !members::lengths_in(
         rated.len(),
         reserve.len(),
         stored.len(),
@@ -156,7 +157,7 @@ pub fn settle(
         return StudyAnswer::StudyRefused(10);
     }
     let fine = trial_in(q);
-    if !(fine & controller::units_in(rated, reserve, stored, rating, weight)) {
+    if !(fine & members::units_in(rated, reserve, stored, rating, weight)) {
         return StudyAnswer::StudyRefused(5);
     }
     StudyAnswer::StudyDone(settle_over(q, rated, reserve, stored, rating, weight, requests))

@@ -4,7 +4,7 @@ use mathlib.Core.Bool.{true}
 use mathlib.Core.List.{List}
 use mathlib.Core.Path.{_≡_}
 use lib.ListN.{length}
-use Rattle.controller.specs.Ranges.{settingsIn}
+use Rattle.rules.specs.Ranges.{settingsIn}
 use Rattle.solar.specs.Roof.{Roof, roofIn}
 use Rattle.unit.specs.Ranges.{unitIn, secondsIn}
 use Rattle.site.specs.Site.{Site, count, unitOf, roofOf}

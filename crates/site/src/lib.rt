@@ -1,7 +1,7 @@
 // What a run file says of a site: its head, and its units as rows. One step of it: the reading that
 // closes the step, and the sun.
-use controller::Settings;
 use reading::Reading;
+use rules::Settings;
 use solar::Sun;
 
 // What a file says of a site beside its units: the edition, the seconds of a step, the controller's

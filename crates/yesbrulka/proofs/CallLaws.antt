@@ -13,7 +13,7 @@ use Rattle.unit.specs.declared.Unit.{Unit}
 use Rattle.controller.specs.declared.Passed.{Passed}
 use Rattle.controller.specs.declared.PassAnswer.{PassAnswer}
 use Rattle.controller.specs.declared.PassAnswer.the-variants.{PassDone, PassRefused}
-use Rattle.controller.specs.Ranges.{Fleet}
+use Rattle.members.specs.Ranges.{Fleet}
 use Rattle.controller.specs.Answers.{passCall, passAnswer, passLeaves}
 use Rattle.settling.specs.declared.Studied.{Studied}
 use Rattle.settling.specs.declared.StudyAnswer.{StudyAnswer}

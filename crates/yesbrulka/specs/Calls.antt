@@ -10,9 +10,9 @@ use denote.Ref.{RefT, now}
 use denote.Triple.Both.{Both}
 use Rattle.whole.specs.Call.{Call, numberOf, heldAfter}
 use Rattle.unit.specs.declared.Unit.{Unit}
-use Rattle.controller.specs.declared.Settings.{Settings}
+use Rattle.rules.specs.declared.Settings.{Settings}
 use Rattle.controller.specs.declared.Passed.{Passed}
-use Rattle.controller.specs.Ranges.{Fleet, fleetOf}
+use Rattle.members.specs.Ranges.{Fleet, fleetOf}
 use Rattle.controller.specs.declared.PassAnswer.{PassAnswer}
 use Rattle.controller.specs.Answers.{passCall}
 use Rattle.settling.specs.declared.Trial.{Trial}

@@ -18,8 +18,8 @@ ghost use Rattle.yesbrulka.specs.Calls.{held, left, fleetLent, settingsO
 use ask::HeadAnswer;
 use ask::UnitAnswer;
 use controller::PassAnswer;
-use controller::Settings;
 use reading::Watts;
+use rules::Settings;
 use settling::StudyAnswer;
 use settling::Trial;
 use solar::Inverter;

@@ -1,6 +1,6 @@
 -- The library's answer decides the number, and only what it reports is stored.
 use borrow.Author.Needs.{needs}
-use Rattle.controller.specs.Ranges.{fleetOf}
+use Rattle.members.specs.Ranges.{fleetOf}
 use Rattle.yesbrulka.proofs.CallLaws.{pass-done, pass-refused}
 use Rattle.yesbrulka.proofs.yb_pass.Statement.{statement}
 use Rattle.yesbrulka.proofs.yb_pass.Tie as tie

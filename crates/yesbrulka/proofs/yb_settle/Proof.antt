@@ -1,6 +1,6 @@
 -- The library's answer decides the number, and only what it reports is stored.
 use borrow.Author.Needs.{needs}
-use Rattle.controller.specs.Ranges.{fleetOf}
+use Rattle.members.specs.Ranges.{fleetOf}
 use Rattle.yesbrulka.proofs.CallLaws.{study-done, study-refused}
 use Rattle.yesbrulka.proofs.yb_settle.Statement.{statement}
 use Rattle.yesbrulka.proofs.yb_settle.Tie as tie

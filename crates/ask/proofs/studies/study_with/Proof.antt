@@ -3,8 +3,8 @@ use mathlib.Core.Path.{_≡_, subst, subst⁻¹}
 use mathlib.Core.List.{List, map}
 use lib.ListN.{length}
 use Rattle.unit.specs.declared.Unit.{Unit}
-use Rattle.controller.specs.Ranges.{Fleet}
-use Rattle.controller.specs.Posts.{Addable, fleetBy}
+use Rattle.members.specs.Ranges.{Fleet}
+use Rattle.members.specs.Posts.{Addable, fleetBy}
 use Rattle.settling.specs.Study.{shaving}
 use Rattle.settling.specs.Posts.{Trying, DoneStudy}
 use Rattle.ask.specs.Says.{fleetSaid}

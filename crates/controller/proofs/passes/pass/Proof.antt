@@ -7,7 +7,8 @@ use borrow.Author.Tests.{not-false}
 use mir.Syntax.{w64}
 use Rattle.whole.specs.Over.{allOf}
 use Rattle.whole.proofs.SignLaws.{read}
-use Rattle.controller.specs.Ranges.{Fleet, fleetOf, settingsIn, measureIn, memberAt, lengthsIn}
+use Rattle.rules.specs.Ranges.{settingsIn, measureIn}
+use Rattle.members.specs.Ranges.{Fleet, fleetOf, memberAt, lengthsIn}
 use Rattle.controller.specs.Posts.{DonePass}
 use Rattle.controller.proofs.SoundLaws.{same-lengths, few-units, by-first, values-are, pass-sound}
 use Rattle.controller.proofs.AnswerLaws.{wrong-lengths, wrong-values, wrong-requests, all-fine}

@@ -2,7 +2,7 @@
 use mathlib.Core.Path.{refl}
 use native.Mathlib.Omega.{arith}
 use lib.ListN.{length, length-take}
-use Rattle.controller.specs.Ranges.{Fleet, fleetOf}
+use Rattle.members.specs.Ranges.{Fleet, fleetOf}
 use Rattle.controller.proofs.PassLaws.{sound-on, done-on}
 use borrow.Author.Needs.{needs}
 use Rattle.controller.proofs.passes.pass_over.Statement.{statement}

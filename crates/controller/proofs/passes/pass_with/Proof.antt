@@ -1,8 +1,8 @@
 -- Filled rows are the lists' fleet, so the pass over them, with their sums, is the pass over the lists.
 use mathlib.Core.Path.{subst⁻¹}
 use lib.ListN.{length}
-use Rattle.controller.specs.Ranges.{Fleet, fleetOf}
-use Rattle.controller.specs.Posts.{Addable, fleetBy}
+use Rattle.members.specs.Ranges.{Fleet, fleetOf}
+use Rattle.members.specs.Posts.{Addable, fleetBy}
 use Rattle.controller.proofs.PassLaws.{sound-on, done-on}
 use borrow.Author.Needs.{needs}
 use Rattle.controller.proofs.passes.pass_with.Statement.{statement}

@@ -4,7 +4,7 @@ use lib.Dec.{lit≤}
 use lib.ListN.{length}
 use mir.Syntax.{w64}
 use mir.Val.{toZ, ofZ}
-use Rattle.controller.specs.Posts.{fleetBy}
+use Rattle.members.specs.Posts.{fleetBy}
 use Rattle.controller.proofs.PassLaws.{TotalsFor, totals-for, need-small, done-rests, done-clear, done-band, done-shares, sharing}
 use borrow.Author.Needs.{needs}
 use Rattle.controller.proofs.passes.pass_within.Statement.{statement}

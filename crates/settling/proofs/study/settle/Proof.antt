@@ -3,7 +3,7 @@ use mathlib.Core.Path.{_≡_, refl, sym, _∙_}
 use mathlib.Core.Bool.{true, _&&_}
 use lib.ListN.{length}
 use borrow.Author.Tests.{not-false}
-use Rattle.controller.specs.Ranges.{Fleet, fleetOf, lengthsIn}
+use Rattle.members.specs.Ranges.{Fleet, fleetOf, lengthsIn}
 use Rattle.controller.proofs.SoundLaws.{same-lengths, by-first}
 use Rattle.settling.proofs.TrialLaws.{values-are, trying}
 use Rattle.settling.proofs.AnswerLaws.{studyValues, wrong-lengths, wrong-values, all-fine}

@@ -1,8 +1,8 @@
 -- Filled rows are the lists' fleet, so the study over them, with their sums, is the study over the lists.
 use mathlib.Core.Path.{subst, subst⁻¹}
 use lib.ListN.{length}
-use Rattle.controller.specs.Ranges.{Fleet}
-use Rattle.controller.specs.Posts.{Addable}
+use Rattle.members.specs.Ranges.{Fleet}
+use Rattle.members.specs.Posts.{Addable}
 use Rattle.settling.specs.Study.{shaving}
 use Rattle.settling.specs.Posts.{Trying, DoneStudy}
 use borrow.Author.Needs.{needs}

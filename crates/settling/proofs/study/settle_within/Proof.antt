@@ -10,9 +10,9 @@ use lib.ListN.{length, replicate}
 use mir.Syntax.{w64}
 use mir.Val.{toZ}
 use Rattle.whole.proofs.OverLaws.{each-length}
-use Rattle.controller.specs.Ranges.{Fleet}
-use Rattle.controller.specs.Posts.{fleetBy}
-use Rattle.controller.proofs.RuleLaws.{back64, read-sized}
+use Rattle.members.specs.Ranges.{Fleet}
+use Rattle.members.specs.Posts.{fleetBy}
+use Rattle.rules.proofs.RuleLaws.{back64, read-sized}
 use Rattle.settling.specs.Posts.{Measured}
 use Rattle.settling.proofs.StudyLaws.{OnTheWay, cleared, load-read, pass-sound, asked-for, way-starts, way-ends, way-settles, way-goes-on}
 use Rattle.settling.proofs.study.settle_within.Statement.{statement}

@@ -1,0 +1,102 @@
+-- Nobody has to believe this file: the parts of contracts by name, what a fleet's requests say, and what sums and shares may count on.
+use Prim.Native.Nat.{ℕ, _≤_}
+use mathlib.Core.Bool.{Bool, cond, _||_}
+use mathlib.Core.List.{List, map}
+use mathlib.Core.Path.{_≡_}
+use lib.IntN.{ℤ, pos, natAbs, _+ℤ_}
+use lib.ListN.{length, getD}
+use lib.Signed.{ltZ}
+use Rattle.whole.specs.Over.{sumOf}
+use Rattle.unit.specs.declared.Unit.{Unit}
+use Rattle.unit.specs.Rows.{unitBy, unitsBy}
+use Rattle.rules.specs.declared.Asked.{Asked}
+use Rattle.members.specs.declared.Totals.{Totals}
+use Rattle.members.specs.Ranges.{Fleet, fleetFor, someAbove, someBelow}
+use Rattle.rules.specs.Rules.{unable, unitAfter}
+use Rattle.members.specs.Sums.{total, sumOfAll, unableAt}
+
+-- ---- the fleet as the code has it: rows of units, and what each holds now
+abbrev pub fleetBy : List (List ℕ) → List ℕ → Fleet
+fleetBy rows stored = fleetFor (unitsBy rows) stored
+
+-- one value of each row's unit
+abbrev pub columnBy : (Unit → ℕ) → List (List ℕ) → List ℕ
+columnBy value rows = map value (unitsBy rows)
+
+-- the sums over the fleet that no step changes
+pub record TotalsOf (rows : List (List ℕ)) (t : Totals) : Type 0 where
+  pub rated : t .rated ≡ total (length rows) (columnBy (λ (u : Unit). u .rated) rows)
+  pub reserve : t .reserve ≡ total (length rows) (columnBy (λ (u : Unit). u .reserve) rows)
+  pub weight : t .weight ≡ total (length rows) (columnBy (λ (u : Unit). u .weight) rows)
+
+-- ---- what the requests ask
+
+-- b is what is asked by a and one request more
+pub record WithRequest (a : Asked) (r : ℤ) (b : Asked) : Type 0 where
+  pub sum : b .sum ≡ a .sum +ℤ r
+  pub above : b .above ≡ (a .above || ltZ (pos 0) r)
+  pub below : b .below ≡ (a .below || ltZ r (pos 0))
+
+-- a is what the requests ask
+pub record AskedOf (rs : List ℤ) (a : Asked) : Type 0 where
+  pub sum : a .sum ≡ sumOfAll rs
+  pub above : a .above ≡ someAbove rs
+  pub below : a .below ≡ someBelow rs
+  -- 64 numbers of 32 bits
+  pub bounded : natAbs (a .sum) ≤ 137438953472
+
+-- the lists of a fleet have one length
+pub record SameLengths (f : Fleet) (n : ℕ) : Type 0 where
+  pub rated : length (f .rated) ≡ n
+  pub reserve : length (f .reserve) ≡ n
+  pub stored : length (f .stored) ≡ n
+  pub rating : length (f .rating) ≡ n
+  pub weight : length (f .weight) ≡ n
+
+-- a row whose unit has these values of a fleet's member
+pub record MemberRow (rated reserve rating weight : ℕ) (row : List ℕ) : Type 0 where
+  pub rated-is : unitBy row .rated ≡ rated
+  pub reserve-is : unitBy row .reserve ≡ reserve
+  pub rating-is : unitBy row .rating ≡ rating
+  pub weight-is : unitBy row .weight ≡ weight
+
+-- ---- the rules over the sums, as the code has it
+
+-- P4
+unfoldable pub spentBy : Bool → ℕ → ℕ → List ℕ → Bool
+unfolding sumOf unable
+spentBy charging rated reserve stored = unable charging rated reserve (total (length stored) stored)
+
+-- energies that can be added up: at most 64, each at most 10^13 J
+pub record Addable (xs : List ℕ) : Type 0 where
+  pub few : length xs ≤ 64
+  pub small : (i : ℕ) → getD xs i 0 ≤ 10000000000000
+
+-- P6 of a unit that holds so much, with the sum of all weights
+unfoldable pub nextBy : Bool → ℕ → ℤ → ℕ → Unit → ℕ → ℤ → ℤ
+unfolding unable unitAfter
+nextBy charging factor need weights u held r =
+    cond (unable charging (u .rated) (u .reserve) held) (pos 0) (unitAfter charging factor need weights (u .rating) (u .weight) r)
+
+-- at unit i of a fleet
+abbrev pub sharedBy : Bool → ℕ → ℤ → ℕ → Fleet → ℕ → ℤ → ℤ
+sharedBy charging factor need weights f i r =
+    cond (unableAt charging f i) (pos 0) (unitAfter charging factor need weights (getD (f .rating) i 0) (getD (f .weight) i 0) r)
+
+-- what P6 may count on: a need, a factor, a sum of weights, ratings and weights in bounds, and lists of one length, at most 64
+pub record Sharing (factor : ℕ) (need : ℤ) (weights : ℕ) (f : Fleet) (n : ℕ) : Type 0 where
+  pub need-small : natAbs need ≤ 400000000000
+  pub factor-small : factor ≤ 1000
+  pub weights-small : weights ≤ 640000
+  pub lengths : SameLengths f n
+  pub few : n ≤ 64
+  pub rating-small : (i : ℕ) → getD (f .rating) i 0 ≤ 100000000
+  pub weight-small : (i : ℕ) → getD (f .weight) i 0 ≤ 10000
+
+-- and of one unit
+pub record Sharable (factor : ℕ) (need : ℤ) (weights : ℕ) (u : Unit) : Type 0 where
+  pub need-small : natAbs need ≤ 400000000000
+  pub factor-small : factor ≤ 1000
+  pub weights-small : weights ≤ 640000
+  pub rating-small : u .rating ≤ 100000000
+  pub weight-small : u .weight ≤ 10000

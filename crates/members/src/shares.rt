@@ -1,0 +1,80 @@
+ghost use mathlib.Core.Path.{_≡_};
+ghost use Prim.Native.Nat.{ℕ};
+ghost use lib.IntN.{ℤ, pos};
+ghost use lib.ListN.{length};
+ghost use Rattle.whole.specs.Over.{each};
+ghost use Rattle.members.specs.Sums.{changedOf};
+ghost use mathlib.Core.List.{[]};
+ghost use Prim.Native.Nat.{_<_};
+ghost use lib.ListN.{getD};
+ghost use Rattle.unit.specs.Rows.{unitBy};
+ghost use Rattle.members.specs.Posts.{Sharing, Sharable, fleetBy, nextBy, sharedBy};
+
+// P4: every request becomes 0. Whether one changed.
+pub fn clear(requests: &mut [i32]) -> bool
+    ensures { λ _. ⌜ now (requests .exit) ≡ each (λ (i : ℕ) (r : ℤ). pos 0) (now (requests .entry)) ⌝ }
+    ensures { λ r. ⌜ r ≡ changedOf (now (requests .entry)) (now (requests .exit)) ⌝ }
+{
+    let mut changed = false;
+    let mut i = 0;
+    while i < requests.len() {
+        changed = changed | (requests[i] != 0);
+        requests[i] = 0;
+        i += 1;
+    }
+    changed
+}
+
+// P6 for the unit of row i, which holds so much: 0 if it has nothing to give or no room, else its
+// request and its share.
+fn next_request(
+    charging: bool,
+    factor: u16,
+    need: i64,
+    weights: u64,
+    units: &[[u64; 17]],
+    i: usize,
+    held: u64,
+    request: i32,
+) -> i32
+    requires { ⌜ i < length (now units) ⌝ }
+    requires { ⌜ Sharable factor need weights (unitBy (getD (now units) i [])) ⌝ }
+    ensures { λ r. ⌜ r ≡ nextBy charging factor need weights (unitBy (getD (now (units .entry)) i [])) held request ⌝ }
+{
+    if rules::unable(
+        charging,
+        unit::rated_of(units, i),
+        unit::reserve_of(units, i),
+        held,
+    ) {
+        return 0;
+    }
+    let part = rules::share(factor, need, unit::weight_of(units, i), weights);
+    rules::request_after(charging, unit::rating_of(units, i), request, part)
+}
+
+// P6: each unit's request. Whether one changed.
+pub fn share_all(
+    charging: bool,
+    factor: u16,
+    need: i64,
+    weights: u64,
+    units: &[[u64; 17]],
+    stored: &[u64],
+    requests: &mut [i32],
+) -> bool
+    requires { ⌜ Sharing factor need weights (fleetBy (now units) (now stored)) (length (now requests)) ⌝ }
+    ensures { λ _. ⌜ now (requests .exit) ≡ each (sharedBy charging factor need weights (fleetBy (now (units .entry)) (now (stored .entry)))) (now (requests .entry)) ⌝ }
+    ensures { λ r. ⌜ r ≡ changedOf (now (requests .entry)) (now (requests .exit)) ⌝ }
+{
+    let mut changed = false;
+    let mut i = 0;
+    while i < requests.len() {
+        let old = requests[i];
+        let next = next_request(charging, factor, need, weights, units, i, stored[i], old);
+        changed = changed | (old != next);
+        requests[i] = next;
+        i += 1;
+    }
+    changed
+}

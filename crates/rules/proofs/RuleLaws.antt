@@ -1,0 +1,314 @@
+-- The rules of a pass as the code works them out: what each operation fits and gives. Assumes nothing.
+use mathlib.Core.Path.{_≡_, refl, sym, ap, ap₂, _∙_, subst, subst⁻¹}
+use mathlib.Core.Bool.{Bool, true, false, not, cond, Bool·beq}
+use Prim.Native.Nat.{ℕ, zero, suc, _+_, _*_, _^_, _≤_, _<_, min}
+use native.Mathlib.Nat.{lt-of-le-of-lt, le-trans, add-le-add, mul-le-mul, min-eq-left, min-eq-right, le-of-lt, le-of-eq}
+use native.Mathlib.Omega.{arith}
+use lib.Dec.{leb, eqb, lit<, lit≤, leb·suc-zero}
+use lib.IntN.{ℤ, pos, negsuc, negℤ, natAbs, _+ℤ_, _-ℤ_, _*ℤ_}
+use lib.Signed.{mag, ltZ, leZ}
+use borrow.Author.Tests.{eq-eqb, ne-eqb, lt-ltb}
+use mir.Syntax.{w32, w64}
+use mir.Val.{SFits, toZ, ofZ}
+use mir.ValLaws.{toZ-pos}
+use Rattle.whole.proofs.Choice.{passed-failed}
+use Rattle.whole.specs.Signed.{negative, signed}
+use Rattle.whole.specs.Quotient.{cut}
+use Rattle.whole.proofs.QuotientLaws.{cut-size}
+use Rattle.whole.proofs.SignLaws.{read, size-sum, size-product, size-fits, signed-fits, wide-is, wide-size, plus-fits, plus-is, minus-fits, minus-is, times-fits, times-is}
+use Rattle.rules.specs.declared.Settings.{Settings}
+use Rattle.rules.specs.declared.Asked.{Asked}
+use Rattle.rules.specs.Rules.{charges, plainNeed, unable, shareOf, limited, withMode, unitAfter}
+use Rattle.rules.specs.Posts.{needFrom}
+
+abbrev pub back32 : ℤ → ℤ
+back32 z = toZ w32 (ofZ w32 z)
+
+abbrev pub back64 : ℤ → ℤ
+back64 z = toZ w64 (ofZ w64 z)
+
+-- a number of a known size is read back
+pub read-sized : (z : ℤ) → natAbs z < 2 ^ 63 → back64 z ≡ z
+read-sized z h = read w64 z (size-fits w64 z h .sfits)
+
+-- ---- rule 1
+module _ (s : Settings) (m : ℤ) (hm : natAbs m ≤ 200000000000) (ht : mag (s .target) < 2 ^ 31) where
+  em : back64 m ≡ m
+  em = read-sized m (lt-of-le-of-lt hm (lit< tt))
+
+  et : back64 (back32 (s .target)) ≡ s .target
+  et = wide-is (s .target) ht
+
+  sizes : natAbs m + natAbs (s .target) ≤ 200000000000 + 2147483648
+  sizes = add-le-add hm (wide-size (s .target) ht)
+
+  pub added-fits : SFits w64 (back64 m +ℤ back64 (back32 (s .target)))
+  added-fits = plus-fits w64 m (s .target) (back64 m) (back64 (back32 (s .target))) em et (lt-of-le-of-lt sizes (lit< tt))
+
+  pub taken-fits : SFits w64 (back64 m -ℤ back64 (back32 (s .target)))
+  taken-fits = minus-fits w64 m (s .target) (back64 m) (back64 (back32 (s .target))) em et (lt-of-le-of-lt sizes (lit< tt))
+
+  pub added-is : s .mode ≡ 2 → back64 (back64 m +ℤ back64 (back32 (s .target))) ≡ plainNeed s m
+  unfolding plainNeed
+  added-is e =
+      plus-is w64 m (s .target) (back64 m) (back64 (back32 (s .target))) em et (lt-of-le-of-lt sizes (lit< tt))
+      ∙ sym (ap (λ (t : Bool). cond t (m +ℤ s .target) (m -ℤ s .target)) (eq-eqb (s .mode) 2 e))
+
+  pub taken-is : (s .mode ≡ 2 → ⊥) → back64 (back64 m -ℤ back64 (back32 (s .target))) ≡ plainNeed s m
+  unfolding plainNeed
+  taken-is e =
+      minus-is w64 m (s .target) (back64 m) (back64 (back32 (s .target))) em et (lt-of-le-of-lt sizes (lit< tt))
+      ∙ sym (ap (λ (t : Bool). cond t (m +ℤ s .target) (m -ℤ s .target)) (ne-eqb (s .mode) 2 e))
+
+-- its size
+pub plain-size : (s : Settings) (m : ℤ) → natAbs m ≤ 200000000000 → natAbs (s .target) ≤ 2147483648 → natAbs (plainNeed s m) ≤ 202147483648
+unfolding plainNeed
+plain-size s m hm ht = go (eqb (s .mode) 2)
+  where
+    both : natAbs m + natAbs (s .target) ≤ 202147483648
+    both = add-le-add hm ht
+
+    less : natAbs (negℤ (s .target)) ≡ natAbs (s .target)
+    less = size-neg (s .target)
+      where
+        size-neg : (z : ℤ) → natAbs (negℤ z) ≡ natAbs z
+        size-neg (pos zero) = refl
+        size-neg (pos (suc n)) = refl
+        size-neg (negsuc n) = refl
+
+    go : (t : Bool) → natAbs (cond t (m +ℤ s .target) (m -ℤ s .target)) ≤ 202147483648
+    go true = le-trans (size-sum m (s .target)) both
+    go false = le-trans (size-sum m (negℤ (s .target))) (subst⁻¹ (λ (n : ℕ). natAbs m + n ≤ 202147483648) less both)
+
+-- ---- rule 2
+module _ (other : Bool) (plain sum : ℤ) (hp : natAbs plain ≤ 300000000000) (hs : natAbs sum ≤ 1000000000000) where
+  ep : back64 plain ≡ plain
+  ep = read-sized plain (lt-of-le-of-lt hp (lit< tt))
+
+  es : back64 sum ≡ sum
+  es = read-sized sum (lt-of-le-of-lt hs (lit< tt))
+
+  room : natAbs plain + natAbs sum < 2 ^ 63
+  room = lt-of-le-of-lt (add-le-add hp hs) (lit< tt)
+
+  pub joined-fits : SFits w64 (back64 plain +ℤ back64 sum)
+  joined-fits = plus-fits w64 plain sum (back64 plain) (back64 sum) ep es room
+
+  pub joined-is : other ≡ true → back64 (back64 plain +ℤ back64 sum) ≡ cond other (plain +ℤ sum) plain
+  joined-is e = plus-is w64 plain sum (back64 plain) (back64 sum) ep es room ∙ sym (ap (λ (t : Bool). cond t (plain +ℤ sum) plain) e)
+
+  pub alone-is : other ≡ false → back64 plain ≡ cond other (plain +ℤ sum) plain
+  alone-is e = ep ∙ sym (ap (λ (t : Bool). cond t (plain +ℤ sum) plain) e)
+
+-- rules 1 and 2 together, from what the code's parts gave
+module _ (s : Settings) (m : ℤ) (a : Asked) (hm : natAbs m ≤ 200000000000) (hs : natAbs (a .sum) ≤ 1000000000000) (ht : natAbs (s .target) ≤ 100000000)
+    (plain : ℤ) (ep : plain ≡ plainNeed s (back64 m)) where
+  em2 : plain ≡ plainNeed s m
+  em2 = ep ∙ ap (plainNeed s) (read-sized m (lt-of-le-of-lt hm (lit< tt)))
+
+  plain-upto : natAbs plain ≤ 202147483648
+  plain-upto = subst⁻¹ (λ (z : ℤ). natAbs z ≤ 202147483648) em2 (plain-size s m hm (le-trans ht (lit≤ tt)))
+
+  plain-read : back64 plain ≡ plain
+  plain-read = read-sized plain (lt-of-le-of-lt plain-upto (lit< tt))
+
+  pub plain-ok : natAbs (back64 plain) ≤ 300000000000
+  plain-ok = subst⁻¹ (λ (z : ℤ). natAbs z ≤ 300000000000) plain-read (le-trans plain-upto (lit≤ tt))
+
+  sum-read : back64 (a .sum) ≡ a .sum
+  sum-read = read-sized (a .sum) (lt-of-le-of-lt hs (lit< tt))
+
+  pub sum-ok : natAbs (back64 (a .sum)) ≤ 1000000000000
+  sum-ok = subst⁻¹ (λ (z : ℤ). natAbs z ≤ 1000000000000) sum-read hs
+
+  pub need-is : (other : Bool) → other ≡ cond (charges (s .mode)) (a .above) (a .below) → (r : ℤ) → mag r < 2 ^ 63
+      → r ≡ cond other (back64 plain +ℤ back64 (a .sum)) (back64 plain) → back64 r ≡ needFrom s m a
+  unfolding needFrom
+  need-is other eo r hr e =
+      read w64 r hr ∙ e
+      ∙ ap₂ (λ (x y : ℤ). cond other (x +ℤ y) x) (plain-read ∙ em2) sum-read
+      ∙ ap (λ (t : Bool). cond t (plainNeed s m +ℤ a .sum) (plainNeed s m)) eo
+
+  -- its size
+  pub need-size : natAbs (a .sum) ≤ 137438953472 → natAbs (needFrom s m a) ≤ 400000000000
+  unfolding needFrom
+  need-size hb = go (cond (charges (s .mode)) (a .above) (a .below))
+    where
+      plain-fine : natAbs (plainNeed s m) ≤ 202147483648
+      plain-fine = plain-size s m hm (le-trans ht (lit≤ tt))
+
+      go : (t : Bool) → natAbs (cond t (plainNeed s m +ℤ a .sum) (plainNeed s m)) ≤ 400000000000
+      go true = le-trans (size-sum (plainNeed s m) (a .sum)) (le-trans (add-le-add plain-fine hb) (lit≤ tt))
+      go false = le-trans plain-fine (lit≤ tt)
+
+-- ---- rule 3
+module _ (charging : Bool) (need : ℤ) (h : mag need < 2 ^ 63) where
+  pub idle-charging : charging ≡ true → leZ (pos 0) (back64 need) ≡ cond charging (leZ (pos 0) need) (leZ need (pos 0))
+  idle-charging e = ap (leZ (pos 0)) (read w64 need h) ∙ sym (ap (λ (t : Bool). cond t (leZ (pos 0) need) (leZ need (pos 0))) e)
+
+  pub idle-discharging : charging ≡ false → leZ (back64 need) (pos 0) ≡ cond charging (leZ (pos 0) need) (leZ need (pos 0))
+  idle-discharging e = ap (λ (z : ℤ). leZ z (pos 0)) (read w64 need h) ∙ sym (ap (λ (t : Bool). cond t (leZ (pos 0) need) (leZ need (pos 0))) e)
+
+-- ---- rule 6: the share
+module _ (factor : ℕ) (need : ℤ) (weight weights : ℕ) (hn : natAbs need ≤ 400000000000) (hf : factor ≤ 1000) (hw : weight ≤ 10000) where
+  en : back64 need ≡ need
+  en = read-sized need (lt-of-le-of-lt hn (lit< tt))
+
+  ew : toZ w64 weight ≡ pos weight
+  ew = toZ-pos w64 weight (lt-of-le-of-lt hw (lit< tt))
+
+  ef : toZ w64 factor ≡ pos factor
+  ef = toZ-pos w64 factor (lt-of-le-of-lt hf (lit< tt))
+
+  first-size : natAbs need * weight ≤ 400000000000 * 10000
+  first-size = mul-le-mul hn hw
+
+  first-room : natAbs need * natAbs (pos weight) < 2 ^ 63
+  first-room = lt-of-le-of-lt first-size (lit< tt)
+
+  pub weighted-fits : SFits w64 (back64 need *ℤ toZ w64 weight)
+  weighted-fits = times-fits w64 need (pos weight) (back64 need) (toZ w64 weight) en ew first-room
+
+  weighted-is : back64 (back64 need *ℤ toZ w64 weight) ≡ need *ℤ pos weight
+  weighted-is = times-is w64 need (pos weight) (back64 need) (toZ w64 weight) en ew first-room
+
+  product-size : natAbs (need *ℤ pos weight) * factor ≤ 4000000000000000 * 1000
+  product-size = mul-le-mul (le-trans (le-of-eq (size-product need (pos weight))) first-size) hf
+
+  second-room : natAbs (need *ℤ pos weight) * natAbs (pos factor) < 2 ^ 63
+  second-room = lt-of-le-of-lt product-size (lit< tt)
+
+  pub factored-fits : SFits w64 (back64 (back64 need *ℤ toZ w64 weight) *ℤ toZ w64 factor)
+  factored-fits = times-fits w64 (need *ℤ pos weight) (pos factor) (back64 (back64 need *ℤ toZ w64 weight)) (toZ w64 factor) weighted-is ef second-room
+
+  factored-is : back64 (back64 (back64 need *ℤ toZ w64 weight) *ℤ toZ w64 factor) ≡ need *ℤ pos weight *ℤ pos factor
+  factored-is = times-is w64 (need *ℤ pos weight) (pos factor) (back64 (back64 need *ℤ toZ w64 weight)) (toZ w64 factor) weighted-is ef second-room
+
+  pub share-is : (r : ℤ) → mag r < 2 ^ 63 → r ≡ cut (back64 (back64 (back64 need *ℤ toZ w64 weight) *ℤ toZ w64 factor)) (weights * 1000)
+      → back64 r ≡ shareOf factor need weight weights
+  unfolding shareOf
+  share-is r hr e = read w64 r hr ∙ e ∙ ap (λ (z : ℤ). cut z (weights * 1000)) factored-is
+
+  -- a share is no larger than 10^18
+  pub share-size : natAbs (shareOf factor need weight weights) ≤ 4000000000000000000
+  unfolding shareOf
+  share-size =
+      le-trans (cut-size (need *ℤ pos weight *ℤ pos factor) (weights * 1000))
+      (le-trans (le-of-eq (size-product (need *ℤ pos weight) (pos factor))) product-size)
+
+-- ---- rule 6: what a request becomes
+
+-- z in the direction of the mode, or 0
+abbrev pub directed : Bool → ℕ → ℤ → ℤ
+directed charging R z = withMode charging (limited R z)
+
+-- against the mode: 0
+pub against-is : (charging : Bool) (R : ℕ) (z : ℤ) → (charging ≡ negative z → ⊥) → directed charging R z ≡ pos 0
+unfolding withMode limited
+against-is true R (pos n) h = by-size (min n R)
+  where
+    by-size : (k : ℕ) → cond (ltZ (pos 0) (pos k)) (pos 0) (pos k) ≡ pos 0
+    by-size zero = refl
+    by-size (suc k) = ap (λ (t : Bool). cond t (pos 0) (pos (suc k))) (lt-ltb 0 (suc k) (omega arith))
+against-is true R (negsuc n) h = absurd (h refl)
+against-is false R (pos n) h = absurd (h refl)
+against-is false R (negsuc n) h = by-size (min (suc n) R)
+  where
+    by-size : (k : ℕ) → cond (ltZ (negℤ (pos k)) (pos 0)) (pos 0) (negℤ (pos k)) ≡ pos 0
+    by-size zero = refl
+    by-size (suc k) = refl
+
+-- with the mode: limited, and kept
+pub with-is : (charging : Bool) (R : ℕ) (z : ℤ) → charging ≡ negative z → directed charging R z ≡ limited R z
+unfolding withMode limited
+with-is true R (pos n) h = absurd (passed-failed refl h)
+with-is true R (negsuc n) h = by-size (min (suc n) R)
+  where
+    by-size : (k : ℕ) → cond (ltZ (pos 0) (negℤ (pos k))) (pos 0) (negℤ (pos k)) ≡ negℤ (pos k)
+    by-size zero = refl
+    by-size (suc k) = refl
+with-is false R (pos n) h = ap (λ (t : Bool). cond t (pos 0) (pos (min n R))) (leb·suc-zero (min n R))
+with-is false R (negsuc n) h = absurd (passed-failed h refl)
+
+pub limited-small : (R : ℕ) (z : ℤ) → natAbs z ≤ R → limited R z ≡ signed (negative z) (natAbs z)
+unfolding limited
+limited-small R z h = ap (signed (negative z)) (min-eq-left h)
+
+pub limited-large : (R : ℕ) (z : ℤ) → R < natAbs z → limited R z ≡ signed (negative z) R
+unfolding limited
+limited-large R z h = ap (signed (negative z)) (min-eq-right (le-of-lt h))
+
+-- two flags that differ, and two that do not
+flags-differ : (a b : Bool) → not (Bool·beq a b) ≡ true → a ≡ b → ⊥
+flags-differ true true e p = passed-failed e refl
+flags-differ true false e p = passed-failed refl p
+flags-differ false true e p = passed-failed p refl
+flags-differ false false e p = passed-failed e refl
+
+flags-same : (a b : Bool) → not (Bool·beq a b) ≡ false → a ≡ b
+flags-same true true e = refl
+flags-same true false e = absurd (passed-failed refl e)
+flags-same false true e = absurd (passed-failed refl e)
+flags-same false false e = refl
+
+-- the code's way: the sum of request and share, its sign and its size
+module _ (charging : Bool) (R : ℕ) (request share : ℤ) (hR : R ≤ 100000000) (hs : natAbs share ≤ 4000000000000000000) (hr : mag request < 2 ^ 31) where
+  esh : back64 share ≡ share
+  esh = read-sized share (lt-of-le-of-lt hs (lit< tt))
+
+  sum-room : natAbs request + natAbs share < 2 ^ 63
+  sum-room = lt-of-le-of-lt (add-le-add (wide-size request hr) hs) (lit< tt)
+
+  pub sum-fits : SFits w64 (back64 (back32 request) +ℤ back64 share)
+  sum-fits = plus-fits w64 request share (back64 (back32 request)) (back64 share) (wide-is request hr) esh sum-room
+
+  sum-is : back64 (back64 (back32 request) +ℤ back64 share) ≡ request +ℤ share
+  sum-is = plus-is w64 request share (back64 (back32 request)) (back64 share) (wide-is request hr) esh sum-room
+
+  module _ (neg : Bool) (size : ℕ) (en : neg ≡ negative (back64 (back64 (back32 request) +ℤ back64 share))) (ez : size ≡ natAbs (back64 (back64 (back32 request) +ℤ back64 share))) where
+    neg-is : neg ≡ negative (request +ℤ share)
+    neg-is = en ∙ ap negative sum-is
+
+    size-is : size ≡ natAbs (request +ℤ share)
+    size-is = ez ∙ ap natAbs sum-is
+
+    pub turned-is : not (Bool·beq charging neg) ≡ true → pos 0 ≡ directed charging R (request +ℤ share)
+    turned-is t = sym (against-is charging R (request +ℤ share) (λ e. flags-differ charging neg t (e ∙ sym neg-is)))
+
+    kept : not (Bool·beq charging neg) ≡ false → directed charging R (request +ℤ share) ≡ limited R (request +ℤ share)
+    kept t = with-is charging R (request +ℤ share) (flags-same charging neg t ∙ neg-is)
+
+    pub small-fits : size ≤ R → SFits w32 (signed neg size)
+    small-fits l = signed-fits w32 neg size (lt-of-le-of-lt (le-trans l hR) (lit< tt))
+
+    pub small-is : not (Bool·beq charging neg) ≡ false → size ≤ R → (r : ℤ) → mag r < 2 ^ 31 → r ≡ signed neg size → back32 r ≡ directed charging R (request +ℤ share)
+    small-is t l r h e =
+        read w32 r h ∙ e ∙ ap₂ signed neg-is size-is
+        ∙ sym (kept t ∙ limited-small R (request +ℤ share) (subst (λ (n : ℕ). n ≤ R) size-is l))
+
+    pub large-fits : SFits w32 (signed neg R)
+    large-fits = signed-fits w32 neg R (lt-of-le-of-lt hR (lit< tt))
+
+    pub large-is : not (Bool·beq charging neg) ≡ false → R < size → (r : ℤ) → mag r < 2 ^ 31 → r ≡ signed neg R → back32 r ≡ directed charging R (request +ℤ share)
+    large-is t l r h e =
+        read w32 r h ∙ e ∙ ap (λ (b : Bool). signed b R) neg-is
+        ∙ sym (kept t ∙ limited-large R (request +ℤ share) (subst (λ (n : ℕ). R < n) size-is l))
+
+-- ---- rules 4 and 6: what is unable
+module _ (charging : Bool) (rated reserve stored : ℕ) where
+  pub full-is : charging ≡ true → eqb stored rated ≡ unable charging rated reserve stored
+  unfolding unable
+  full-is e = sym (ap (λ (t : Bool). cond t (eqb stored rated) (leb stored reserve)) e)
+
+  pub empty-is : charging ≡ false → leb stored reserve ≡ unable charging rated reserve stored
+  unfolding unable
+  empty-is e = sym (ap (λ (t : Bool). cond t (eqb stored rated) (leb stored reserve)) e)
+
+-- ---- rule 6 at one unit, from what the code's parts gave
+pub unit-is : (charging : Bool) (factor : ℕ) (need : ℤ) (all R weight : ℕ) (old part r : ℤ) → mag old < 2 ^ 31 → mag part < 2 ^ 63 → mag r < 2 ^ 31
+    → part ≡ shareOf factor need weight all → r ≡ withMode charging (limited R (back32 old +ℤ back64 part))
+    → back32 r ≡ unitAfter charging factor need all R weight old
+unfolding unitAfter
+unit-is charging factor need all R weight old part r ho hp hr ep er =
+    read w32 r hr ∙ er
+    ∙ ap₂ (λ (x y : ℤ). withMode charging (limited R (x +ℤ y))) (read w32 old ho) (read w64 part hp ∙ ep)

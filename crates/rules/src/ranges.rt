@@ -1,0 +1,21 @@
+ghost use mathlib.Core.Path.{_≡_};
+ghost use Rattle.rules.specs.Ranges.{settingsIn, measureIn};
+use super::Settings;
+
+// The settings are in their ranges.
+pub fn settings_in(s: Settings) -> bool
+    ensures { λ r. ⌜ r ≡ settingsIn s ⌝ }
+{
+    let size = whole::size32(s.target);
+    ((1 <= s.mode) & (s.mode <= 3))
+        & (size <= 100000000)
+        & (s.band <= 200000000)
+        & ((1 <= s.factor) & (s.factor <= 1000))
+}
+
+// A measure handed straight to a pass is in its range.
+pub fn measure_in(measure: i64) -> bool
+    ensures { λ r. ⌜ r ≡ measureIn measure ⌝ }
+{
+    whole::size64(measure) <= 300000000
+}

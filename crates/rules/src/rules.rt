@@ -1,0 +1,119 @@
+ghost use mathlib.Core.Path.{_≡_};
+ghost use Prim.Native.Nat.{_≤_};
+ghost use mathlib.Core.Bool.{cond};
+ghost use lib.IntN.{natAbs, _+ℤ_};
+ghost use Rattle.rules.specs.Rules.{plainNeed, noCall, unable, inBand, shareOf, limited, withMode};
+ghost use Rattle.rules.specs.Posts.{needFrom, restsBy};
+use super::Asked;
+use super::Settings;
+
+// P1: measure less target, or in mode 2 measure and target.
+fn plain_need(s: Settings, measure: i64) -> i64
+    requires { ⌜ natAbs measure ≤ 200000000000 ⌝ }
+    ensures { λ r. ⌜ r ≡ plainNeed s measure ⌝ }
+{
+    let target = s.target as i64;
+    if s.mode == 2 {
+        measure + target
+    } else {
+        measure - target
+    }
+}
+
+// Whether the fleet is in the state that is not the mode's own.
+fn in_other_state(charging: bool, a: Asked) -> bool
+    ensures { λ r. ⌜ r ≡ cond charging (a .above) (a .below) ⌝ }
+{
+    if charging { a.above } else { a.below }
+}
+
+// Whether the fleet is in the mode's own state.
+fn in_own_state(charging: bool, a: Asked) -> bool
+    ensures { λ r. ⌜ r ≡ cond charging (a .below) (a .above) ⌝ }
+{
+    if charging { a.below } else { a.above }
+}
+
+// P2: F is added where the fleet is in the other state.
+fn with_sum(other: bool, plain: i64, sum: i64) -> i64
+    requires { ⌜ natAbs plain ≤ 300000000000 ⌝ }
+    requires { ⌜ natAbs sum ≤ 1000000000000 ⌝ }
+    ensures { λ r. ⌜ r ≡ cond other (plain +ℤ sum) plain ⌝ }
+{
+    if other { plain + sum } else { plain }
+}
+
+// P1 and P2.
+pub fn need(s: Settings, measure: i64, a: Asked) -> i64
+    requires { ⌜ natAbs measure ≤ 200000000000 ⌝ }
+    requires { ⌜ natAbs (a .sum) ≤ 1000000000000 ⌝ }
+    requires { ⌜ natAbs (s .target) ≤ 100000000 ⌝ }
+    ensures { λ r. ⌜ r ≡ needFrom s measure a ⌝ }
+{
+    let plain = plain_need(s, measure);
+    with_sum(in_other_state(s.mode == 3, a), plain, a.sum)
+}
+
+// P3: a need that does not call: at or below 0 discharging, at or above 0 charging.
+fn no_call(charging: bool, need: i64) -> bool
+    ensures { λ r. ⌜ r ≡ noCall charging need ⌝ }
+{
+    if charging { 0 <= need } else { need <= 0 }
+}
+
+// P3: a fleet that is not in the mode's own state rests at such a need.
+pub fn rests(charging: bool, need: i64, a: Asked) -> bool
+    ensures { λ r. ⌜ r ≡ restsBy charging need a ⌝ }
+{
+    !in_own_state(charging, a) & no_call(charging, need)
+}
+
+// Nothing above the reserve, or, charging, no room.
+pub fn unable(charging: bool, rated: u64, reserve: u64, stored: u64) -> bool
+    ensures { λ r. ⌜ r ≡ unable charging rated reserve stored ⌝ }
+{
+    if charging {
+        stored == rated
+    } else {
+        stored <= reserve
+    }
+}
+
+// P5: twice the need's size is within the band.
+pub fn in_band(band: u32, need: i64) -> bool
+    requires { ⌜ natAbs need ≤ 10000000000000 ⌝ }
+    ensures { λ r. ⌜ r ≡ inBand band need ⌝ }
+{
+    2 * whole::size64(need) <= band as u64
+}
+
+// P6: a unit's share of the need.
+pub fn share(factor: u16, need: i64, weight: u16, weights: u64) -> i64
+    requires { ⌜ natAbs need ≤ 400000000000 ⌝ }
+    requires { ⌜ factor ≤ 1000 ⌝ }
+    requires { ⌜ weight ≤ 10000 ⌝ }
+    requires { ⌜ weights ≤ 640000 ⌝ }
+    ensures { λ r. ⌜ r ≡ shareOf factor need weight weights ⌝ }
+{
+    let part = need * (weight as i64) * (factor as i64);
+    whole::cut(part, weights * 1000)
+}
+
+// P6: a request and its share, limited to the rating in size, and 0 where that is against the
+// mode.
+pub fn request_after(charging: bool, rating: u32, request: i32, share: i64) -> i32
+    requires { ⌜ rating ≤ 100000000 ⌝ }
+    requires { ⌜ natAbs share ≤ 4000000000000000000 ⌝ }
+    ensures { λ r. ⌜ r ≡ withMode charging (limited rating (request +ℤ share)) ⌝ }
+{
+    let z = (request as i64) + share;
+    let negative = whole::below_zero64(z);
+    let size = whole::size64(z);
+    if charging != negative {
+        return 0;
+    }
+    if size <= rating as u64 {
+        return whole::signed32(negative, size as u32);
+    }
+    whole::signed32(negative, rating)
+}
