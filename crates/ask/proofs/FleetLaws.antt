@@ -11,7 +11,7 @@ use Rattle.whole.specs.Over.{allOf}
 use Rattle.whole.proofs.OverLaws.{and-parts}
 use Rattle.unit.specs.declared.Unit.{Unit}
 use Rattle.unit.specs.Ranges.{memberIn, unitIn}
-use Rattle.unit.specs.Rows.{unitsBy, storesBy}
+use Rattle.rows.specs.Rows.{unitsBy, storesBy}
 use Rattle.members.specs.Ranges.{fleetFor, memberAt, lengthsOk, lengthsIn}
 use Rattle.members.specs.Posts.{fleetBy}
 use Rattle.controller.proofs.SoundLaws.{same-lengths}

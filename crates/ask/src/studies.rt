@@ -22,7 +22,7 @@ fn study_with(
     ensures { λ r. ⌜ Surveyed (now (file .entry)) q (now (requests .entry)) (now (requests .exit)) r ⌝ }
 {
     stick::load(file, rows);
-    unit::stores(rows, stored);
+    rows::stores(rows, stored);
     let t = members::summed(rows);
     settling::settle_within(q, t, rows, stored, requests)
 }

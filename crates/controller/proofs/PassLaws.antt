@@ -12,7 +12,7 @@ use lib.Signed.{leZ}
 use Rattle.whole.specs.Over.{each}
 use Rattle.whole.proofs.OverLaws.{sum-upto, none-of}
 use Rattle.unit.specs.declared.Unit.{Unit}
-use Rattle.unit.proofs.RowLaws.{column-count}
+use Rattle.rows.proofs.RowLaws.{column-count}
 use Rattle.rules.specs.declared.Settings.{Settings}
 use Rattle.rules.specs.declared.Asked.{Asked}
 use Rattle.controller.specs.declared.Passed.{Passed}

@@ -16,9 +16,9 @@ use Rattle.whole.specs.Over.{allOf}
 use Rattle.whole.proofs.OverLaws.{and-parts, all-at}
 use Rattle.unit.specs.declared.Unit.{Unit}
 use Rattle.unit.specs.Ranges.{memberIn, unitIn}
-use Rattle.unit.specs.Rows.{unitBy}
+use Rattle.rows.specs.Rows.{unitBy}
 use Rattle.unit.proofs.RangeLaws.{Bounds, bounds}
-use Rattle.unit.proofs.RowLaws.{column-count}
+use Rattle.rows.proofs.RowLaws.{column-count}
 use Rattle.rules.specs.declared.Settings.{Settings}
 use Rattle.whole.specs.Interval.{between}
 use Rattle.rules.specs.Ranges.{settingsIn, measureIn}

@@ -10,9 +10,9 @@ use lib.ListN.{length, getD, replicate, length-replicate}
 use Rattle.whole.specs.Over.{eachFrom, each}
 use Rattle.unit.specs.declared.Unit.{Unit}
 use Rattle.unit.specs.Ranges.{unitIn, holding, Ranged}
-use Rattle.unit.specs.Rows.{unitBy, unitsBy}
+use Rattle.rows.specs.Rows.{unitBy, unitsBy}
 use Rattle.unit.proofs.RangeLaws.{Bounds, bounds}
-use Rattle.unit.proofs.RowLaws.{units-count, units-at, length-map, column-at}
+use Rattle.rows.proofs.RowLaws.{units-count, units-at, length-map, column-at}
 use Rattle.site.specs.declared.Head.{Head}
 use Rattle.site.specs.Site.{Site, count, unitOf}
 use Rattle.site.specs.Ranges.{Sited}

@@ -25,7 +25,7 @@ use Rattle.reading.specs.Choice.{measureOf, measureCall}
 use Rattle.reading.proofs.MeasureLaws.{measure-small}
 use Rattle.unit.specs.declared.Unit.{Unit}
 use Rattle.unit.specs.Ranges.{holding}
-use Rattle.unit.specs.Rows.{unitBy}
+use Rattle.rows.specs.Rows.{unitBy}
 use Rattle.members.specs.Ranges.{fleetFor}
 use Rattle.controller.specs.Pass.{passOf}
 use Rattle.members.specs.Posts.{fleetBy}

@@ -4,7 +4,7 @@ use mathlib.Core.List.{List}
 use mathlib.Core.Path.{_≡_}
 use lib.IntN.{ℤ}
 use lib.ListN.{length, getD}
-use Rattle.unit.specs.Rows.{unitsBy}
+use Rattle.rows.specs.Rows.{unitsBy}
 use Rattle.members.specs.Posts.{TotalsOf}
 use Rattle.storage.specs.Posts.{Rested}
 use Rattle.site.specs.declared.Head.{Head}

@@ -3,7 +3,7 @@ ghost use Prim.Native.Nat.{_≤_, _<_};
 ghost use mathlib.Core.List.{[]};
 ghost use lib.ListN.{length, getD};
 ghost use Rattle.unit.specs.Ranges.{Ranged, holding};
-ghost use Rattle.unit.specs.Rows.{unitBy, unitsBy};
+ghost use Rattle.rows.specs.Rows.{unitBy, unitsBy};
 ghost use Rattle.storage.specs.Step.{stepOf};
 ghost use Rattle.storage.specs.Posts.{Rested};
 ghost use Rattle.site.specs.Ranges.{Sited};
@@ -32,7 +32,7 @@ pub fn start(units: &[[u64; 17]], stored: &mut [u64], requests: &mut [i32])
     requires { ⌜ length (now requests) ≡ length (now units) ⌝ }
     ensures { λ _. ⌜ standing (now (stored .exit)) (now (requests .exit)) ≡ atFirst (unitsBy (now (units .entry))) ⌝ }
 {
-    unit::stores(units, stored);
+    rows::stores(units, stored);
     members::clear(requests);
 }
 
@@ -47,13 +47,13 @@ pub fn give(units: &[[u64; 17]], i: usize, seconds: u32, held: u64, request: i32
 {
     if request == 0 {
         return storage::rest(
-            unit::draw_of(units, i),
-            unit::vars_of(units, i),
+            rows::draw_of(units, i),
+            rows::vars_of(units, i),
             held,
             seconds,
         );
     }
-    let mut u = unit::unit_of(units, i);
+    let mut u = rows::unit_of(units, i);
     u.stored = held;
     storage::step_within(u, seconds, request)
 }

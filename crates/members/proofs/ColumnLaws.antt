@@ -13,8 +13,8 @@ use lib.IntN.{ℤ}
 use Rattle.whole.specs.Over.{sumOf}
 use Rattle.whole.proofs.OverLaws.{sum-next, sum-upto}
 use Rattle.unit.specs.declared.Unit.{Unit}
-use Rattle.unit.specs.Rows.{rowOf, unitBy}
-use Rattle.unit.proofs.RowLaws.{column-at, column-count}
+use Rattle.rows.specs.Rows.{rowOf, unitBy}
+use Rattle.rows.proofs.RowLaws.{column-at, column-count}
 use Rattle.members.specs.Ranges.{Fleet, fleetOf}
 use Rattle.members.specs.Sums.{total}
 use Rattle.members.specs.Posts.{SameLengths, MemberRow, TotalsOf, Addable, fleetBy, columnBy, nextBy, sharedBy}

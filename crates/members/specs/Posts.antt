@@ -8,7 +8,7 @@ use lib.ListN.{length, getD}
 use lib.Signed.{ltZ}
 use Rattle.whole.specs.Over.{sumOf}
 use Rattle.unit.specs.declared.Unit.{Unit}
-use Rattle.unit.specs.Rows.{unitBy, unitsBy}
+use Rattle.rows.specs.Rows.{unitBy, unitsBy}
 use Rattle.rules.specs.declared.Asked.{Asked}
 use Rattle.members.specs.declared.Totals.{Totals}
 use Rattle.members.specs.Ranges.{Fleet, fleetFor, someAbove, someBelow}

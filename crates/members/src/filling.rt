@@ -25,7 +25,7 @@ fn member_row(rated: u64, reserve: u64, rating: u32, weight: u16) -> [u64; 17]
         absorb: 0,
         grid_loss: 0,
     };
-    unit::row(u, 0, 0)
+    rows::row(u, 0, 0)
 }
 
 // Fills rows with the units of lent lists; what each holds stays in its list.

@@ -7,7 +7,7 @@ ghost use Rattle.members.specs.Sums.{changedOf};
 ghost use mathlib.Core.List.{[]};
 ghost use Prim.Native.Nat.{_<_};
 ghost use lib.ListN.{getD};
-ghost use Rattle.unit.specs.Rows.{unitBy};
+ghost use Rattle.rows.specs.Rows.{unitBy};
 ghost use Rattle.members.specs.Posts.{Sharing, Sharable, fleetBy, nextBy, sharedBy};
 
 // P4: every request becomes 0. Whether one changed.
@@ -43,14 +43,14 @@ fn next_request(
 {
     if rules::unable(
         charging,
-        unit::rated_of(units, i),
-        unit::reserve_of(units, i),
+        rows::rated_of(units, i),
+        rows::reserve_of(units, i),
         held,
     ) {
         return 0;
     }
-    let part = rules::share(factor, need, unit::weight_of(units, i), weights);
-    rules::request_after(charging, unit::rating_of(units, i), request, part)
+    let part = rules::share(factor, need, rows::weight_of(units, i), weights);
+    rules::request_after(charging, rows::rating_of(units, i), request, part)
 }
 
 // P6: each unit's request. Whether one changed.

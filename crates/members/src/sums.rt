@@ -42,9 +42,9 @@ pub fn summed(units: &[[u64; 17]]) -> Totals
     let mut weight: u64 = 0;
     let mut i = 0;
     while i < units.len() {
-        rated += unit::rated_of(units, i);
-        reserve += unit::reserve_of(units, i);
-        weight += unit::weight_of(units, i) as u64;
+        rated += rows::rated_of(units, i);
+        reserve += rows::reserve_of(units, i);
+        weight += rows::weight_of(units, i) as u64;
         i += 1;
     }
     Totals {

@@ -9,8 +9,8 @@ use lib.IntN.{ℤ}
 use lib.ListN.{length, length-replicate}
 use Rattle.roofs.specs.Roofs.{allOff}
 use Rattle.unit.specs.declared.Unit.{Unit}
-use Rattle.unit.specs.Rows.{unitsBy}
-use Rattle.unit.proofs.RowLaws.{units-count}
+use Rattle.rows.specs.Rows.{unitsBy}
+use Rattle.rows.proofs.RowLaws.{units-count}
 use Rattle.site.specs.declared.Head.{Head}
 use Rattle.site.specs.Site.{Site, count}
 use Rattle.site.specs.Ranges.{Sited}

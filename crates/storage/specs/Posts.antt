@@ -10,7 +10,7 @@ use Rattle.storage.specs.declared.Flow.the-variants.{Out, In, Idle}
 use Rattle.storage.specs.declared.Move.{Move}
 use Rattle.storage.specs.declared.Outcome.{Outcome}
 use Rattle.unit.specs.Ranges.{idleDraw, Ranged}
-use Rattle.unit.specs.Rows.{unitBy, drawBy, varsBy}
+use Rattle.rows.specs.Rows.{unitBy, drawBy, varsBy}
 use Rattle.energy.specs.Limits.{removedBy, addedBy, varsOf}
 use Rattle.storage.specs.Step.{inverterWatts}
 

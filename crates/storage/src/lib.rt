@@ -1,10 +1,10 @@
 // One step of a storage unit. Power is whole watts, positive for discharge; energy is whole joules;
 // efficiencies are parts in 10,000.
 mod flows;
-mod rows;
+mod resting;
 mod steps;
 
-pub use rows::row_of;
+pub use resting::row_of;
 pub use steps::idle_vars;
 pub use steps::rest;
 pub use steps::step;

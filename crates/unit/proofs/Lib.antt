@@ -1,3 +1,2 @@
 -- Laws about a unit's values that other proofs cite.
 pub mod RangeLaws
-pub mod RowLaws

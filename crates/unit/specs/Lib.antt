@@ -1,3 +1,2 @@
--- A storage unit: its values and their ranges, and rows of them.
+-- A storage unit: its values and their ranges.
 pub mod Ranges
-pub mod Rows

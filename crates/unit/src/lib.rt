@@ -1,7 +1,6 @@
-// A storage unit's values, their ranges, and rows of them. Power is whole watts, positive for
-// discharge; energy is whole joules; efficiencies are parts in 10,000.
+// A storage unit's values and their ranges. Power is whole watts, positive for discharge; energy is
+// whole joules; efficiencies are parts in 10,000.
 mod ranges;
-mod rows;
 
 pub use ranges::direct_in;
 pub use ranges::edition_in;
@@ -13,16 +12,6 @@ pub use ranges::limit_in;
 pub use ranges::member_in;
 pub use ranges::seconds_in;
 pub use ranges::unit_in;
-pub use rows::draw_of;
-pub use rows::rated_of;
-pub use rows::rating_of;
-pub use rows::reserve_of;
-pub use rows::row;
-pub use rows::stored_of;
-pub use rows::stores;
-pub use rows::unit_of;
-pub use rows::vars_of;
-pub use rows::weight_of;
 
 // A unit's values, in the order of the file. Priority 0 is watts, 1 vars; `provide` and `absorb` are
 // the most vars either way. The idle loss sits on the DC side, or at the grid.

@@ -6,7 +6,7 @@ use mathlib.Core.List.{[]}
 use lib.ListN.{getD}
 use Rattle.unit.specs.declared.Unit.{Unit}
 use Rattle.unit.specs.Ranges.{holding, Ranged}
-use Rattle.unit.specs.Rows.{unitBy}
+use Rattle.rows.specs.Rows.{unitBy}
 use Rattle.storage.proofs.StepLaws.{resting-small}
 use Rattle.fleet.proofs.UnitLaws.{holding-ranged, step-is, rest-is}
 use Rattle.fleet.proofs.units.give.Statement.{statement}

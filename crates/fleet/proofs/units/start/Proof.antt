@@ -1,8 +1,8 @@
 -- The stores are the rows' own, and every request is cleared.
 use borrow.Author.Needs.{needs}
 use mathlib.Core.Path.{sym, ap₂, _∙_}
-use Rattle.unit.specs.Rows.{storesBy}
-use Rattle.unit.proofs.RowLaws.{units-count}
+use Rattle.rows.specs.Rows.{storesBy}
+use Rattle.rows.proofs.RowLaws.{units-count}
 use Rattle.fleet.specs.Step.{standing, atFirst}
 use Rattle.fleet.proofs.SiteLaws.{zeros}
 use Rattle.fleet.proofs.units.start.Statement.{statement}

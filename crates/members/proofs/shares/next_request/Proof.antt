@@ -12,7 +12,7 @@ use mir.Syntax.{w64}
 use borrow.Author.Needs.{needs}
 use Rattle.whole.proofs.SignLaws.{read}
 use Rattle.unit.specs.declared.Unit.{Unit}
-use Rattle.unit.specs.Rows.{unitBy}
+use Rattle.rows.specs.Rows.{unitBy}
 use Rattle.rules.specs.Rules.{unable, unitAfter}
 use Rattle.members.proofs.FleetLaws.{next-none, next-some}
 use Rattle.rules.proofs.RuleLaws.{read-sized, share-size, unit-is, back64, back32}

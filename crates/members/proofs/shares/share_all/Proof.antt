@@ -13,8 +13,8 @@ use mir.Val.{toZ, ofZ}
 use Rattle.whole.specs.Over.{each}
 use Rattle.whole.proofs.SignLaws.{read}
 use Rattle.unit.specs.declared.Unit.{Unit}
-use Rattle.unit.specs.Rows.{unitBy}
-use Rattle.unit.proofs.RowLaws.{column-count}
+use Rattle.rows.specs.Rows.{unitBy}
+use Rattle.rows.proofs.RowLaws.{column-count}
 use Rattle.members.specs.Sums.{differ}
 use Rattle.members.specs.Posts.{Sharable, fleetBy, nextBy, sharedBy}
 use Rattle.members.proofs.ColumnLaws.{column-is, next-at}

@@ -4,8 +4,8 @@ use native.Mathlib.Omega.{arith}
 use mathlib.Core.Path.{refl}
 use lib.ListN.{length}
 use Rattle.unit.specs.declared.Unit.{Unit}
-use Rattle.unit.specs.Rows.{unitBy}
-use Rattle.unit.proofs.RowLaws.{column-count}
+use Rattle.rows.specs.Rows.{unitBy}
+use Rattle.rows.proofs.RowLaws.{column-count}
 use Rattle.members.specs.Posts.{columnBy}
 use Rattle.members.proofs.ColumnLaws.{Summing, summing-none, summing-more, summing-all, addable-upto, weight-upto, column-is}
 use Rattle.members.proofs.sums.summed.Statement.{statement}

@@ -1,0 +1,2 @@
+-- Laws about rows of units that other proofs cite.
+pub mod RowLaws

@@ -1,0 +1,2 @@
+-- Rows of storage units.
+pub mod Rows
