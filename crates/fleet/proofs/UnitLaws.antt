@@ -15,7 +15,8 @@ use Rattle.unit.specs.Ranges.{idleDraw, memberIn, unitIn, holding, Ranged}
 use Rattle.unit.proofs.RangeLaws.{Bounds, bounds}
 use Rattle.storage.specs.declared.Outcome.{Outcome}
 use Rattle.energy.specs.Limits.{varsOf}
-use Rattle.storage.specs.Step.{stepOf, inverterWatts}
+use Rattle.flows.specs.Flows.{inverterWatts}
+use Rattle.storage.specs.Step.{stepOf}
 use Rattle.storage.specs.Posts.{idleVars, restDraw, restOf}
 use Rattle.storage.proofs.StepLaws.{idle-step}
 

@@ -16,14 +16,15 @@ use Rattle.whole.specs.Largest.{legOf}
 use Rattle.whole.specs.Signed.{negative, signed}
 use Rattle.unit.proofs.RangeLaws.{Bounds}
 use Rattle.storage.proofs.GridLaws.{lower}
-use Rattle.storage.proofs.StepLaws.{Able, removal-covers, addition-covered}
+use Rattle.flows.proofs.FlowLaws.{Able, removal-covers, addition-covered}
 use Rattle.unit.specs.declared.Unit.{Unit}
-use Rattle.storage.specs.declared.Flow.{Flow}
-use Rattle.storage.specs.declared.Flow.the-variants.{Out, In, Idle}
+use Rattle.flows.specs.declared.Flow.{Flow}
+use Rattle.flows.specs.declared.Flow.the-variants.{Out, In, Idle}
 use Rattle.unit.specs.Ranges.{idleDraw}
 use Rattle.storage.specs.Relied.{Balanced, Conserved}
 use Rattle.energy.specs.Limits.{limitedVars, heldSize, removedBy, addedBy, takeable, gridLoss, varsOf}
-use Rattle.storage.specs.Step.{charged, flowOf, inverterWatts, gridWatts, storedOf, lossOf, outcomeOf}
+use Rattle.flows.specs.Flows.{charged, flowOf, inverterWatts, storedOf, lossOf}
+use Rattle.storage.specs.Step.{gridWatts, outcomeOf}
 
 -- ---- the vars leave the watts in the circle
 pub vars-in-circle : (u : Unit) (watts : ℤ) → natAbs watts ≤ u .kva

@@ -9,13 +9,14 @@ use lib.IntN.{ℤ, pos, negℤ, natAbs, -ℤ-+ℤ-cancel}
 use Rattle.unit.proofs.RangeLaws.{bounds}
 use Rattle.storage.proofs.GridLaws.{no-more-less}
 use Rattle.energy.proofs.LimitLaws.{held-most}
-use Rattle.storage.proofs.StepLaws.{flow-able}
+use Rattle.flows.proofs.FlowLaws.{flow-able}
 use Rattle.storage.proofs.ReliedLaws.{vars-in-circle, vars-provided, vars-absorbed, no-more, moves-no-more, charging-draws, watts-le, stays, never-above, conserves}
 use Rattle.unit.specs.declared.Unit.{Unit}
 use Rattle.unit.specs.Ranges.{idleDraw, unitIn, secondsIn}
 use Rattle.storage.specs.Relied.{Relied}
 use Rattle.energy.specs.Limits.{heldSize, gridLoss, varsOf}
-use Rattle.storage.specs.Step.{flowOf, inverterWatts, gridWatts, outcomeOf, stepOf}
+use Rattle.flows.specs.Flows.{flowOf, inverterWatts}
+use Rattle.storage.specs.Step.{gridWatts, outcomeOf, stepOf}
 
 pub relied : (u : Unit) (seconds : ℕ) (request : ℤ) → unitIn u ≡ true → secondsIn seconds ≡ true → Relied u seconds request
 unfolding stepOf outcomeOf gridWatts

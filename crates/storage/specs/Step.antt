@@ -1,62 +1,22 @@
--- One step of one unit (rules U1 to U12; what limits it stands in `energy`). Power is whole watts, positive for discharge; energy whole joules.
-use Prim.Native.Nat.{ℕ, zero, suc, _+_, _-_, _*_}
+-- One step of one unit (rules U1 to U12; what limits it stands in `energy`, what flows in `flows`). Power is whole watts, positive for discharge; energy whole joules.
+use Prim.Native.Nat.{ℕ, _+_, _*_}
 use mathlib.Core.Bool.{cond}
-use lib.Dec.{ltb, eqb}
-use lib.IntN.{ℤ, pos, negℤ, _-ℤ_}
-use Rattle.whole.specs.Signed.{negative}
+use lib.Dec.{eqb}
+use lib.IntN.{ℤ, pos, _-ℤ_}
 use Rattle.unit.specs.declared.Unit.{Unit}
-use Rattle.storage.specs.declared.Flow.{Flow}
-use Rattle.storage.specs.declared.Flow.the-variants.{Out, In, Idle}
+use Rattle.flows.specs.declared.Flow.{Flow}
 use Rattle.storage.specs.declared.Outcome.{Outcome}
 use Rattle.storage.specs.declared.Stepped.{Stepped}
 use Rattle.storage.specs.declared.Stepped.the-variants.{Done, RefusedBy}
-use Rattle.unit.specs.Ranges.{idleDraw, editionIn, inEdition}
-use Rattle.energy.specs.Limits.{gridLoss, heldSize, removedBy, deliverable, addedBy, takeable, varsOf}
+use Rattle.unit.specs.Ranges.{editionIn, inEdition}
+use Rattle.energy.specs.Limits.{gridLoss, varsOf}
+use Rattle.flows.specs.Flows.{flowOf, inverterWatts, storedOf, lossOf}
 use Rattle.storage.specs.Ranges.{stepRefusal}
 
--- what flows in a step: watts out, watts in, or nothing asked or possible. A unit idles where no count can be delivered or its store is below its
--- reserve, and where what it takes adds nothing
-abbrev pub outFlow : ℕ → Flow
-outFlow zero = Idle
-outFlow (suc x) = Out (suc x)
-
-unfoldable pub discharged : Unit → ℕ → ℕ → Flow
-unfolding deliverable
-discharged u seconds p = cond (ltb (u .stored) (u .reserve)) Idle (outFlow (deliverable u seconds p))
-
-unfoldable pub charged : Unit → ℕ → ℕ → Flow
-unfolding takeable addedBy
-charged u seconds p = let x = takeable u seconds p in cond (eqb (addedBy u seconds x) 0) Idle (In x)
-
-unfoldable pub flowOf : Unit → ℕ → ℤ → Flow
-unfolding heldSize discharged charged
-flowOf u seconds request = let p = heldSize u request in cond (negative request) (charged u seconds p) (discharged u seconds p)
-
--- U9: the inverter's watts; that of an idle unit draws the idle draw
-unfoldable pub inverterWatts : Unit → Flow → ℤ
-unfolding idleDraw
-inverterWatts u (Out x) = pos x
-inverterWatts u (In x) = negℤ (pos x)
-inverterWatts u Idle = negℤ (pos (idleDraw u))
-
--- and at the grid, less the loss there
+-- U9: the watts at the grid, the inverter's less the loss there
 unfoldable pub gridWatts : Unit → Flow → ℤ
 unfolding inverterWatts
 gridWatts u flow = inverterWatts u flow -ℤ pos (gridLoss u)
-
--- U10: the store after the step
-unfoldable pub storedOf : Unit → ℕ → Flow → ℕ
-unfolding removedBy addedBy
-storedOf u seconds (Out x) = u .stored - removedBy u seconds x
-storedOf u seconds (In x) = u .stored + addedBy u seconds x
-storedOf u seconds Idle = u .stored
-
--- U11: the loss, but for that at the grid
-unfoldable pub lossOf : Unit → ℕ → Flow → ℕ
-unfolding removedBy addedBy idleDraw
-lossOf u seconds (Out x) = removedBy u seconds x - x * seconds
-lossOf u seconds (In x) = x * seconds - addedBy u seconds x
-lossOf u seconds Idle = idleDraw u * seconds
 
 -- what a step gives, by what flows
 unfoldable pub outcomeOf : Unit → ℕ → Flow → Outcome

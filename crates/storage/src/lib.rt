@@ -1,6 +1,5 @@
 // One step of a storage unit. Power is whole watts, positive for discharge; energy is whole joules;
 // efficiencies are parts in 10,000.
-mod flows;
 mod resting;
 mod steps;
 
@@ -12,20 +11,6 @@ pub use steps::step_as;
 pub use steps::step_within;
 pub use unit::idle_draw;
 pub use unit::unit_in;
-
-// What flows in a step: watts out of the unit, watts into it, or only the idle draw.
-pub enum Flow {
-    Out(u64),
-    In(u64),
-    Idle,
-}
-
-// A flow with what it moves: joules out of the store or into it; of an idle unit the watts that it
-// draws.
-pub struct Move {
-    pub flow: Flow,
-    pub moved: u64,
-}
 
 // What a step gives: watts at the grid, vars, the store after it, and the loss in joules.
 pub struct Outcome {

@@ -6,7 +6,6 @@ ghost use Rattle.unit.specs.Ranges.{unitIn, Ranged};
 ghost use Rattle.storage.specs.Posts.{idleVars, restOf};
 use super::Outcome;
 use super::Stepped;
-use super::flows;
 use unit::Unit;
 
 // One step of a unit that is in its ranges.
@@ -14,7 +13,7 @@ pub fn step_within(u: Unit, seconds: u32, request: i32) -> Outcome
     requires { ⌜ Ranged u seconds ⌝ }
     ensures { λ r. ⌜ r ≡ stepOf u seconds request ⌝ }
 {
-    let m = flows::flow(u, seconds, request);
+    let m = flows::flow_of(u, seconds, request);
     let flow = m.flow;
     let moved = m.moved;
     let carried = flows::watts(u, seconds, flow, moved);

@@ -1,9 +1,9 @@
 -- The code is the definition, by what the flow moves. A removal is at least what is delivered and an addition at most what is drawn, so no loss is below
 -- 0; and watts up to S over a day fit 64 bits.
 use borrow.Author.Needs.{needs}
-use Rattle.storage.proofs.StepLaws.{out-fits, out-covers, in-fits, in-covered, idle-fits, out-loss, in-loss, idle-loss}
-use Rattle.storage.proofs.flows.loss.Statement.{statement}
-use Rattle.storage.proofs.flows.loss.Tie as tie
+use Rattle.flows.proofs.FlowLaws.{out-fits, out-covers, in-fits, in-covered, idle-fits, out-loss, in-loss, idle-loss}
+use Rattle.flows.proofs.flows.loss.Statement.{statement}
+use Rattle.flows.proofs.flows.loss.Tie as tie
 
 enum-known-flow : tie.Need-enum-known-flow
 enum-known-flow c = search needs

@@ -5,9 +5,9 @@ use mathlib.Core.Bool.{true, false}
 use native.Mathlib.Omega.{arith}
 use mir.Syntax.{w32}
 use Rattle.whole.proofs.SignLaws.{read, signed-fits}
-use Rattle.storage.proofs.StepLaws.{out-small, in-small, idle-small, out-watts, in-watts, idle-watts}
-use Rattle.storage.proofs.flows.watts.Statement.{statement}
-use Rattle.storage.proofs.flows.watts.Tie as tie
+use Rattle.flows.proofs.FlowLaws.{out-small, in-small, idle-small, out-watts, in-watts, idle-watts}
+use Rattle.flows.proofs.flows.watts.Statement.{statement}
+use Rattle.flows.proofs.flows.watts.Tie as tie
 
 enum-known-flow : tie.Need-enum-known-flow
 enum-known-flow c = search needs

@@ -4,10 +4,10 @@ use borrow.Author.Needs.{needs}
 use mathlib.Core.Path.{ap, _∙_}
 use native.Mathlib.Omega.{arith}
 use Rattle.energy.proofs.LimitLaws.{takeable-most}
-use Rattle.storage.proofs.StepLaws.{charged-none, charged-some, in-moves}
-use Rattle.storage.specs.Posts.{moveBy}
-use Rattle.storage.proofs.flows.charge_less.Statement.{statement}
-use Rattle.storage.proofs.flows.charge_less.Tie as tie
+use Rattle.flows.proofs.FlowLaws.{charged-none, charged-some, in-moves}
+use Rattle.flows.specs.Posts.{moveBy}
+use Rattle.flows.proofs.flows.charge_less.Statement.{statement}
+use Rattle.flows.proofs.flows.charge_less.Tie as tie
 
 take-in-requires : tie.Need-take-in-requires
 take-in-requires c κs = search needs

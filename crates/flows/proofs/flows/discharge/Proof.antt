@@ -4,10 +4,10 @@ use borrow.Author.Needs.{needs}
 use mathlib.Core.Path.{ap, _∙_, subst}
 use Prim.Native.Nat.{ℕ, _-_, _≤_}
 use Rattle.energy.proofs.LimitLaws.{deliverable-all}
-use Rattle.storage.proofs.StepLaws.{discharged-nothing, discharged-below, discharged-some, out-moves}
-use Rattle.storage.specs.Posts.{moveBy}
-use Rattle.storage.proofs.flows.discharge.Statement.{statement}
-use Rattle.storage.proofs.flows.discharge.Tie as tie
+use Rattle.flows.proofs.FlowLaws.{discharged-nothing, discharged-below, discharged-some, out-moves}
+use Rattle.flows.specs.Posts.{moveBy}
+use Rattle.flows.proofs.flows.discharge.Statement.{statement}
+use Rattle.flows.proofs.flows.discharge.Tie as tie
 
 idle-requires : tie.Need-idle-requires
 idle-requires c κs = search needs

@@ -3,9 +3,9 @@ use borrow.Author.Needs.{needs}
 use mathlib.Core.Path.{sym, _∙_}
 use mir.Syntax.{w32}
 use Rattle.whole.proofs.SignLaws.{sign-is}
-use Rattle.storage.proofs.StepLaws.{held-small, move-in, move-out}
-use Rattle.storage.proofs.flows.flow.Statement.{statement}
-use Rattle.storage.proofs.flows.flow.Tie as tie
+use Rattle.flows.proofs.FlowLaws.{held-small, move-in, move-out}
+use Rattle.flows.proofs.flows.flow.Statement.{statement}
+use Rattle.flows.proofs.flows.flow.Tie as tie
 
 held-requires : tie.Need-held-requires
 held-requires c κs = search needs

@@ -1,10 +1,10 @@
 ghost use mathlib.Core.Path.{_≡_};
 ghost use Prim.Native.Nat.{_≤_};
 ghost use lib.IntN.{pos, natAbs, _-ℤ_};
-ghost use Rattle.storage.specs.declared.Flow.the-variants.{Idle};
-ghost use Rattle.storage.specs.Step.{discharged, charged, flowOf, inverterWatts, storedOf, lossOf};
+ghost use Rattle.flows.specs.declared.Flow.the-variants.{Idle};
+ghost use Rattle.flows.specs.Flows.{discharged, charged, flowOf, inverterWatts, storedOf, lossOf};
 ghost use Rattle.unit.specs.Ranges.{Ranged};
-ghost use Rattle.storage.specs.Posts.{Moving, moveBy};
+ghost use Rattle.flows.specs.Posts.{Moving, moveBy};
 use super::Flow;
 use super::Move;
 use unit::Unit;

@@ -1,8 +1,8 @@
 -- The code is the definition: nothing flows, and the idle draw is what is drawn.
 use borrow.Author.Needs.{needs}
-use Rattle.storage.proofs.StepLaws.{idle-moves}
-use Rattle.storage.proofs.flows.idle.Statement.{statement}
-use Rattle.storage.proofs.flows.idle.Tie as tie
+use Rattle.flows.proofs.FlowLaws.{idle-moves}
+use Rattle.flows.proofs.flows.idle.Statement.{statement}
+use Rattle.flows.proofs.flows.idle.Tie as tie
 
 idle-draw-requires : tie.Need-idle-draw-requires
 idle-draw-requires c κs = search needs

@@ -2,9 +2,9 @@
 -- room for.
 use borrow.Author.Needs.{needs}
 use native.Mathlib.Omega.{arith}
-use Rattle.storage.proofs.StepLaws.{out-held, in-room, out-stored, in-stored, idle-stored}
-use Rattle.storage.proofs.flows.stored.Statement.{statement}
-use Rattle.storage.proofs.flows.stored.Tie as tie
+use Rattle.flows.proofs.FlowLaws.{out-held, in-room, out-stored, in-stored, idle-stored}
+use Rattle.flows.proofs.flows.stored.Statement.{statement}
+use Rattle.flows.proofs.flows.stored.Tie as tie
 
 enum-told : tie.Need-enum-told
 enum-told c = search needs

@@ -4,11 +4,11 @@ use mathlib.Core.Path.{sym, ap, _∙_, subst}
 use Prim.Native.Nat.{ℕ, _-_, _≤_}
 use Rattle.unit.proofs.RangeLaws.{bounds}
 use Rattle.energy.proofs.LimitLaws.{takeable-all}
-use Rattle.storage.proofs.StepLaws.{charged-none, charged-some, in-moves}
-use Rattle.storage.specs.Posts.{moveBy}
+use Rattle.flows.proofs.FlowLaws.{charged-none, charged-some, in-moves}
+use Rattle.flows.specs.Posts.{moveBy}
 use Rattle.energy.specs.Limits.{addedBy}
-use Rattle.storage.proofs.flows.charge.Statement.{statement}
-use Rattle.storage.proofs.flows.charge.Tie as tie
+use Rattle.flows.proofs.flows.charge.Statement.{statement}
+use Rattle.flows.proofs.flows.charge.Tie as tie
 
 added-requires : tie.Need-added-requires
 added-requires c κs = search needs

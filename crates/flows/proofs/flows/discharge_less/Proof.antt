@@ -4,10 +4,10 @@ use borrow.Author.Needs.{needs}
 use mathlib.Core.Path.{ap, _∙_}
 use native.Mathlib.Omega.{arith}
 use Rattle.energy.proofs.LimitLaws.{deliverable-most}
-use Rattle.storage.proofs.StepLaws.{discharged-none, discharged-some, out-moves}
-use Rattle.storage.specs.Posts.{moveBy}
-use Rattle.storage.proofs.flows.discharge_less.Statement.{statement}
-use Rattle.storage.proofs.flows.discharge_less.Tie as tie
+use Rattle.flows.proofs.FlowLaws.{discharged-none, discharged-some, out-moves}
+use Rattle.flows.specs.Posts.{moveBy}
+use Rattle.flows.proofs.flows.discharge_less.Statement.{statement}
+use Rattle.flows.proofs.flows.discharge_less.Tie as tie
 
 deliver-requires : tie.Need-deliver-requires
 deliver-requires c κs = search needs

@@ -7,8 +7,8 @@ use lib.IntN.{pos, natAbs}
 use mir.Syntax.{w32}
 use mir.Val.{hbits}
 use Rattle.whole.proofs.SignLaws.{read, signed-fits, minus-fits, minus-is}
-use Rattle.storage.proofs.flows.at_grid.Statement.{statement}
-use Rattle.storage.proofs.flows.at_grid.Tie as tie
+use Rattle.flows.proofs.flows.at_grid.Statement.{statement}
+use Rattle.flows.proofs.flows.at_grid.Tie as tie
 
 signed32-requires : tie.Need-signed32-requires
 signed32-requires c κs = signed-fits w32 false (c .args .u .«grid_loss») (omega (arith, c .pre .1))

@@ -1,0 +1,2 @@
+-- Laws about what flows, for this crate's proofs and for those above it.
+pub mod FlowLaws

@@ -1,0 +1,3 @@
+-- What flows in one step of a storage unit.
+pub mod Flows
+pub mod Posts
