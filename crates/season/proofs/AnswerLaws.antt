@@ -13,17 +13,15 @@ use Rattle.stick.specs.declared.Answer.{Answer}
 use Rattle.stick.specs.Check.{answer, checkOf}
 use Rattle.stick.specs.Site.{siteOf, roofsOf, stepsOf}
 use Rattle.stick.proofs.SiteProved.{sited, roofed, steps-count, steps-most}
-use Rattle.roofs.specs.Roofs.{allOff}
-use Rattle.fleet.specs.Step.{atFirst}
-use Rattle.season.specs.Run.{resultBy, resultOf}
+use Rattle.season.specs.Run.{resultOf}
 use Rattle.season.specs.Answers.{needed, roomOf, runAnswer, runLeaves}
 use Rattle.season.specs.Posts.{Counted}
-use Rattle.season.proofs.RunLaws.{from-length}
+use Rattle.season.proofs.RunLaws.{by-length}
 
 -- the result of any file is as long as what is needed for it
 pub result-length : (file : List ℕ) → length (resultOf file) ≡ needed file
-unfolding resultOf resultBy needed
-result-length file = from-length (siteOf file) (roofsOf file) 0 (atFirst (siteOf file .units)) (allOff (roofsOf file)) (stepsOf file)
+unfolding resultOf needed
+result-length file = by-length (siteOf file) (roofsOf file) (stepsOf file)
 
 -- laid from the room's start, bytes are followed by what the room held past them
 over : (bs room : List ℕ) (n : ℕ) → length bs ≡ n → laid room 0 bs ≡ bs ++ drop n room

@@ -22,7 +22,8 @@ use Rattle.site.specs.Site.{Site}
 use Rattle.stick.specs.Site.{siteOf, stepsOf}
 use Rattle.stick.specs.Posts.{Accepted}
 use Rattle.fleet.specs.Step.{Standing, atFirst, passedOn, askedBy, after}
-use Rattle.season.specs.Holds.{standsAfter, RunLaw}
+use Rattle.stretch.specs.Stretch.{standsAfter}
+use Rattle.season.specs.Holds.{RunLaw}
 use Rattle.season.proofs.AnswerLaws.{result-length}
 use Rattle.season.proofs.UsedLaws.{none-refused}
 

@@ -2,6 +2,7 @@
 pub mod RunLaws
 pub mod RoofLaws
 pub mod AnswerLaws
+pub mod StepsLaws
 pub mod LoadLaws
 pub mod UsedLaws
 pub mod HoldsProved

@@ -2,7 +2,7 @@
 -- file's result. Assumes nothing.
 use mathlib.Core.Path.{_≡_, sym, ap, ap₂, _∙_, subst}
 use mathlib.Core.Bool.{Bool, false}
-use mathlib.Core.List.{List}
+use mathlib.Core.List.{List, _++_}
 use Prim.Native.Nat.{ℕ, _≤_}
 use native.Mathlib.Nat.{le-trans, le-of-eq}
 use lib.IntN.{ℤ}
@@ -17,13 +17,15 @@ use Rattle.site.specs.Ranges.{Sited}
 use Rattle.stick.specs.Site.{siteOf, roofsOf, stepsOf}
 use Rattle.stick.specs.Posts.{Accepted}
 use Rattle.stick.proofs.SiteProved.{sited}
+use Rattle.records.specs.Records.{endOf}
 use Rattle.fleet.specs.declared.Frame.{Frame}
 use Rattle.fleet.specs.Step.{Standing, standing, atFirst}
 use Rattle.fleet.specs.Posts.{Ready, siteBy, siteIn}
 use Rattle.fleet.proofs.SiteLaws.{first-held}
-use Rattle.season.specs.Run.{resultFrom, resultBy, resultOf, neededBy}
+use Rattle.stretch.specs.Stretch.{recordsFrom}
+use Rattle.season.specs.Run.{resultBy, resultOf, neededBy}
 use Rattle.season.specs.Answers.{needed}
-use Rattle.season.specs.Posts.{Counted, Loaded}
+use Rattle.season.specs.Posts.{Counted, Loaded, resultIn}
 use Rattle.season.proofs.AnswerLaws.{same-steps}
 
 abbrev siteWith : Head → List Unit → Site
@@ -57,8 +59,9 @@ module _ (file : List ℕ) (rows : List (List ℕ)) (eu : unitsBy rows ≡ siteO
       unfolding needed
       loaded-fits steps n c l = le-trans (le-of-eq (ap₂ (λ (site : Site) (k : ℕ). neededBy site (roofsOf file) k) frame-site (sym (same-steps file steps c)))) l
 
-      pub all-written : resultFrom (siteIn f rows) (roofsOf file) 0 (standing stored rs) on (stepsOf file) ≡ resultOf file
+      pub all-written : resultIn file f rows stored rs on ≡ resultOf file
       unfolding resultOf resultBy
       all-written =
-          ap₂ (λ (site : Site) (st : Standing). resultFrom site (roofsOf file) 0 st on (stepsOf file)) frame-site (es ∙ ap atFirst eu)
-          ∙ ap (λ (o : List Bool). resultFrom (siteOf file) (roofsOf file) 0 (atFirst (siteOf file .units)) o (stepsOf file)) eo
+          ap (λ (bs : List ℕ). bs ++ endOf (length (stepsOf file)))
+          (ap₂ (λ (site : Site) (st : Standing). recordsFrom site (roofsOf file) 0 st on (stepsOf file)) frame-site (es ∙ ap atFirst eu)
+          ∙ ap (λ (o : List Bool). recordsFrom (siteOf file) (roofsOf file) 0 (atFirst (siteOf file .units)) o (stepsOf file)) eo)

@@ -1,31 +1,19 @@
--- The roofs of an accepted file lie where the code finds them, in their ranges, and are those that the file says; and every step's sun is in its range.
--- Assumes nothing.
-use mathlib.Core.Path.{_≡_, refl, sym, ap, ap₂, _∙_, subst⁻¹}
-use mathlib.Core.Bool.{Bool, true, false, cond}
+-- The roofs of an accepted file lie where the code finds them, in their ranges, and are those that the file says. Assumes nothing.
+use mathlib.Core.Path.{_≡_, sym, ap, ap₂, _∙_, subst⁻¹}
 use mathlib.Core.List.{List}
-use Prim.Native.Nat.{ℕ, _+_, _*_, _≤_, _<_}
+use Prim.Native.Nat.{ℕ, _+_, _*_, _<_}
 use native.Mathlib.Nat.{le-trans, le-of-eq}
 use native.Mathlib.Omega.{arith}
-use lib.Dec.{eqb}
 use lib.ListN.{length}
 use lib.Seq.{ext-getD}
-use Rattle.whole.proofs.Choice.{by-test}
-use Rattle.whole.proofs.OverLaws.{each-length}
-use Rattle.parts.specs.Header.{header, tagAt}
-use Rattle.solar.specs.declared.Sun.{Sun}
-use Rattle.solar.specs.declared.Weather.{Weather}
-use Rattle.solar.specs.declared.Sky.{Sky}
-use Rattle.solar.specs.declared.Sky.the-variants.{Clear, Unknown}
-use Rattle.solar.specs.Roof.{Roof, roofIn}
-use Rattle.solar.specs.Weather.{dark, skyOf, sunOr}
-use Rattle.solar.specs.Posts.{roofBy, Roofed, Shining}
-use Rattle.solar.proofs.SkyLaws.{sky-shining}
+use Rattle.parts.specs.Header.{header}
+use Rattle.solar.specs.Roof.{roofIn}
+use Rattle.solar.specs.Posts.{Roofed}
 use Rattle.site.specs.Site.{noRoof, roofOf}
-use Rattle.fields.specs.Fields.{inverterAt, weatherAt}
-use Rattle.stick.specs.Site.{roofsOf, sunAt}
-use Rattle.stick.specs.Posts.{Accepted, roofBytes, roofPlace, stepsPlace, sunBefore, stepAt}
+use Rattle.fields.specs.Fields.{inverterAt}
+use Rattle.stick.specs.Site.{roofsOf}
+use Rattle.stick.specs.Posts.{Accepted, roofBytes, roofPlace, stepsPlace}
 use Rattle.stick.proofs.SiteProved.{accepted, roofed, roof-is}
-use Rattle.roofs.specs.Roofs.{lit, onAfter}
 use Rattle.roofs.specs.Posts.{roofHere, roofsHere, RoofsThere}
 use Rattle.roofs.proofs.LoopLaws.{here-count, here-at}
 
@@ -64,25 +52,6 @@ module _ (file : List ℕ) (z : Accepted file) where
             });
       }
 
--- ---- a step's sun
-dark-shines : Shining dark
-dark-shines = record { irradiance-small = omega arith; temperature-small = omega arith }
-
-sky-shines : (w : Weather) → Shining (sunOr (skyOf w))
-sky-shines w = go (skyOf w) refl
-  where
-    go : (k : Sky) → skyOf w ≡ k → Shining (sunOr k)
-    go (Clear s) e = sky-shining w s e
-    go Unknown e = dark-shines
-
-pub sun-shines : (file : List ℕ) (at : ℕ) → Shining (stepAt file at .sun)
-unfolding stepAt sunBefore sunAt
-sun-shines file at = by-test Shining (eqb (tagAt file at) 8) (sunOr (skyOf (weatherAt file (at + header)))) dark (λ t. sky-shines (weatherAt file (at + header))) (λ t. dark-shines)
-
 -- ---- by what the code has read
 pub roofs-read : (file : List ℕ) → Accepted file → (n first : ℕ) → n ≡ length (roofsOf file) → first ≡ roofPlace file 0 → roofsHere file first n ≡ roofsOf file
 roofs-read file z n first en ef = ap₂ (λ (p m : ℕ). roofsHere file p m) ef en ∙ roofs-are file z
-
-pub on-length : (roofs : List Roof) (s : Sun) (on : List Bool) → length (onAfter roofs s on) ≡ length on
-unfolding onAfter
-on-length roofs s on = each-length (λ (i : ℕ) (was : Bool). lit roofs s i was .on) on

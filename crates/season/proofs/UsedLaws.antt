@@ -1,29 +1,56 @@
 -- No run meets a reading that is refused: the check has looked at every power, and at the phase choice. Assumes nothing.
-use mathlib.Core.Path.{_≡_, sym, ap, _∙_}
+use mathlib.Core.Path.{_≡_, refl, sym, ap, _∙_, subst, subst⁻¹}
+use mathlib.Core.Bool.{Bool, true, false, cond}
 use mathlib.Core.List.{List, [], _∷_}
 use Prim.Native.Nat.{ℕ, zero, suc, _<_}
 use native.Mathlib.Omega.{arith}
+use lib.Dec.{eqb}
 use lib.IntN.{ℤ}
 use lib.ListN.{length, getD}
+use Rattle.parts.specs.Header.{tagAt}
 use Rattle.reading.specs.declared.Phases.{Phases}
 use Rattle.reading.specs.declared.Reading.the-variants.{Missing, Power}
 use Rattle.reading.specs.declared.Measure.the-variants.{Chosen}
 use Rattle.reading.specs.Choice.{measureOf, refusalOf}
+use Rattle.solar.specs.declared.Sun.{Sun}
 use Rattle.solar.specs.Weather.{dark}
 use Rattle.site.specs.declared.Step.{Step}
 use Rattle.site.specs.Site.{stepWith}
-use Rattle.stick.specs.Site.{siteOf, stepsOf}
-use Rattle.stick.specs.Posts.{Accepted, stepAt, stepPast, StepsAt}
-use Rattle.stick.proofs.SiteProved.{sited, steps-at}
+use Rattle.fields.specs.Fields.{isReading}
+use Rattle.stick.specs.Site.{placesFrom, siteOf, readingAt, sunAt, stepsIn, stepsFrom, stepsOf}
+use Rattle.stick.specs.Posts.{Accepted, stepsPlace}
+use Rattle.stick.proofs.SiteProved.{sited, steps-from}
 use Rattle.fleet.proofs.UsedLaws.{chosen}
+use Rattle.stretch.specs.Posts.{FieldsAt, StepsThere}
+use Rattle.stretch.proofs.AcceptedLaws.{steps-there}
 
-usable : (file : List ℕ) (at : ℕ) (ss : List Step) → StepsAt file at ss → (k : ℕ) → k < length ss → refusalOf (getD ss k (stepWith Missing dark) .reading) ≡ 0
-unfolding StepsAt stepAt
-usable file at [] sa k h = absurd (omega (arith, h))
-usable file at (s ∷ ss) sa zero h = ap (λ (x : Step). refusalOf (x .reading)) (sym (sa .1 .0)) ∙ sa .0 .usable
-usable file at (s ∷ ss) sa (suc k) h = usable file (stepPast file at) ss (sa .1 .1) k (omega (arith, h))
+-- each reading of these fields
+usable : (file : List ℕ) (s : Sun) (ats : List ℕ) → FieldsAt file ats → (k : ℕ) → k < length (stepsIn file s ats) → refusalOf (getD (stepsIn file s ats) k (stepWith Missing dark) .reading) ≡ 0
+unfolding FieldsAt stepsIn
+usable file s [] fs k h = absurd (omega (arith, h))
+usable file s (at ∷ ats) fs k h = go (isReading (tagAt file at)) refl (eqb (tagAt file at) 8) (λ s j l. usable file s ats (fs .1) j l) k h
+  where
+    Rest : Type 0
+    Rest = (s : Sun) (j : ℕ) → j < length (stepsIn file s ats) → refusalOf (getD (stepsIn file s ats) j (stepWith Missing dark) .reading) ≡ 0
+
+    steps : Bool → Bool → List Step
+    steps a b = cond a (stepWith (readingAt file at) s ∷ stepsIn file dark ats) (cond b (stepsIn file (sunAt file at) ats) (stepsIn file s ats))
+
+    go : (a : Bool) → isReading (tagAt file at) ≡ a → (b : Bool) → Rest → (k : ℕ) → k < length (steps a b) → refusalOf (getD (steps a b) k (stepWith Missing dark) .reading) ≡ 0
+    go true r b more zero l = fs .0 .reading r .usable
+    go true r b more (suc k) l = more dark k (omega (arith, l))
+    go false r true more k l = more (sunAt file at) k l
+    go false r false more k l = more s k l
+
+all-usable : (file : List ℕ) → Accepted file → (k : ℕ) → k < length (stepsOf file) → refusalOf (getD (stepsOf file) k (stepWith Missing dark) .reading) ≡ 0
+unfolding StepsThere stepsFrom
+all-usable file a k h =
+    let at : ℕ = stepsPlace file in
+    let e : stepsIn file dark (placesFrom (length file) file at) ≡ stepsOf file = steps-from file a in
+    subst (λ (ss : List Step). refusalOf (getD ss k (stepWith Missing dark) .reading) ≡ 0) e
+    (usable file dark (placesFrom (length file) file at) (steps-there file a) k (subst⁻¹ (λ (ss : List Step). k < length ss) e h))
 
 -- every power that an accepted file has gives a measure
 pub none-refused : (file : List ℕ) → Accepted file → (k : ℕ) → k < length (stepsOf file) → (p : Phases) → getD (stepsOf file) k (stepWith Missing dark) .reading ≡ Power p
     → (m : ℤ) × (measureOf p (siteOf file .head .phase) ≡ Chosen m)
-none-refused file a k h p e = chosen p (siteOf file .head .phase) (sited file a .phase) (ap refusalOf (sym e) ∙ usable file _ (stepsOf file) (steps-at file a) k h)
+none-refused file a k h p e = chosen p (siteOf file .head .phase) (sited file a .phase) (ap refusalOf (sym e) ∙ all-usable file a k h)

@@ -1,6 +1,6 @@
 -- What holds of every run of an accepted file (rules O5, T5, M6 and P9). `run-law` proves it.
 use Prim.Native.Nat.{ℕ, _<_}
-use mathlib.Core.List.{List, [], _∷_}
+use mathlib.Core.List.{List}
 use mathlib.Core.Path.{_≡_}
 use lib.IntN.{ℤ}
 use lib.ListN.{length, getD, take}
@@ -10,18 +10,12 @@ use Rattle.reading.specs.declared.Measure.the-variants.{Chosen}
 use Rattle.reading.specs.Choice.{measureOf}
 use Rattle.controller.specs.OneSign.{OneSign}
 use Rattle.solar.specs.Weather.{dark}
-use Rattle.site.specs.declared.Step.{Step}
-use Rattle.site.specs.Site.{Site, stepWith}
+use Rattle.site.specs.Site.{stepWith}
 use Rattle.stick.specs.Site.{siteOf, stepsOf}
-use Rattle.fleet.specs.Step.{Standing, atFirst, after}
+use Rattle.fleet.specs.Step.{atFirst}
+use Rattle.stretch.specs.Stretch.{standsAfter}
 use Rattle.season.specs.Run.{resultOf}
 use Rattle.season.specs.Answers.{needed}
-
--- what stands after these steps
-unfoldable pub standsAfter : Site → Standing → List Step → Standing
-unfolding after
-standsAfter site st [] = st
-standsAfter site st (s ∷ ss) = standsAfter site (after site st s) ss
 
 pub record RunLaw (file : List ℕ) : Type 0 where
   -- the result has as many bytes as the room is asked for

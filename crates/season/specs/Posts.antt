@@ -1,7 +1,7 @@
 -- Nobody has to believe this file: the parts of contracts by name.
 use Prim.Native.Nat.{ℕ}
 use mathlib.Core.Bool.{Bool}
-use mathlib.Core.List.{List}
+use mathlib.Core.List.{List, _++_}
 use mathlib.Core.Path.{_≡_}
 use lib.IntN.{ℤ}
 use lib.ListN.{length}
@@ -9,10 +9,11 @@ use Rattle.stick.specs.Check.{checkOf}
 use Rattle.stick.specs.Site.{siteOf, roofsOf, stepsOf}
 use Rattle.stick.specs.Posts.{Accepted}
 use Rattle.site.specs.Site.{count}
+use Rattle.records.specs.Records.{endOf}
 use Rattle.fleet.specs.declared.Frame.{Frame}
 use Rattle.fleet.specs.Step.{standing}
 use Rattle.fleet.specs.Posts.{Ready, Held, siteIn}
-use Rattle.season.specs.Run.{resultFrom}
+use Rattle.stretch.specs.Stretch.{recordsFrom}
 
 -- a file that the check accepts with so many steps
 pub record Counted (file : List ℕ) (steps : ℕ) : Type 0 where
@@ -35,4 +36,4 @@ pub record Loaded (file : List ℕ) (f : Frame) (rows : List (List ℕ)) (stored
 
 -- the result of a file's steps, by its site in a frame and rows and from what stands
 abbrev pub resultIn : List ℕ → Frame → List (List ℕ) → List ℕ → List ℤ → List Bool → List ℕ
-resultIn file f rows stored requests on = resultFrom (siteIn f rows) (roofsOf file) 0 (standing stored requests) on (stepsOf file)
+resultIn file f rows stored requests on = recordsFrom (siteIn f rows) (roofsOf file) 0 (standing stored requests) on (stepsOf file) ++ endOf (length (stepsOf file))

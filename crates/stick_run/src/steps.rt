@@ -1,13 +1,16 @@
 ghost use mathlib.Core.Path.{_≡_};
 ghost use lib.ListN.{length};
 ghost use Rattle.stick.specs.Site.{siteOf, roofsOf};
-ghost use Rattle.season.specs.Run.{allBytes};
+ghost use Rattle.stretch.specs.Stretch.{allBytes};
 ghost use Rattle.season.specs.Posts.{Counted, Lengths, Loaded};
+use fields::HEADER;
 use fleet::Frame;
 use libc::STDOUT_FILENO;
 use records::END_BYTES;
 use records::RECORD_BYTES;
 use records::ROOF_RECORD_BYTES;
+use solar::Sun;
+use stretch::Way;
 
 // The end record: whether it was written.
 fn write_end(count: u32) -> bool {
@@ -32,20 +35,35 @@ fn write_steps(
     requires { ⌜ Loaded (now file) f (now rows) (now stored) (now requests) (now on) ⌝ }
     requires { ⌜ length (now room) ≡ allBytes (siteOf (now file)) (roofsOf (now file)) ⌝ }
 {
-    let units = RECORD_BYTES * requests.len();
     let first = stick::roofs_place(file);
-    let mut next = stick::steps_place(file);
-    let mut k = 0;
-    while k < count {
-        let s = stick::step_at(file, next);
-        let sun = s.sun;
-        fleet::step(f, rows, k, s, stored, requests, room, 0);
-        roofs::step(file, first, k, sun, on, room, units);
-        if !io::write_all(STDOUT_FILENO, room) {
+    let mut at = stick::steps_place(file);
+    let mut way = Way {
+        step: 0,
+        sun: Sun {
+            irradiance: 0,
+            temperature: 0,
+        },
+    };
+    while at < file.len() {
+        let k = way.step;
+        way = stretch::on_field(
+            file,
+            first,
+            f,
+            rows,
+            file,
+            at,
+            way,
+            stored,
+            requests,
+            on,
+            room,
+            0,
+        );
+        if way.step != k && !io::write_all(STDOUT_FILENO, room) {
             return false;
         }
-        next = stick::step_past(file, next);
-        k += 1;
+        at += HEADER + (octets::u16_at(file, at + 1) as usize);
     }
     write_end(count)
 }

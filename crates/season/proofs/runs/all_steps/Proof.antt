@@ -1,237 +1,135 @@
--- Each step lays the records of its units and then those of its inverters behind those of the steps before; after the last step comes the end record, and the result is whole.
-use mathlib.Core.Path.{_≡_, refl, sym, ap, _∙_, subst, subst⁻¹}
-use mathlib.Core.Bool.{Bool}
+-- The steps of the file are a stretch from where they stand to the file's end, so that along it all their records are laid; behind them comes the end record, and the result is whole.
+use mathlib.Core.Path.{_≡_, sym, ap₂, _∙_, subst⁻¹}
 use mathlib.Core.List.{List}
-use Prim.Native.Nat.{ℕ, _+_, _-_, _*_, _≤_}
+use Prim.Native.Nat.{ℕ, _+_, _*_, _≤_}
 use native.Mathlib.Omega.{arith}
 use lib.ListN.{length}
 use Rattle.octets.specs.BigEndian.{laid}
-use Rattle.solar.specs.declared.Sun.{Sun}
 use Rattle.solar.specs.Roof.{Roof}
-use Rattle.solar.specs.Posts.{Shining}
+use Rattle.solar.specs.Weather.{dark}
 use Rattle.site.specs.declared.Step.{Step}
-use Rattle.stick.specs.Site.{roofsOf, stepsOf}
-use Rattle.stick.specs.Posts.{StepThere, StepsAt}
-use Rattle.stick.proofs.SiteProved.{steps-at}
-use Rattle.roofs.specs.Roofs.{onAfter, roofsBy}
+use Rattle.stick.specs.Site.{roofsOf, stepsFrom, stepsOf}
 use Rattle.roofs.specs.Posts.{roofsHere}
 use Rattle.fleet.specs.Step.{standing}
 use Rattle.fleet.specs.Posts.{siteIn}
-use Rattle.season.specs.Run.{allBytes}
-use Rattle.season.proofs.RunLaws.{Running, none-run, upto, run-length, end-fits, step-fits, step-there, next-run, all-run}
-use Rattle.season.proofs.RoofLaws.{roofs-there, roofs-read, sun-shines, on-length}
+use Rattle.stretch.specs.Stretch.{recordsFrom, allBytes}
+use Rattle.stretch.proofs.AppendLaws.{records-length}
+use Rattle.stretch.proofs.FieldLaws.{dark-shines}
+use Rattle.season.proofs.RunLaws.{end-laid}
+use Rattle.season.proofs.RoofLaws.{roofs-there, roofs-read}
 use Rattle.season.proofs.AnswerLaws.{same-steps, few-roofs}
+use Rattle.season.proofs.StepsLaws.{steps-are, upto, there, few, fit}
+use borrow.Author.Needs.{needs}
 use Rattle.season.proofs.runs.all_steps.Statement.{statement}
 use Rattle.season.proofs.runs.all_steps.Tie as tie
 
-abbrev Inv-loop : tie.InvT-loop
-Inv-loop file count f rows stored₀ requests₀ on₀ room₀ units size first next₀ at₀ k₀ stored requests on room next at k =
-    Running (siteIn f rows) (roofsOf file) file count (standing stored₀ requests₀) on₀ (stepsOf file) room₀ stored requests on room next at k
+-- where the function starts, and where the steps' place is known, seen from behind the steps
+abbrev placed : tie.After-along → tie.After-steps-place
+placed w = w .before .before .before .before .before
 
-abbrev μ-loop : tie.MeasureT-loop
-μ-loop file count f rows stored₀ requests₀ on₀ room₀ units size first next₀ at₀ k₀ stored requests on room next at k = count - k
+abbrev start : tie.After-steps-place → tie.Start
+start p = p .before .before .before .before .before .before
 
--- where the function starts, seen from the loop's head
-abbrev start : tie.At-loop Inv-loop μ-loop → tie.Start Inv-loop μ-loop
-start l = l .before .before .before .before .before .before .before
+-- a step's records have so many bytes, as the code counts them
+sized : (s : tie.Start) → 40 * length (s .args .requests .now) + 29 * length (s .args .on .now) ≡ allBytes (siteIn (s .args .f) (s .args .rows .now)) (roofsOf (s .args .file .now))
+sized s = let (n, (ld, f)) = s .pre in ap₂ (λ (k m : ℕ). 40 * k + 29 * m) (ld .held .asks) (ld .flags)
 
--- at the loop's head: the room is as long as it came, and where a step is to come, it is there, with room for its records
-long : (l : tie.At-loop Inv-loop μ-loop) → length (l .loop .room) ≡ length (start l .args .room .now)
-long l = let s = start l in let (n, (ld, f)) = s .pre in run-length (siteIn (s .args .f) (s .args .rows .now)) (roofsOf (s .args .file .now)) (s .args .file .now) (s .args .count) (standing (s .args .stored .now) (s .args .requests .now)) (s .args .on .now) (stepsOf (s .args .file .now)) (s .args .room .now) f (l .loop .stored) (l .loop .requests) (l .loop .on) (l .loop .room) (l .loop .next) (l .loop .at) (l .loop .k) (l .loop .inv)
+-- and those of all steps fit, with the end record
+roomy : (s : tie.Start) → (40 * length (s .args .requests .now) + 29 * length (s .args .on .now)) * s .args .count + 7 ≤ length (s .args .room .now)
+roomy s = let (n, (ld, f)) = s .pre in subst⁻¹ (λ (k : ℕ). k * s .args .count + 7 ≤ length (s .args .room .now)) (sized s) f
 
-there : (c : tie.In-loop Inv-loop μ-loop) → StepThere (start (c .before) .args .file .now) (c .before .loop .next)
-there c =
-    let l = c .before in
-    let s = start l in
-    let (n, (ld, f)) = s .pre in
-    step-there (siteIn (s .args .f) (s .args .rows .now)) (roofsOf (s .args .file .now)) (s .args .file .now) (s .args .count) (standing (s .args .stored .now) (s .args .requests .now)) (s .args .on .now) (stepsOf (s .args .file .now)) (s .args .room .now) f (l .loop .stored) (l .loop .requests) (l .loop .on) (l .loop .room) (l .loop .next) (l .loop .at) (l .loop .k) (l .loop .inv) (c .loop-test .taken)
+mul-size : tie.Need-mul-size
+mul-size c = let (n, (ld, f)) = c .before .before .before .before .pre in omega (arith, ld .held .asks, ld .ready .sited .few)
 
-roomy : (c : tie.In-loop Inv-loop μ-loop)
-    → c .before .loop .at + allBytes (siteIn (start (c .before) .args .f) (start (c .before) .args .rows .now)) (roofsOf (start (c .before) .args .file .now)) ≤ length (c .before .loop .room)
-roomy c =
-    let l = c .before in
-    let s = start l in
-    let (n, (ld, f)) = s .pre in
-    step-fits (siteIn (s .args .f) (s .args .rows .now)) (roofsOf (s .args .file .now)) (s .args .file .now) (s .args .count) (standing (s .args .stored .now) (s .args .requests .now)) (s .args .on .now) (stepsOf (s .args .file .now)) (s .args .room .now) f (l .loop .stored) (l .loop .requests) (l .loop .on) (l .loop .room) (l .loop .next) (l .loop .at) (l .loop .k) (l .loop .inv) (c .loop-test .taken)
+mul-size-2 : tie.Need-mul-size-2
+mul-size-2 c = let s = c .before .before .before .before in let (n, (ld, f)) = s .pre in omega (arith, ld .flags, few-roofs (s .args .file .now) (s .args .count) n)
 
-mul-units : tie.Need-mul-units Inv-loop μ-loop
-mul-units c = let s = c .before .before .before .before in let (n, (ld, f)) = s .pre in omega (arith, ld .held .asks, ld .ready .sited .few)
-
-mul-size : tie.Need-mul-size Inv-loop μ-loop
-mul-size c = let s = c .before .before .before .before in let (n, (ld, f)) = s .pre in omega (arith, ld .flags, few-roofs (s .args .file .now) (s .args .count) n)
-
-add-size : tie.Need-add-size Inv-loop μ-loop
+add-size : tie.Need-add-size
 add-size c = let s = c .before .before .before .before in let (n, (ld, f)) = s .pre in omega (arith, ld .held .asks, ld .ready .sited .few, ld .flags, few-roofs (s .args .file .now) (s .args .count) n)
 
-roofs-place-requires : tie.Need-roofs-place-requires Inv-loop μ-loop
-roofs-place-requires c κs = c .before .before .before .before .pre .0 .accepted
+roofs-place-requires : tie.Need-roofs-place-requires
+roofs-place-requires c κs = search needs
 
-steps-place-requires : tie.Need-steps-place-requires Inv-loop μ-loop
-steps-place-requires c κs = c .before .before .before .before .before .pre .0 .accepted
+steps-place-requires : tie.Need-steps-place-requires
+steps-place-requires c κs = search needs
 
-loop-holds : tie.Need-loop-holds Inv-loop μ-loop
-loop-holds c =
-    let s = c .before .before .before .before .before .before in
+along-requires : tie.Need-along-requires
+along-requires c κs =
+    let p = c .before .before .before .before in
+    let s = start p in
+    let a = s .args in
     let (n, (ld, f)) = s .pre in
-    none-run (siteIn (s .args .f) (s .args .rows .now)) (roofsOf (s .args .file .now)) (s .args .file .now) (s .args .count) (standing (s .args .stored .now) (s .args .requests .now)) (s .args .on .now) (stepsOf (s .args .file .now)) (s .args .room .now) (s .args .stored .now) (s .args .requests .now) (c .steps-place .result) refl (ld .held) (ld .flags)
-    (subst (λ (p : ℕ). StepsAt (s .args .file .now) p (stepsOf (s .args .file .now))) (sym (c .steps-place .ensures)) (steps-at (s .args .file .now) (n .accepted)))
-    (same-steps (s .args .file .now) (s .args .count) n)
-
-step-at-requires : tie.Need-step-at-requires Inv-loop μ-loop
-step-at-requires c κs = there c
-
-step-requires : tie.Need-step-requires Inv-loop μ-loop
-step-requires c κs =
-    let t = c .before .before .before .before .before in
-    let l = t .before in
-    let s = start l in
-    let (n, (ld, f)) = s .pre in
-    (ld .ready, (l .loop .inv .held, omega (arith, roomy t)))
-
-add-step : tie.Need-add-step Inv-loop μ-loop
-add-step c =
-    let t = c .before .before .before .before .before .before .before .before .before .before .before .before .before in
-    let l = t .before in
-    let s = start l in
-    let (n, (ld, f)) = s .pre in
-    let a : l .loop .at + (40 * length (s .args .requests .now) + 29 * length (s .args .on .now)) ≤ length (l .loop .room) = omega (arith, roomy t, ld .held .asks, ld .flags) in
-    omega (arith, a, long l, s .good .1 .1 .1 .1 .1 .1 .1 .0)
-
-step-requires-2 : tie.Need-step-requires-2 Inv-loop μ-loop
-step-requires-2 c κs =
-    let u = c .before .before .before .before .before .before .before in
-    let r = u .before .before .before .before .before in
-    let t = r .before in
-    let l = t .before in
-    let s = start l in
-    let (n, (ld, f)) = s .pre in
-    let file = s .args .file .now in
-    let flags = l .loop .inv .flags in (
-      roofs-there file (n .accepted) (length (l .loop .on)) (l .before .before .roofs-place .result) flags (l .before .before .roofs-place .ensures),
+    let file = a .file .now in
+    let from = p .steps-place .result in
+    let is = p .steps-place .ensures in (
+      ld .ready,
       (
-        subst⁻¹ (λ (x : Step). Shining (x .sun)) (r .step-at .ensures) (sun-shines file (l .loop .next)),
-        omega (arith, roomy t, ld .held .asks, flags, u .step .kept),
+        ld .held,
+        (
+          roofs-there file (n .accepted) (length (a .on .now)) (p .before .roofs-place .result) (ld .flags) (p .before .roofs-place .ensures),
+          (
+            upto file (a .count) n from is,
+            (
+              there file (a .count) n from is,
+              (dark-shines, (few file (a .count) n from is, fit file (a .count) n from is (siteIn (a .f) (a .rows .now)) (length (a .on .now)) (length (a .room .now)) (ld .flags) f)),
+            ),
+          ),
+        ),
       ),
     )
 
-step-past-requires : tie.Need-step-past-requires Inv-loop μ-loop
-step-past-requires c κs = there (c .before .before .before .before .before .before .before .before .before .before .before .before .before .before .before .before .before .before)
+mul-put-end : tie.Need-mul-put-end
+mul-put-end c = let s = start (placed (c .before .before .before .before .before .before .before .before)) in omega (arith, roomy s, s .good .1 .1 .1 .1 .1 .1 .1 .0)
 
-add-at : tie.Need-add-at Inv-loop μ-loop
-add-at c =
-    let t = c .before .before .before .before .before .before .before .before .before .before .before .before .before .before .before .before .before .before .before in
-    let l = t .before in
-    let s = start l in
-    let (n, (ld, f)) = s .pre in
-    let a : l .loop .at + (40 * length (s .args .requests .now) + 29 * length (s .args .on .now)) ≤ length (l .loop .room) = omega (arith, roomy t, ld .held .asks, ld .flags) in
-    omega (arith, a, long l, s .good .1 .1 .1 .1 .1 .1 .1 .0)
+put-end-requires : tie.Need-put-end-requires
+put-end-requires c κs = let w = c .before .before .before .before .before .before .before .before in omega (arith, roomy (start (placed w)), w .along .kept)
 
-add-k : tie.Need-add-k Inv-loop μ-loop
-add-k c = let t = c .before .before .before .before .before .before .before .before .before .before .before .before .before .before .before .before .before .before .before in omega (arith, t .loop-test .taken, start (t .before) .fits .count .fits)
+same-length : tie.Need-same-length
+same-length c = search needs
 
-loop-less : tie.Need-loop-less Inv-loop μ-loop
-loop-less c = let t = c .before .before .before .before .before .before .before .before .before .before .before .before .before .before .before .before .before .before .before in omega (arith, t .loop-test .taken)
+same-length-2 : tie.Need-same-length-2
+same-length-2 c = search needs
 
-loop-again : tie.Need-loop-again Inv-loop μ-loop
-loop-again c =
-    let v = c .before .before .before .before .before in
-    let u = v .before .before .before .before .before .before .before .before in
-    let r = u .before .before .before .before .before in
-    let t = r .before in
-    let l = t .before in
-    let s = start l in
-    let (n, (ld, f)) = s .pre in
-    let file = s .args .file .now in
-    let last = u .step .last .1 .1 .1 .1 in
-    let lit = v .step2 .last .1 .1 .1 .1 in
-    let (es, (em, eh)) = u .step .ensures in
-    let (eo, er) = v .step2 .ensures in
-    let here = roofs-read file (n .accepted) (length (l .loop .on)) (l .before .before .roofs-place .result) (l .loop .inv .flags) (l .before .before .roofs-place .ensures) in
-    let turned : lit .0 ≡ onAfter (roofsOf file) (r .step-at .result .sun) (l .loop .on) = eo ∙ ap (λ (rs : List Roof). onAfter rs (r .step-at .result .sun) (l .loop .on)) here in
-    next-run (siteIn (s .args .f) (s .args .rows .now)) (roofsOf (s .args .file .now)) (s .args .file .now) (s .args .count) (standing (s .args .stored .now) (s .args .requests .now)) (s .args .on .now) (stepsOf (s .args .file .now)) (s .args .room .now) f (l .loop .stored) (l .loop .requests) (l .loop .on) (l .loop .room) (l .loop .next) (l .loop .at) (l .loop .k) (l .loop .inv)
-    (r .step-at .result)
-    (last .0)
-    (last .1 .0)
-    (lit .0)
-    (last .1 .1 .0)
-    (lit .1 .0)
-    (40 * length (s .args .requests .now))
-    (29 * length (s .args .on .now))
-    (c .step-past .result)
-    (t .loop-test .taken)
-    (r .step-at .ensures)
-    es
-    turned
-    (ap length turned ∙ on-length (roofsOf file) (r .step-at .result .sun) (l .loop .on))
-    em
-    (er ∙ ap (λ (rs : List Roof). laid (last .1 .1 .0) (l .loop .at + 40 * length (s .args .requests .now)) (roofsBy rs (l .loop .k) (r .step-at .result .sun) (l .loop .on))) here)
-    eh
-    (ap (λ (k : ℕ). 40 * k) (ld .held .asks))
-    (ap (λ (k : ℕ). 29 * k) (ld .flags))
-    (c .step-past .ensures)
+same-length-3 : tie.Need-same-length-3
+same-length-3 c = search needs
 
-put-end-requires : tie.Need-put-end-requires Inv-loop μ-loop
-put-end-requires c κs =
-    let l = c .before .before in
-    let s = start l in
-    let (n, (ld, f)) = s .pre in
-    end-fits (siteIn (s .args .f) (s .args .rows .now)) (roofsOf (s .args .file .now)) (s .args .file .now) (s .args .count) (standing (s .args .stored .now) (s .args .requests .now)) (s .args .on .now) (stepsOf (s .args .file .now)) (s .args .room .now) f (l .loop .stored) (l .loop .requests) (l .loop .on) (l .loop .room) (l .loop .next) (l .loop .at) (l .loop .k) (l .loop .inv)
+same-length-4 : tie.Need-same-length-4
+same-length-4 c = search needs
 
-same-length : tie.Need-same-length Inv-loop μ-loop
-same-length c =
-    let l = c .before .before .before .before .before in
-    let (n, (ld, f)) = start l .pre in
-    l .loop .inv .held .stores ∙ sym (ld .held .stores)
-
-same-length-2 : tie.Need-same-length-2 Inv-loop μ-loop
-same-length-2 c =
-    let l = c .before .before .before .before .before in
-    let (n, (ld, f)) = start l .pre in
-    l .loop .inv .held .asks ∙ sym (ld .held .asks)
-
-same-length-3 : tie.Need-same-length-3 Inv-loop μ-loop
-same-length-3 c =
-    let l = c .before .before .before .before .before in
-    let (n, (ld, f)) = start l .pre in
-    l .loop .inv .flags ∙ sym (ld .flags)
-
-same-length-4 : tie.Need-same-length-4 Inv-loop μ-loop
-same-length-4 c =
-    let p = c .before .before in
-    let l = p .before .before .before in
-    omega (arith, long l, p .put-end .kept)
-
-returns : tie.Need-returns Inv-loop μ-loop
+returns : tie.Need-returns
 returns c =
-    let p = c .before .before in
-    let e = p .before .before in
-    let l = e .before in
-    let s = start l in
+    let e = c .before .before in
+    let w = e .before .before .before .before .before .before .before .before .before in
+    let p = placed w in
+    let s = start p in
+    let a = s .args in
     let (n, (ld, f)) = s .pre in
-    let u = upto (siteIn (s .args .f) (s .args .rows .now)) (roofsOf (s .args .file .now)) (s .args .file .now) (s .args .count) (standing (s .args .stored .now) (s .args .requests .now)) (s .args .on .now) (stepsOf (s .args .file .now)) (s .args .room .now) f (l .loop .stored) (l .loop .requests) (l .loop .on) (l .loop .room) (l .loop .next) (l .loop .at) (l .loop .k) (l .loop .inv) in
-    all-run (siteIn (s .args .f) (s .args .rows .now)) (roofsOf (s .args .file .now)) (s .args .file .now) (s .args .count) (standing (s .args .stored .now) (s .args .requests .now)) (s .args .on .now) (stepsOf (s .args .file .now)) (s .args .room .now) f (l .loop .stored) (l .loop .requests) (l .loop .on) (l .loop .room) (l .loop .next) (l .loop .at) (l .loop .k) (l .loop .inv) (p .put-end .last .0) (omega (arith, u, e .loop-test .left)) (p .put-end .ensures)
+    let file = a .file .now in
+    let (ek, (es, (eh, (et, (eo, er))))) = w .along .ensures in
+    let site = siteIn (a .f) (a .rows .now) in
+    let now = standing (a .stored .now) (a .requests .now) in
+    let here : roofsHere file (p .before .roofs-place .result) (length (a .on .now)) ≡ roofsOf file =
+    roofs-read file (n .accepted) (length (a .on .now)) (p .before .roofs-place .result) (ld .flags) (p .before .roofs-place .ensures) in
+    let steps : stepsFrom file dark (p .steps-place .result) ≡ stepsOf file = steps-are file (a .count) n (p .steps-place .result) (p .steps-place .ensures) in
+    let same : length (stepsOf file) ≡ a .count = same-steps file (a .count) n in
+    end-laid (a .room .now) (recordsFrom site (roofsOf file) 0 now (a .on .now) (stepsOf file)) (w .along .last .1 .1 .1 .1 .1 .1 .1 .1 .1 .1 .0) (e .put-end .last .0)
+    ((40 * length (a .requests .now) + 29 * length (a .on .now)) * a .count) (a .count) (length (stepsOf file))
+    (records-length site (roofsOf file) 0 now (a .on .now) (stepsOf file) ∙ ap₂ _*_ (sym (sized s)) same)
+    same
+    (er ∙ ap₂ (λ (r : List Roof) (ss : List Step). laid (a .room .now) 0 (recordsFrom site r 0 now (a .on .now) ss)) here steps)
+    (e .put-end .ensures)
 
 pub all-steps-spec : {M : Type 1} → statement M
 all-steps-spec =
     tie.close
     (tie.spec
-    Inv-loop
-    μ-loop
-    mul-units
     mul-size
+    mul-size-2
     add-size
     roofs-place-requires
     steps-place-requires
-    loop-holds
-    step-at-requires
-    step-requires
-    add-step
-    step-requires-2
-    step-past-requires
-    add-at
-    add-k
-    loop-less
-    loop-again
+    along-requires
+    mul-put-end
     put-end-requires
     same-length
     same-length-2

@@ -1,0 +1,13 @@
+// The steps in a stretch of a run file, one field at a time: what stands, which inverters are on, and
+// the records, into a lent room.
+mod stretches;
+
+use solar::Sun;
+pub use stretches::along;
+pub use stretches::on_field;
+
+// A step under way: its number, and its sun so far.
+pub struct Way {
+    pub step: u32,
+    pub sun: Sun,
+}
