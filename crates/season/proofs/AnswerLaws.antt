@@ -3,7 +3,7 @@ use mathlib.Core.Path.{_≡_, refl, sym, ap, ap₂, _∙_}
 use mathlib.Core.Bool.{Bool, true, false, cond}
 use mathlib.Core.List.{List, _++_}
 use Prim.Native.Nat.{ℕ, _+_, _*_, _≤_, _<_}
-use native.Mathlib.Nat.{zero-add, add-le-add, mul-le-mul-left, mul-le-mul, le-trans, le-of-eq}
+use native.Mathlib.Nat.{zero-add, le-trans, le-of-eq}
 use lib.Dec.{ltb, eqb}
 use lib.ListN.{length, drop}
 use borrow.Author.Tests.{lt-ltb, le-ltb, eq-eqb, ne-eqb}
@@ -12,7 +12,8 @@ use Rattle.site.specs.Site.{count}
 use Rattle.stick.specs.declared.Answer.{Answer}
 use Rattle.stick.specs.Check.{answer, checkOf}
 use Rattle.stick.specs.Site.{siteOf, roofsOf, stepsOf}
-use Rattle.stick.proofs.SiteProved.{sited, roofed, steps-count, steps-most}
+use Rattle.stick.proofs.SiteProved.{steps-count, steps-most}
+use Rattle.stretch.proofs.SiteLaws.{few-units as units-few, few-roofs as roofs-few, few-bytes as bytes-few}
 use Rattle.season.specs.Run.{resultOf}
 use Rattle.season.specs.Answers.{needed, roomOf, runAnswer, runLeaves}
 use Rattle.season.specs.Posts.{Counted}
@@ -34,14 +35,13 @@ module _ (file : List ℕ) (steps : ℕ) (c : Counted file steps) where
   few-steps = le-trans (le-of-eq (sym (c .counted))) (steps-most file)
 
   pub few-units : count (siteOf file) ≤ 64
-  few-units = sited file (c .accepted) .few
+  few-units = units-few file (c .accepted)
 
   pub few-roofs : length (roofsOf file) ≤ 64
-  few-roofs = roofed file (c .accepted) .few
+  few-roofs = roofs-few file (c .accepted)
 
   pub few-bytes : (n m : ℕ) → n ≡ count (siteOf file) → m ≡ length (roofsOf file) → (40 * n + 29 * m) * steps ≤ (40 * 64 + 29 * 64) * 65535
-  few-bytes n m e d =
-      mul-le-mul (add-le-add (mul-le-mul-left 40 (le-trans (le-of-eq e) few-units)) (mul-le-mul-left 29 (le-trans (le-of-eq d) few-roofs))) few-steps
+  few-bytes n m e d = bytes-few file (c .accepted) n m steps e d few-steps
 
   pub same-steps : length (stepsOf file) ≡ steps
   same-steps = steps-count file (c .accepted) ∙ c .counted

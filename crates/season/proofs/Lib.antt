@@ -1,6 +1,5 @@
 -- Laws about the run and its answers.
 pub mod RunLaws
-pub mod RoofLaws
 pub mod AnswerLaws
 pub mod StepsLaws
 pub mod LoadLaws

@@ -62,6 +62,7 @@ pub record RoofThere (file : List ℕ) (at : ℕ) : Type 0 where
   pub efficiency-field : Passed file 7 (at + 154) (at + roofBytes)
   pub first : past file at ≡ at + 22
   pub second : past file (at + 22) ≡ at + 154
+  pub third : past file (at + 154) ≡ at + roofBytes
   pub inverter-in : inverterIn (inverterAt file (at + header)) ≡ true
   pub warm-in : curveIn warmBounds file (at + 25) ≡ true
   pub efficiency-in : curveIn efficiencyBounds file (at + 157) ≡ true
@@ -96,6 +97,7 @@ module _ (file : List ℕ) (ok : whole file .number ≡ 0) (edition units : ℕ)
           efficiency-field = d .passed;
           first = v .behind;
           second = c .behind;
+          third = d .behind;
           inverter-in = accepted-test (inverterIn (inverterAt file (at + header))) (v .value);
           warm-in = subst (λ (p : ℕ). curveIn warmBounds file p ≡ true) p₁ (accepted-test (curveIn warmBounds file (at + 22 + header)) (c .value));
           efficiency-in = subst (λ (p : ℕ). curveIn efficiencyBounds file p ≡ true) p₂ (accepted-test (curveIn efficiencyBounds file (at + 154 + header)) (d .value));

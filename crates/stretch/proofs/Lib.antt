@@ -6,3 +6,5 @@ pub mod AlongLaws
 pub mod CutLaws
 pub mod ReachedLaws
 pub mod AcceptedLaws
+pub mod RoofLaws
+pub mod SiteLaws

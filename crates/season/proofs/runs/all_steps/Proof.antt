@@ -15,8 +15,8 @@ use Rattle.fleet.specs.Posts.{siteIn}
 use Rattle.stretch.specs.Stretch.{recordsFrom, allBytes}
 use Rattle.stretch.proofs.AppendLaws.{records-length}
 use Rattle.stretch.proofs.FieldLaws.{dark-shines}
+use Rattle.stretch.proofs.RoofLaws.{roofs-there, roofs-read}
 use Rattle.season.proofs.RunLaws.{end-laid}
-use Rattle.season.proofs.RoofLaws.{roofs-there, roofs-read}
 use Rattle.season.proofs.AnswerLaws.{same-steps, few-roofs}
 use Rattle.season.proofs.StepsLaws.{steps-are, upto, there, few, fit}
 use borrow.Author.Needs.{needs}

@@ -7,7 +7,8 @@ use lib.ListN.{length, replicate}
 use Rattle.octets.specs.BigEndian.{laid}
 use Rattle.roofs.specs.Roofs.{allOff}
 use Rattle.stick.specs.Site.{roofsOf}
-use Rattle.season.proofs.LoadLaws.{rows-there, loaded-sited, all-loaded, loaded-fits, all-written}
+use Rattle.stretch.proofs.SiteLaws.{rows-there, loaded-sited}
+use Rattle.season.proofs.LoadLaws.{all-loaded, loaded-fits, all-written}
 use borrow.Author.Needs.{needs}
 use Rattle.season.proofs.runs.write_with.Statement.{statement}
 use Rattle.season.proofs.runs.write_with.Tie as tie

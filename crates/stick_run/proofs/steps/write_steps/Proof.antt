@@ -8,7 +8,7 @@ use Rattle.site.specs.Site.{Site}
 use Rattle.fleet.specs.Posts.{siteIn}
 use Rattle.stretch.specs.Posts.{StepField}
 use Rattle.stretch.proofs.FieldLaws.{dark-shines}
-use Rattle.season.proofs.RoofLaws.{roofs-there}
+use Rattle.stretch.proofs.RoofLaws.{roofs-there}
 use Rattle.season.proofs.StepsLaws.{upto, there, few}
 use Rattle.stick_run.proofs.WalkLaws.{Walking, field, few-closed, fits-closed, next-walked}
 use Rattle.stick_run.proofs.steps.write_steps.Statement.{statement}

@@ -6,7 +6,8 @@ use Prim.Native.Nat.{ℕ}
 use lib.ListN.{replicate}
 use Rattle.stick.specs.Site.{roofsOf}
 use Rattle.roofs.specs.Roofs.{allOff}
-use Rattle.season.proofs.LoadLaws.{rows-there, loaded-sited, all-loaded}
+use Rattle.stretch.proofs.SiteLaws.{rows-there, loaded-sited}
+use Rattle.season.proofs.LoadLaws.{all-loaded}
 use Rattle.stick_run.proofs.steps.write_with.Statement.{statement}
 use Rattle.stick_run.proofs.steps.write_with.Tie as tie
 

@@ -1,0 +1,343 @@
+-- The fields before the steps of a file whose walk is accepted, whatever its size: they end where the first step stands, no step is before it, and with the end
+-- field of no steps behind them they are an accepted file. Assumes nothing.
+use mathlib.Core.Path.{_≡_, refl, sym, ap, ap₂, _∙_, subst, subst⁻¹}
+use mathlib.Core.Bool.{Bool, true, false, cond, _||_}
+use mathlib.Core.List.{List, [], _∷_, _++_}
+use Prim.Native.Nat.{ℕ, zero, suc, _+_, _-_, _*_, _≤_, _<_}
+use native.Mathlib.Nat.{add-assoc, mul-one, mul-suc}
+use native.Mathlib.Omega.{arith}
+use lib.Dec.{leb, eqb}
+use lib.ListN.{length, take, length-append}
+use lib.Seq.{length-take-le, take-append-seam}
+use borrow.Author.Tests.{le-ltb, leb-false, eqb-true, eqb-false}
+use Rattle.whole.proofs.Choice.{passed-failed}
+use Rattle.octets.specs.BigEndian.{be}
+use Rattle.parts.specs.Header.{header, tagAt, past}
+use Rattle.site.specs.Site.{stepWith}
+use Rattle.solar.specs.declared.Sun.{Sun}
+use Rattle.solar.specs.Weather.{dark}
+use Rattle.fields.specs.declared.State.{State}
+use Rattle.fields.specs.Fields.{atEnd, atFleet, atUnits, atSettings, atSteps, atInverters, atTemperature, atEfficiency, atReading, unitSize, kinds, sizeIn}
+use Rattle.fields.specs.Fields.{sizeOf, headOf, standsIn, allowed, isReading, valueOf, refusedBy, curveNext, stateOf, goneTo, roofAfter, stateAfter, takenBy}
+use Rattle.fields.proofs.FieldLaws.{stands-nowhere, fleet-alone, units-alone, settings-alone, warm-alone, efficiency-alone, fewer, fewer-more}
+use Rattle.stick.specs.declared.Answer.{Answer}
+use Rattle.stick.specs.declared.Reached.{Reached}
+use Rattle.stick.specs.Check.{answer, fieldAt, reached, reachOf, ends, start}
+use Rattle.stick.specs.Site.{readingAt, sunAt, stepsFrom, ofSteps, headFrom}
+use Rattle.stick.specs.Posts.{answered, Accepted, fleetBytes, roofBytes, wide, editionAt, unitsAt, unitBytes, unitPlace, settingsPlace, roofPlace, stepsPlace}
+use Rattle.stick.proofs.WalkLaws.{whole, OnTheWay, way-starts, not-too-large}
+use Rattle.stick.proofs.ReachLaws.{walk-reach}
+use Rattle.stick.proofs.SaidLaws.{bytes-follow, One, one, Waited, waited}
+use Rattle.stick.proofs.RoofLaws.{RoofThere}
+use Rattle.stick.proofs.SiteProved.{fleet-has, long, fleet-field, unit-fields, roof-fields, many, next-is, roofs-there}
+use Rattle.chunks.proofs.SameLaws.{NoTag, by-tag}
+use Rattle.chunks.proofs.ReachChunks.{Went, there, passing, went-reach, went-append, went-take, moved, reach-shift, far, far-gone, far-all}
+use Rattle.chunks.proofs.PlaceChunks.{steps-field}
+use Rattle.chunks.proofs.HeadChunks.{headEnd, headFrom-field, Placed, fleet, units, settings, inverters, warm, efficiency, FieldTaken, accepted-field, placed-on, head-most}
+
+-- ---- no step is before the end of the head
+no-reading : (tag : ℕ) → ofSteps tag ≡ false → (isReading tag ≡ false) × (eqb tag 8 ≡ false)
+no-reading tag = go (isReading tag) (eqb tag 8) (eqb tag 127)
+  where
+    go : (a b c : Bool) → (a || b || c) ≡ false → (a ≡ false) × (b ≡ false)
+    go true b c e = absurd (passed-failed refl e)
+    go false true c e = absurd (passed-failed refl e)
+    go false false c e = (refl, refl)
+
+pub steps-head : (file : List ℕ) (s : Sun) (k at : ℕ) → stepsFrom file s at ≡ stepsFrom file s (headFrom k file at)
+unfolding headFrom
+steps-head file s zero at = refl
+steps-head file s (suc k) at = go (leb (length file) at) refl (ofSteps (tagAt file at)) refl (steps-head file s k (past file at))
+  where
+    go : (over : Bool) → leb (length file) at ≡ over → (o : Bool) → ofSteps (tagAt file at) ≡ o → stepsFrom file s (past file at) ≡ stepsFrom file s (headFrom k file (past file at))
+        → stepsFrom file s at ≡ stepsFrom file s (cond over at (cond o at (headFrom k file (past file at))))
+    go true e o f more = refl
+    go false e true f more = refl
+    go false e false f more =
+        let n = no-reading (tagAt file at) f in
+        steps-field file s at (leb-false (length file) at e)
+        ∙ ap₂ (λ (r l : Bool). cond r (stepWith (readingAt file at) s ∷ stepsFrom file dark (past file at)) (cond l (stepsFrom file (sunAt file at) (past file at)) (stepsFrom file s (past file at)))) (n .0) (n .1)
+        ∙ more
+
+-- ---- the head of an accepted walk, field by field
+pub steps-only : (edition count left steps tag : ℕ) → allowed (stateOf atSteps edition count left steps) tag ≡ true → ofSteps tag ≡ true
+unfolding allowed kinds standsIn
+steps-only edition count left steps tag =
+    by-tag (λ (t : ℕ). allowed (stateOf atSteps edition count left steps) t ≡ true → ofSteps t ≡ true) tag
+    (λ a. absurd (passed-failed a refl)) (λ a. absurd (passed-failed a refl)) (λ a. absurd (passed-failed a refl))
+    (λ a. refl) (λ a. refl)
+    (λ a. absurd (passed-failed a refl)) (λ a. absurd (passed-failed a refl)) (λ a. refl)
+    (λ n a. go (eqb tag 127) refl n a)
+  where
+    go : (b : Bool) → eqb tag 127 ≡ b → NoTag tag → allowed (stateOf atSteps edition count left steps) tag ≡ true → ofSteps tag ≡ true
+    go true e n a = ap ofSteps (eqb-true tag 127 e)
+    go false e n a = absurd (passed-failed a (sym (stands-nowhere (stateOf atSteps edition count left steps) tag (n .n₁) (n .n₂) (n .n₃) (n .n₄) (n .n₅) (n .n₆) (n .n₇) (n .n₈) (eqb-false tag 127 e))))
+
+module _ (file : List ℕ) where
+  head-passes : (tag at next : ℕ) → ofSteps tag ≡ false → at < length file → tagAt file at ≡ tag → past file at ≡ next → headEnd file at ≡ headEnd file next
+  head-passes tag at next o l t p =
+      headFrom-field file at l ∙ ap (λ (b : Bool). cond b at (headEnd file (past file at))) (ap ofSteps t ∙ o) ∙ ap (headEnd file) p
+
+  roof-head : (at : ℕ) → RoofThere file at → headEnd file at ≡ headEnd file (at + roofBytes)
+  roof-head at t =
+      let l = t .bytes in
+      head-passes 6 at (at + 22) refl (omega arith) (t .inverter-field .tagged) (t .first)
+      ∙ head-passes 7 (at + 22) (at + 154) refl (omega arith) (t .warm-field .tagged) (t .second)
+      ∙ head-passes 7 (at + 154) (at + roofBytes) refl (omega arith) (t .efficiency-field .tagged) (t .third)
+
+module _ (file : List ℕ) (ok : whole file .number ≡ 0) where
+  pass : (tag : ℕ) (st : State) (at next : ℕ) → ofSteps tag ≡ false → eqb (st .stage) 0 ≡ false → OnTheWay file st at → Waited file ok tag st at next → headEnd file at ≡ headEnd file next
+  pass tag st at next o e w v = head-passes file tag at next o (bytes-follow file ok st at w e) (v .passed .tagged) (v .behind)
+
+  module _ (edition count size : ℕ) (wide-is : wide edition ≡ size) where
+    unit-waited : (left at next : ℕ) → at + size ≡ next → OnTheWay file (stateOf atUnits edition count left 0) at → Waited file ok 2 (stateOf atUnits edition count left 0) at next
+    unfolding sizeOf
+    unit-waited left at next e w =
+        waited file ok 2 (stateOf atUnits edition count left 0) at next refl (units-alone edition count left 0 (tagAt file at))
+        (add-assoc at header (unitSize (stateOf atUnits edition count left 0)) ∙ ap (λ (n : ℕ). at + n) wide-is ∙ e) w
+
+    units-heads : (m at next : ℕ) → at + size * suc m ≡ next → OnTheWay file (stateOf atUnits edition count (suc m) 0) at → headEnd file at ≡ headEnd file next
+    unfolding stateAfter
+    units-heads zero at next e w =
+        let long : at + size ≡ next = ap (λ (n : ℕ). at + n) (sym (mul-one size)) ∙ e in
+        pass 2 (stateOf atUnits edition count 1 0) at next refl refl w (unit-waited 1 at next long w)
+    units-heads (suc m) at next e w =
+        let st : State = stateOf atUnits edition count (suc (suc m)) 0 in
+        let u : Waited file ok 2 st at (at + size) = unit-waited (suc (suc m)) at (at + size) refl w in
+        let less : suc (suc m) - 1 ≡ suc m = omega arith in
+        let on : fewer st ≡ stateOf atUnits edition count (suc m) 0 =
+        sym (fewer-more st (omega arith)) ∙ ap (λ (n : ℕ). stateOf atUnits edition count n 0) less in
+        let far : size * suc (suc m) ≡ size * suc m + size = mul-suc size (suc m) in
+        pass 2 st at (at + size) refl refl w u
+        ∙ units-heads m (at + size) next (omega arith) (subst (λ (s : State). OnTheWay file s (at + size)) on (u .rest))
+
+  all-heads : (n next : ℕ) → 1 ≤ n → unitPlace file n ≡ next → OnTheWay file (stateOf atUnits (editionAt file) (unitsAt file) n 0) fleetBytes → headEnd file fleetBytes ≡ headEnd file next
+  all-heads zero next h e w = absurd (omega arith)
+  all-heads (suc m) next h e w = units-heads (editionAt file) (unitsAt file) (unitBytes file) (long file ok) m fleetBytes next e w
+
+  fleet-head : headEnd file 0 ≡ headEnd file fleetBytes
+  unfolding sizeOf
+  fleet-head =
+      pass 1 start 0 fleetBytes refl refl (way-starts file) (waited file ok 1 start 0 fleetBytes refl (fleet-alone 0 0 0 0 (tagAt file 0)) refl (way-starts file))
+
+  units-head : headEnd file fleetBytes ≡ headEnd file (settingsPlace file)
+  unfolding unitsAt editionAt
+  units-head = all-heads (unitsAt file) (settingsPlace file) (fleet-has file (fleet-field file ok .fleet) .some) refl (fleet-field file ok .rest)
+
+  settings-head : headEnd file (settingsPlace file) ≡ headEnd file (roofPlace file 0)
+  unfolding sizeOf
+  settings-head =
+      let e : settingsPlace file + 3 + 12 ≡ roofPlace file 0 = omega arith in
+      let st : State = stateOf atSettings (editionAt file) (unitsAt file) 0 0 in
+      let w : OnTheWay file st (settingsPlace file) = unit-fields file ok .rest in
+      pass 3 st (settingsPlace file) (roofPlace file 0) refl refl w
+      (waited file ok 3 st (settingsPlace file) (roofPlace file 0) refl (settings-alone (editionAt file) (unitsAt file) 0 0 (tagAt file (settingsPlace file))) e w)
+
+  roofs-heads : (i : ℕ) → i ≤ many file ok → headEnd file (roofPlace file 0) ≡ headEnd file (roofPlace file i)
+  roofs-heads zero l = refl
+  roofs-heads (suc i) l =
+      let e : roofPlace file i + roofBytes ≡ roofPlace file (suc i) = omega arith in
+      roofs-heads i (omega arith) ∙ roof-head file (roofPlace file i) (roofs-there file ok i (omega arith)) ∙ ap (headEnd file) e
+
+  -- at the first step
+  stops-there : headEnd file (roof-fields file ok .next) ≡ roof-fields file ok .next
+  stops-there =
+      let r = roof-fields file ok in
+      let st : State = stateOf atSteps (editionAt file) (unitsAt file) (r .said .remaining) 0 in
+      let o : One file ok st (r .next) = one file ok st (r .next) (r .said .rest) refl in
+      headFrom-field file (r .next) (o .bytes)
+      ∙ ap (λ (b : Bool). cond b (r .next) (headEnd file (past file (r .next))))
+      (steps-only (editionAt file) (unitsAt file) (r .said .remaining) 0 (tagAt file (r .next)) (o .allows))
+
+  head-next : headEnd file 0 ≡ roof-fields file ok .next
+  head-next =
+      let r = roof-fields file ok in
+      let e : roofPlace file (many file ok) ≡ r .next = let i = r .is in omega arith in
+      fleet-head ∙ units-head ∙ settings-head ∙ roofs-heads (many file ok) (omega arith) ∙ ap (headEnd file) e ∙ stops-there
+
+  -- so the head ends where the first step stands, within the file
+  pub head-place : headFrom (length file) file 0 ≡ stepsPlace file
+  head-place = head-next ∙ next-is file ok
+
+  pub head-within : headFrom (length file) file 0 < length file
+  head-within = subst⁻¹ (λ (n : ℕ). n < length file) head-next (roof-fields file ok .said .bytes)
+
+-- ---- the state where the head ends
+module _ (st : State) (tag : ℕ) where
+  at-stage : (n : ℕ) → st .stage ≡ n → allowed st tag ≡ true → allowed (stateOf n (st .edition) (st .units) (st .left) (st .steps)) tag ≡ true
+  at-stage n e a = ap (λ (n : ℕ). allowed (stateOf n (st .edition) (st .units) (st .left) (st .steps)) tag) (sym e) ∙ a
+
+  no-step : (k : ℕ) → ofSteps k ≡ false → tag ≡ k → ofSteps tag ≡ true → st .stage ≡ atInverters
+  no-step k o e s = absurd (passed-failed s (ap ofSteps e ∙ o))
+
+  -- a field of a step stands first only where an inverter may
+  placed-stage : {i : ℕ} → Placed st i → allowed st tag ≡ true → ofSteps tag ≡ true → st .stage ≡ atInverters
+  placed-stage (fleet e z) a = no-step 1 refl (fleet-alone (st .edition) (st .units) (st .left) (st .steps) tag (at-stage atFleet e a))
+  placed-stage (units e l h) a = no-step 2 refl (units-alone (st .edition) (st .units) (st .left) (st .steps) tag (at-stage atUnits e a))
+  placed-stage (settings e h) a = no-step 3 refl (settings-alone (st .edition) (st .units) (st .left) (st .steps) tag (at-stage atSettings e a))
+  placed-stage (inverters e h) a = λ s. e
+  placed-stage (warm e h) a = no-step 7 refl (warm-alone (st .edition) (st .units) (st .left) (st .steps) tag (at-stage atTemperature e a))
+  placed-stage (efficiency e h) a = no-step 7 refl (efficiency-alone (st .edition) (st .units) (st .left) (st .steps) tag (at-stage atEfficiency e a))
+
+  -- no other field counts as a step
+  pub steps-kept : (file : List ℕ) (at : ℕ) → isReading tag ≡ false → stateAfter st tag file at .steps ≡ st .steps
+  unfolding stateAfter roofAfter
+  steps-kept file at r = go (eqb tag 1) (eqb tag 2) (leb (st .left) 1) (eqb tag 3) (isReading tag) r (eqb tag 6) (eqb tag 7) (eqb tag 8)
+    where
+      go : (a b l c d : Bool) → d ≡ false → (e f g : Bool)
+          → (cond a (stateOf atUnits (be 1 file at) (be 1 file (at + 1)) (be 1 file (at + 1)) (st .steps))
+          (cond b (cond l (goneTo st atSettings 0 (st .steps)) (goneTo st atUnits (st .left - 1) (st .steps)))
+          (cond c (goneTo st atInverters 64 (st .steps))
+          (cond d (goneTo st atSteps (st .left) (st .steps + 1))
+          (cond e (goneTo st atTemperature (st .left - 1) (st .steps))
+          (cond f (goneTo st (curveNext st) (st .left) (st .steps))
+          (cond g (goneTo st atReading (st .left) (st .steps)) (goneTo st atEnd (st .left) (st .steps))))))))) .steps ≡ st .steps
+      go true b l c d r e f g = refl
+      go false true true c d r e f g = refl
+      go false true false c d r e f g = refl
+      go false false l true d r e f g = refl
+      go false false l false true r e f g = absurd (passed-failed refl r)
+      go false false l false false r true f g = refl
+      go false false l false false r false true g = refl
+      go false false l false false r false false true = refl
+      go false false l false false r false false false = refl
+
+pub headFrom-least : (file : List ℕ) (k at : ℕ) → at ≤ headFrom k file at
+unfolding headFrom
+headFrom-least file zero at = omega arith
+headFrom-least file (suc k) at = go (leb (length file) at) (ofSteps (tagAt file at)) (headFrom-least file k (past file at))
+  where
+    go : (over o : Bool) → past file at ≤ headFrom k file (past file at) → at ≤ cond over at (cond o at (headFrom k file (past file at)))
+    go true o more = omega arith
+    go false true more = omega arith
+    go false false more = omega arith
+
+pub record HeadWent (file : List ℕ) (st : State) (i : ℕ) : Type 0 where
+  pub middle : State
+  pub went : Went file middle (headEnd file i) st i
+  pub stage : middle .stage ≡ atInverters
+  pub none : middle .steps ≡ 0
+
+pub went-head : (file : List ℕ) {s st : State} {j i : ℕ} → Went file s j st i → Placed st i → st .steps ≡ 0 → headEnd file i < j → HeadWent file st i
+went-head file {s} {st} {j} {i} (there e f) p z h = let l = headFrom-least file (length file) i in absurd (omega arith)
+went-head file {s} {st} {j} {i} (passing m l e f w more) p z h = go (ofSteps (tagAt file i)) refl (went-head file more)
+  where
+    taken : FieldTaken file st m i
+    taken = accepted-field file st m i (omega arith) f
+
+    go : (b : Bool) → ofSteps (tagAt file i) ≡ b → (Placed m (past file i) → m .steps ≡ 0 → headEnd file (past file i) < j → HeadWent file m (past file i)) → HeadWent file st i
+    go true o further =
+        let here : headEnd file i ≡ i = headFrom-field file i l ∙ ap (λ (b : Bool). cond b i (headEnd file (past file i))) o in
+        record { middle = st; went = there refl (sym here); stage = placed-stage st (tagAt file i) p (taken .allows) o; none = z }
+    go false o further =
+        let on : headEnd file i ≡ headEnd file (past file i) = headFrom-field file i l ∙ ap (λ (b : Bool). cond b i (headEnd file (past file i))) o in
+        let kept : m .steps ≡ 0 = ap (λ (s : State). s .steps) (sym (taken .is)) ∙ steps-kept st (tagAt file i) file (i + header) (no-reading (tagAt file i) o .0) ∙ z in
+        let r : HeadWent file m (past file i) = further (placed-on file st m i (omega arith) f o p) kept (subst (λ (n : ℕ). n < j) on h) in
+        record {
+          middle = r .middle;
+          went = subst⁻¹ (λ (n : ℕ). Went file (r .middle) n st i) on (passing m l e f w (r .went));
+          stage = r .stage;
+          none = r .none;
+        }
+
+-- ---- the end field of no steps
+abbrev pub endField : List ℕ
+endField = 0x7F ∷ 0x00 ∷ 0x04 ∷ 0x00 ∷ 0x00 ∷ 0x00 ∷ 0x00 ∷ []
+
+end-reached : (edition count left : ℕ) → reachOf 7 (stateOf atInverters edition count left 0) endField 0 ≡ reached 0 7 (stateOf atEnd edition count left 0)
+unfolding reachOf fieldAt headOf sizeOf kinds sizeIn be takenBy refusedBy allowed standsIn valueOf stateAfter roofAfter
+end-reached edition count left = refl
+
+-- ---- bytes with whole fields up to where a step may stand first, and the end field of no steps behind them, are an accepted file
+pub went-of-reach : (a : List ℕ) (m : State) → reachOf (length a) start a 0 ≡ reached 0 (length a) m → Went a m (length a) start 0
+went-of-reach a m e = subst (λ (r : Reached). Went a (r .state) (r .at) start 0) e (far-gone a start 0 (omega arith) .went)
+
+module _ (a : List ℕ) (m : State) (w : Went a m (length a) start 0) (stage : m .stage ≡ atInverters) (none : m .steps ≡ 0) where
+  abbrev ended : State
+  ended = stateOf atEnd (m .edition) (m .units) (m .left) 0
+
+  state-is : m ≡ stateOf atInverters (m .edition) (m .units) (m .left) 0
+  state-is = ap₂ (λ (n k : ℕ). stateOf n (m .edition) (m .units) (m .left) k) stage none
+
+  pub closed-reached : reachOf (length (a ++ endField)) start (a ++ endField) 0 ≡ reached 0 (length a + 7) ended
+  closed-reached =
+      let total : length (a ++ endField) ≡ length a + 7 = length-append a endField in
+      let place : length a ≡ length a + 0 = omega arith in
+      went-reach (a ++ endField) (went-append a endField w) (length (a ++ endField)) 7 (omega arith) (omega arith)
+      ∙ ap (reachOf 7 m (a ++ endField)) place
+      ∙ reach-shift a endField 7 m 0
+      ∙ ap (λ (s : State). moved (length a) (reachOf 7 s endField 0)) state-is
+      ∙ ap (moved (length a)) (end-reached (m .edition) (m .units) (m .left))
+
+  pub closed-walked : whole (a ++ endField) ≡ answer 0 (length a + 7) 0
+  unfolding ends
+  closed-walked = walk-reach (a ++ endField) (length (a ++ endField)) start 0 ∙ ap answered closed-reached
+
+  pub closed-accepted : length a ≤ 2097145 → Accepted (a ++ endField)
+  closed-accepted few =
+      let total : length (a ++ endField) ≡ length a + 7 = length-append a endField in
+      record {
+        complete =
+            ap (λ (x : Answer). x .number) (sym (not-too-large (a ++ endField) (le-ltb 2097152 (length (a ++ endField)) (omega arith))))
+            ∙ ap (λ (x : Answer). x .number) closed-walked;
+      }
+
+-- ---- so is the head of a file whose walk is accepted
+abbrev pub headFile : List ℕ → List ℕ
+headFile file = take (headFrom (length file) file 0) file ++ endField
+
+-- which is known as soon as the head's bytes are
+pub head-file-is : (a b : List ℕ) → headFrom (length (a ++ b)) (a ++ b) 0 ≡ length a → headFile (a ++ b) ≡ a ++ endField
+head-file-is a b e = ap (λ (n : ℕ). take n (a ++ b) ++ endField) e ∙ ap (λ (l : List ℕ). l ++ endField) (take-append-seam a b)
+
+module _ (file : List ℕ) (ok : whole file .number ≡ 0) where
+  abbrev h : ℕ
+  h = headFrom (length file) file 0
+
+  -- the fields go to the file's end
+  reach-number : reachOf (length file) start file 0 .number ≡ 0
+  reach-number = go (reachOf (length file) start file 0) (ap (λ (x : Answer). x .number) (sym (walk-reach file (length file) start 0)) ∙ ok)
+    where
+      go : (r : Reached) → answered r .number ≡ 0 → r .number ≡ 0
+      go r e = by-number (eqb (r .number) 0) refl e
+        where
+          by-number : (b : Bool) → eqb (r .number) 0 ≡ b → (cond b (ends (r .state) (r .at)) (answer (r .number) (r .at) (r .state .steps))) .number ≡ 0 → r .number ≡ 0
+          by-number true t e = eqb-true (r .number) 0 t
+          by-number false t e = e
+
+  first : 0 ≤ length file
+  first = omega arith
+
+  to-end : far file start 0 first .at ≡ length file
+  to-end = far-all file start 0 first reach-number
+
+  pub head-went : HeadWent file start 0
+  head-went =
+      let l = head-within file ok in
+      let e = to-end in
+      went-head file (far-gone file start 0 first .went) (fleet refl refl) refl (omega arith)
+
+  pub head-few : h ≤ 22168
+  head-few = let l = head-within file ok in let e = to-end in head-most file (omega arith)
+
+  pub head-long : length (take h file) ≡ h
+  head-long = let l = head-within file ok in length-take-le h file (omega arith)
+
+  -- the head by itself
+  pub head-alone : Went (take h file) (head-went .middle) (length (take h file)) start 0
+  head-alone =
+      let l = head-within file ok in
+      subst⁻¹ (λ (n : ℕ). Went (take h file) (head-went .middle) n start 0) head-long (went-take file (head-went .went) (omega arith))
+
+  pub head-ok : whole (headFile file) .number ≡ 0
+  head-ok = ap (λ (x : Answer). x .number) (closed-walked (take h file) (head-went .middle) head-alone (head-went .stage) (head-went .none))
+
+  pub head-accepted : Accepted (headFile file)
+  head-accepted =
+      let few = head-few in
+      let long = head-long in
+      closed-accepted (take h file) (head-went .middle) head-alone (head-went .stage) (head-went .none) (omega arith)
+
+  -- no steps are before the head's end
+  pub steps-behind-head : (s : Sun) → stepsFrom file s 0 ≡ stepsFrom file s h
+  steps-behind-head s = steps-head file s (length file) 0

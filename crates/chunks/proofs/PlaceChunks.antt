@@ -1,0 +1,242 @@
+-- The places of the fields, the steps, the sun and the end of the head, where a list of bytes that ends between two fields is followed by another: first
+-- those of the one, then those of the other. Assumes nothing.
+use mathlib.Core.Path.{_≡_, refl, sym, ap, ap₂, _∙_, subst, subst⁻¹}
+use mathlib.Core.Bool.{Bool, true, false, cond}
+use mathlib.Core.List.{List, [], _∷_, _++_, map}
+use Prim.Native.Nat.{ℕ, zero, suc, _+_, _≤_, _<_}
+use native.Mathlib.Nat.{add-zero}
+use native.Mathlib.Omega.{arith}
+use lib.Dec.{leb, eqb, lit≤}
+use lib.ListN.{length, take, length-append}
+use lib.Seq.{length-take-le}
+use borrow.Author.Tests.{eqb-true}
+use Rattle.whole.proofs.Choice.{by-test}
+use Rattle.parts.specs.Header.{tagAt, lengthAt, past}
+use Rattle.site.specs.declared.Step.{Step}
+use Rattle.site.specs.Site.{stepWith}
+use Rattle.solar.specs.declared.Sun.{Sun}
+use Rattle.solar.specs.Weather.{dark}
+use Rattle.fields.specs.declared.State.{State}
+use Rattle.fields.specs.declared.Taken.the-variants.{Next}
+use Rattle.fields.specs.Fields.{isReading, kinds, sizeIn, sizeOf}
+use Rattle.fields.proofs.FieldLaws.{size-else}
+use Rattle.stick.specs.Check.{fieldAt, start}
+use Rattle.stick.specs.Site.{placesFrom, readingAt, sunAt, stepsIn, sunIn, stepsFrom, sunFrom}
+use Rattle.stick.proofs.WalkLaws.{field-cases}
+use Rattle.stick.proofs.PlaceLaws.{from, from-over, from-field}
+use Rattle.stick.proofs.PlaceLaws.{same as places-fuel}
+use Rattle.chunks.proofs.SameLaws.{Same, by-tag, reading-same, sun-same}
+use Rattle.chunks.proofs.FieldChunks.{same-behind, same-before, tag-shift, past-shift, tag-append, past-append}
+use Rattle.chunks.proofs.ReachChunks.{over-shift, Went, there, passing, went-take, far, far-gone, far-upto}
+
+-- ---- the bytes from a place on are whole fields: each has at least the bytes of its tag's value, and ends within the list
+pub record FieldThere (a : List ℕ) (i : ℕ) : Type 0 where
+  pub size : sizeOf start (tagAt a i) ≤ lengthAt a i
+  pub all : past a i ≤ length a
+
+pub data Whole (a : List ℕ) : ℕ → Type 0 where
+  whole-end : {i : ℕ} → i ≡ length a → Whole a i
+  whole-field : {i : ℕ} → FieldThere a i → Whole a (past a i) → Whole a i
+
+pub whole-upto : {a : List ℕ} {i : ℕ} → Whole a i → i ≤ length a
+whole-upto (whole-end e) = omega arith
+whole-upto (whole-field f w) = let l = f .all in omega arith
+
+-- at the start a unit is not longer than at any other time
+pub size-least : (st : State) (tag : ℕ) → sizeOf start tag ≤ sizeOf st tag
+unfolding sizeOf kinds sizeIn
+size-least st tag =
+    by-tag (λ (t : ℕ). sizeOf start t ≤ sizeOf st t) tag
+    (lit≤ tt) (by-test (λ (n : ℕ). 49 ≤ n) (leb 2 (st .edition)) 57 49 (λ t. lit≤ tt) (λ t. lit≤ tt)) (lit≤ tt) (lit≤ tt) (lit≤ tt) (lit≤ tt) (lit≤ tt) (lit≤ tt)
+    (λ n.
+    let a = size-else start tag (n .n₁) (n .n₂) (n .n₃) (n .n₄) (n .n₅) (n .n₆) (n .n₇) (n .n₈) in
+    let b = size-else st tag (n .n₁) (n .n₂) (n .n₃) (n .n₄) (n .n₅) (n .n₆) (n .n₇) (n .n₈) in
+    let c = a ∙ sym b in
+    omega (arith, c))
+
+-- the bytes that the fields go over are whole fields
+pub accepted-there : (st m : State) (a : List ℕ) (i : ℕ) → i ≤ length a → fieldAt st a i ≡ Next m → FieldThere a i
+accepted-there st m a i h f =
+    field-cases st a i h
+    (λ n z e. let o : _≡_ {A = ℕ} 0 1 = cc in absurd (omega arith))
+    (λ hd z e. let s = size-least st (tagAt a i) in let n = hd .size in record { size = omega arith; all = hd .all })
+
+pub went-whole : (a : List ℕ) {s st : State} {j i : ℕ} → Went a s j st i → j ≡ length a → Whole a i
+went-whole a (there e f) h = whole-end (f ∙ h)
+went-whole a {s} {st} {j} {i} (passing m l e f w more) h = whole-field (accepted-there st m a i (omega arith) f) (went-whole a more h)
+
+pub reach-whole : (p : List ℕ) (st : State) (i : ℕ) (upto : i ≤ length p) → Whole (take (far p st i upto .at) p) i
+reach-whole p st i upto =
+    let r = far p st i upto in
+    let u = far-upto p st i upto in
+    went-whole (take (r .at) p) (went-take p (far-gone p st i upto .went) u) (sym (length-take-le (r .at) p u))
+
+-- ---- the places
+module _ (a b : List ℕ) where
+  abbrev pub behind : List ℕ → List ℕ
+  behind ats = map (λ (p : ℕ). length a + p) ats
+
+  places-moved : (k i : ℕ) → placesFrom k (a ++ b) (length a + i) ≡ behind (placesFrom k b i)
+  unfolding placesFrom
+  places-moved zero i = refl
+  places-moved (suc k) i =
+      ap₂ (λ (t : Bool) (ats : List ℕ). cond t [] ((length a + i) ∷ ats)) (over-shift a b i) (ap (placesFrom k (a ++ b)) (past-shift a b i) ∙ places-moved k (past b i))
+      ∙ go (leb (length b) i)
+    where
+      go : (t : Bool) → cond t [] ((length a + i) ∷ behind (placesFrom k b (past b i))) ≡ behind (cond t [] (i ∷ placesFrom k b (past b i)))
+      go true = refl
+      go false = refl
+
+  pub places-shift : (i : ℕ) → from (a ++ b) (length a + i) ≡ behind (from b i)
+  places-shift i =
+      places-moved (length (a ++ b)) i ∙ ap behind (places-fuel b (length (a ++ b)) (length b) i (omega (arith, length-append a b)) (omega arith))
+
+  -- the other begins where the one ends
+  pub at-end : {A : Type 0} (f : ℕ → A) (i : ℕ) → i ≡ length a → f i ≡ f (length a + 0)
+  at-end f i e = ap f (let z : length a + 0 ≡ length a = add-zero (length a) in omega arith)
+
+  pub places-append : {i : ℕ} → Whole a i → from (a ++ b) i ≡ from a i ++ behind (from b 0)
+  places-append {i} (whole-end e) =
+      at-end (from (a ++ b)) i e ∙ places-shift 0 ∙ sym (ap (λ (l : List ℕ). l ++ behind (from b 0)) (from-over a i (omega arith)))
+  places-append {i} (whole-field f w) =
+      let l = f .all in
+      from-field (a ++ b) i (omega (arith, length-append a b))
+      ∙ ap (λ (p : ℕ). i ∷ from (a ++ b) p) (past-append a b i (omega arith))
+      ∙ ap (λ (ats : List ℕ). i ∷ ats) (places-append w)
+      ∙ sym (ap (λ (ats : List ℕ). ats ++ behind (from b 0)) (from-field a i (omega arith)))
+
+-- ---- whole fields behind other bytes, and behind other whole fields
+module _ (a b : List ℕ) where
+  pub whole-shift : {i : ℕ} → Whole b i → Whole (a ++ b) (length a + i)
+  whole-shift {i} (whole-end e) = let l : length a + i ≡ length (a ++ b) = omega (arith, length-append a b) in whole-end l
+  whole-shift {i} (whole-field f w) =
+      let p = past-shift a b i in
+      let size = f .size in
+      let all = f .all in
+      let tag = ap (sizeOf start) (tag-shift a b i) in
+      let l : past (a ++ b) (length a + i) ≤ length (a ++ b) = omega (arith, length-append a b) in
+      let s : sizeOf start (tagAt (a ++ b) (length a + i)) ≤ lengthAt (a ++ b) (length a + i) = omega arith in
+      whole-field (record { size = s; all = l }) (subst⁻¹ (Whole (a ++ b)) p (whole-shift w))
+
+  pub whole-append : {i : ℕ} → Whole a i → Whole b 0 → Whole (a ++ b) i
+  whole-append {i} (whole-end e) v = subst (Whole (a ++ b)) (let z : length a + 0 ≡ i = omega arith in z) (whole-shift v)
+  whole-append {i} (whole-field f w) v =
+      let all = f .all in
+      let p : past (a ++ b) i ≡ past a i = past-append a b i (omega arith) in
+      let tag = ap (sizeOf start) (tag-append a b i (omega arith)) in
+      let size = f .size in
+      let l : past (a ++ b) i ≤ length (a ++ b) = omega (arith, length-append a b) in
+      let s : sizeOf start (tagAt (a ++ b) i) ≤ lengthAt (a ++ b) i = omega arith in
+      whole-field (record { size = s; all = l }) (subst⁻¹ (Whole (a ++ b)) p (whole-append w v))
+
+-- ---- the steps and the sun, one field after another
+module _ (file : List ℕ) where
+  pub steps-over : (s : Sun) (at : ℕ) → length file ≤ at → stepsFrom file s at ≡ []
+  unfolding stepsFrom stepsIn
+  steps-over s at h = ap (stepsIn file s) (from-over file at h)
+
+  pub sun-over : (s : Sun) (at : ℕ) → length file ≤ at → sunFrom file s at ≡ s
+  unfolding sunFrom sunIn
+  sun-over s at h = ap (sunIn file s) (from-over file at h)
+
+  abbrev stepsBy : Bool → Bool → Sun → ℕ → ℕ → List Step
+  stepsBy r l s at next = cond r (stepWith (readingAt file at) s ∷ stepsFrom file dark next) (cond l (stepsFrom file (sunAt file at) next) (stepsFrom file s next))
+
+  abbrev sunBy : Bool → Bool → Sun → ℕ → ℕ → Sun
+  sunBy r l s at next = cond r (sunFrom file dark next) (cond l (sunFrom file (sunAt file at) next) (sunFrom file s next))
+
+  pub steps-field : (s : Sun) (at : ℕ) → at < length file → stepsFrom file s at ≡ stepsBy (isReading (tagAt file at)) (eqb (tagAt file at) 8) s at (past file at)
+  unfolding stepsFrom stepsIn
+  steps-field s at h = ap (stepsIn file s) (from-field file at h)
+
+  pub sun-field : (s : Sun) (at : ℕ) → at < length file → sunFrom file s at ≡ sunBy (isReading (tagAt file at)) (eqb (tagAt file at) 8) s at (past file at)
+  unfolding sunFrom sunIn
+  sun-field s at h = ap (sunIn file s) (from-field file at h)
+
+module _ (a b : List ℕ) where
+  -- ---- behind other bytes
+  steps-moved : (s : Sun) (ats : List ℕ) → stepsIn (a ++ b) s (behind a b ats) ≡ stepsIn b s ats
+  unfolding stepsIn
+  steps-moved s [] = refl
+  steps-moved s (i ∷ ats) =
+      let tag = tag-shift a b i in
+      let reading = reading-same (a ++ b) b (length a + i) i (same-behind a b i 1) (λ e. same-behind a b i 27) in
+      let lit = sun-same (a ++ b) b (length a + i) i (same-behind a b i 19) in
+      let closed = steps-moved dark ats in
+      let on = ap (λ (s : Sun). stepsIn (a ++ b) s (behind a b ats)) lit ∙ steps-moved (sunAt b i) ats in
+      let more = steps-moved s ats in
+      λ j. cond (isReading (tag j)) (stepWith (reading j) s ∷ closed j) (cond (eqb (tag j) 8) (on j) (more j))
+
+  sun-moved : (s : Sun) (ats : List ℕ) → sunIn (a ++ b) s (behind a b ats) ≡ sunIn b s ats
+  unfolding sunIn
+  sun-moved s [] = refl
+  sun-moved s (i ∷ ats) =
+      let tag = tag-shift a b i in
+      let lit = sun-same (a ++ b) b (length a + i) i (same-behind a b i 19) in
+      let closed = sun-moved dark ats in
+      let on = ap (λ (s : Sun). sunIn (a ++ b) s (behind a b ats)) lit ∙ sun-moved (sunAt b i) ats in
+      let more = sun-moved s ats in
+      λ j. cond (isReading (tag j)) (closed j) (cond (eqb (tag j) 8) (on j) (more j))
+
+  pub steps-shift : (s : Sun) (i : ℕ) → stepsFrom (a ++ b) s (length a + i) ≡ stepsFrom b s i
+  unfolding stepsFrom
+  steps-shift s i = ap (stepsIn (a ++ b) s) (places-shift a b i) ∙ steps-moved s (from b i)
+
+  pub sun-shift : (s : Sun) (i : ℕ) → sunFrom (a ++ b) s (length a + i) ≡ sunFrom b s i
+  unfolding sunFrom
+  sun-shift s i = ap (sunIn (a ++ b) s) (places-shift a b i) ∙ sun-moved s (from b i)
+
+  -- ---- before other bytes, a field that is there says the same
+  module _ {i : ℕ} (f : FieldThere a i) where
+    there-below : i + 3 ≤ length a
+    there-below = let l = f .all in omega arith
+
+    there-long : (n : ℕ) → n ≤ 3 + sizeOf start (tagAt a i) → Same a (a ++ b) i i n
+    there-long n h = let l = f .all in let s = f .size in same-before a b i n (omega arith)
+
+    pub there-tag : tagAt (a ++ b) i ≡ tagAt a i
+    there-tag = tag-append a b i (let l = there-below in omega arith)
+
+    pub there-past : past (a ++ b) i ≡ past a i
+    there-past = past-append a b i there-below
+
+    there-reading : readingAt (a ++ b) i ≡ readingAt a i
+    unfolding sizeOf kinds sizeIn
+    there-reading = sym (reading-same a (a ++ b) i i (same-before a b i 1 (let l = there-below in omega arith)) (λ e. there-long 27 (subst⁻¹ (λ (t : ℕ). 27 ≤ 3 + sizeOf start t) e (lit≤ tt))))
+
+    there-sun : tagAt a i ≡ 8 → sunAt (a ++ b) i ≡ sunAt a i
+    unfolding sizeOf kinds sizeIn
+    there-sun e = sym (sun-same a (a ++ b) i i (there-long 19 (subst⁻¹ (λ (t : ℕ). 19 ≤ 3 + sizeOf start t) e (lit≤ tt))))
+
+  pub steps-append : {i : ℕ} → Whole a i → (s : Sun) → stepsFrom (a ++ b) s i ≡ stepsFrom a s i ++ stepsFrom b (sunFrom a s i) 0
+  steps-append {i} (whole-end e) s =
+      at-end a b (stepsFrom (a ++ b) s) i e ∙ steps-shift s 0
+      ∙ sym (ap₂ (λ (l : List Step) (s : Sun). l ++ stepsFrom b s 0) (steps-over a s i (omega arith)) (sun-over a s i (omega arith)))
+  steps-append {i} (whole-field f w) s =
+      let below : i + 3 ≤ length a = there-below f in
+      steps-field (a ++ b) s i (omega (arith, length-append a b))
+      ∙ ap₂ (λ (t n : ℕ). stepsBy (a ++ b) (isReading t) (eqb t 8) s i n) (there-tag f) (there-past f)
+      ∙ go (isReading (tagAt a i)) (eqb (tagAt a i) 8) refl (steps-append w)
+      ∙ sym (ap₂ (λ (l : List Step) (s : Sun). l ++ stepsFrom b s 0) (steps-field a s i (omega arith)) (sun-field a s i (omega arith)))
+    where
+      go : (r l : Bool) → eqb (tagAt a i) 8 ≡ l → ((s : Sun) → stepsFrom (a ++ b) s (past a i) ≡ stepsFrom a s (past a i) ++ stepsFrom b (sunFrom a s (past a i)) 0)
+          → stepsBy (a ++ b) r l s i (past a i) ≡ stepsBy a r l s i (past a i) ++ stepsFrom b (sunBy a r l s i (past a i)) 0
+      go true l e more = ap₂ (λ r (ss : List Step). stepWith r s ∷ ss) (there-reading f) (more dark)
+      go false true e more = ap (λ (s : Sun). stepsFrom (a ++ b) s (past a i)) (there-sun f (eqb-true (tagAt a i) 8 e)) ∙ more (sunAt a i)
+      go false false e more = more s
+
+  pub sun-append : {i : ℕ} → Whole a i → (s : Sun) → sunFrom (a ++ b) s i ≡ sunFrom b (sunFrom a s i) 0
+  sun-append {i} (whole-end e) s =
+      at-end a b (sunFrom (a ++ b) s) i e ∙ sun-shift s 0 ∙ sym (ap (λ (s : Sun). sunFrom b s 0) (sun-over a s i (omega arith)))
+  sun-append {i} (whole-field f w) s =
+      let below : i + 3 ≤ length a = there-below f in
+      sun-field (a ++ b) s i (omega (arith, length-append a b))
+      ∙ ap₂ (λ (t n : ℕ). sunBy (a ++ b) (isReading t) (eqb t 8) s i n) (there-tag f) (there-past f)
+      ∙ go (isReading (tagAt a i)) (eqb (tagAt a i) 8) refl (sun-append w)
+      ∙ sym (ap (λ (s : Sun). sunFrom b s 0) (sun-field a s i (omega arith)))
+    where
+      go : (r l : Bool) → eqb (tagAt a i) 8 ≡ l → ((s : Sun) → sunFrom (a ++ b) s (past a i) ≡ sunFrom b (sunFrom a s (past a i)) 0)
+          → sunBy (a ++ b) r l s i (past a i) ≡ sunFrom b (sunBy a r l s i (past a i)) 0
+      go true l e more = more dark
+      go false true e more = ap (λ (s : Sun). sunFrom (a ++ b) s (past a i)) (there-sun f (eqb-true (tagAt a i) 8 e)) ∙ more (sunAt a i)
+      go false false e more = more s

@@ -1,0 +1,250 @@
+-- The head of a file whose walk is accepted, with the end field of no steps behind it, says the same site and the same roofs as the file: both are read off the
+-- same places, which lie before the head's end. Assumes nothing.
+use mathlib.Core.Path.{_≡_, refl, sym, ap, ap₂, _∙_, subst, subst⁻¹}
+use mathlib.Core.Bool.{Bool, true, false, cond}
+use mathlib.Core.List.{List, [], _∷_, _++_, map}
+use Prim.Native.Nat.{ℕ, zero, suc, _+_, _*_, _≤_, _<_}
+use native.Mathlib.Nat.{mul-suc, mul-zero, mul-le-mul-left}
+use native.Mathlib.Omega.{arith}
+use lib.Dec.{leb, lit≤}
+use lib.ListN.{length, getD, take, drop, take-append-drop}
+use borrow.Author.Tests.{leb-true, leb-false}
+use Rattle.whole.proofs.OverLaws.{and-parts}
+use Rattle.octets.specs.BigEndian.{be}
+use Rattle.unit.specs.Ranges.{ownLimits}
+use Rattle.curve.specs.declared.Bounds.{Bounds}
+use Rattle.curve.specs.Ranges.{pointsIn}
+use Rattle.curve.specs.Layout.{countAt, pointsAt, restIn, curveIn}
+use Rattle.curve.proofs.PointLaws.{points-count}
+use Rattle.curve.proofs.RangeLaws.{points-some}
+use Rattle.solar.specs.Roof.{warmBounds, efficiencyBounds}
+use Rattle.solar.specs.declared.Sun.{Sun}
+use Rattle.parts.specs.Header.{header}
+use Rattle.site.specs.declared.Head.{Head}
+use Rattle.fields.specs.Fields.{unitAt}
+use Rattle.stick.specs.Site.{placesFrom, placesOf, having, headBy, siteOf, roofAt, roofsOf, stepsIn, stepsFrom, headFrom}
+use Rattle.stick.specs.Posts.{Accepted, fleetBytes, settingsBytes, roofBytes, wide, editionAt, unitsAt, unitBytes, settingsPlace, roofPlace, stepsPlace}
+use Rattle.stick.proofs.WalkLaws.{whole}
+use Rattle.stick.proofs.SaidLaws.{every}
+use Rattle.stick.proofs.RoofLaws.{RoofThere}
+use Rattle.stick.proofs.SiteProved.{walk-accepted, fleets-picked, units-picked, settings-picked, roofs-picked, many, many-is, roofs-there}
+use Rattle.chunks.proofs.SameLaws.{Same, be-front, unit-same, head-same, roof-same}
+use Rattle.chunks.proofs.FieldChunks.{same-before}
+use Rattle.chunks.proofs.PlaceChunks.{Whole, went-whole, steps-shift}
+use Rattle.chunks.proofs.HeadChunks.{headEnd, HeadAppend, headFrom-append}
+use Rattle.chunks.proofs.HeadFile.{endField, headFile, head-place, head-within, head-few, head-long, head-alone, head-ok, head-accepted, steps-behind-head}
+
+-- ---- what stands in fields that follow each other
+map-every : {A : Type 0} (f g : ℕ → A) (size m at : ℕ) → ((i : ℕ) → i < m → f (at + size * i) ≡ g (at + size * i)) → map f (every size m at []) ≡ map g (every size m at [])
+map-every f g size zero at h = refl
+map-every {A} f g size (suc m) at h =
+    ap₂ (λ (x : A) (xs : List A). x ∷ xs) (subst (λ (p : ℕ). f p ≡ g p) (first at size) (h 0 (omega arith)))
+    (map-every f g size m (at + size) (λ i l. subst (λ (p : ℕ). f p ≡ g p) (next at size i) (h (suc i) (omega arith))))
+  where
+    first : (at size : ℕ) → at + size * 0 ≡ at
+    first at size = omega (arith, mul-zero size)
+
+    next : (at size i : ℕ) → at + size * suc i ≡ at + size + size * i
+    next at size i = omega (arith, mul-suc size i)
+
+-- ---- the site and the roofs, by the places of their fields, of any file whose walk is accepted
+module _ (file : List ℕ) (ok : whole file .number ≡ 0) where
+  pub head-told : siteOf file .head ≡ headBy file header (settingsPlace file + header)
+  unfolding siteOf
+  head-told =
+      ap₂ (headBy file)
+      (ap (λ (ats : List ℕ). getD ats 0 0 + header) (fleets-picked file ok))
+      (ap (λ (ats : List ℕ). getD ats 0 0 + header) (settings-picked file ok))
+
+  edition-told : siteOf file .head .edition ≡ editionAt file
+  unfolding headBy editionAt
+  edition-told = ap (λ (h : Head). h .edition) head-told
+
+  pub units-told : siteOf file .units ≡ map (λ (at : ℕ). unitAt (editionAt file) file (at + header)) (every (unitBytes file) (unitsAt file) fleetBytes [])
+  unfolding siteOf
+  units-told =
+      ap (λ (n : ℕ). map (λ (at : ℕ). unitAt n file (at + header)) (having 2 file (placesOf file))) edition-told
+      ∙ ap (map (λ (at : ℕ). unitAt (editionAt file) file (at + header))) (units-picked file ok)
+
+  pub roofs-told : roofsOf file ≡ map (roofAt file) (every roofBytes (many file ok) (roofPlace file 0) [])
+  unfolding roofsOf
+  roofs-told = ap (map (roofAt file)) (roofs-picked file ok)
+
+-- a curve in its ranges has at most sixteen points
+few-points : (b : Bounds) (file : List ℕ) (at : ℕ) → curveIn b file at ≡ true → countAt file at ≤ 16
+unfolding curveIn
+few-points b file at e =
+    let p = and-parts (pointsIn b (pointsAt file at)) (restIn file at) e .0 in
+    let n = points-some b (pointsAt file at) p .1 in
+    omega (arith, points-count file at)
+
+-- the end field is no part of a head
+end-first : headFrom 7 endField 0 ≡ 0
+unfolding headFrom be
+end-first = refl
+
+-- ---- the file and its head
+module _ (file : List ℕ) (ok : whole file .number ≡ 0) where
+  abbrev h : ℕ
+  h = headFrom (length file) file 0
+
+  abbrev G : List ℕ
+  G = headFile file
+
+  okG : whole G .number ≡ 0
+  okG = head-ok file ok
+
+  same-head : (p n : ℕ) → p + n ≤ h → Same file G p p n
+  same-head p n l i j =
+      let a = take h file in
+      let long : length a ≡ h = head-long file ok in
+      let r : p + n ≤ length a = omega arith in
+      ap (λ (f : List ℕ). getD f (p + i) 0) (sym (take-append-drop h file)) ∙ sym (same-before a (drop h file) p n r i j) ∙ same-before a endField p n r i j
+
+  far-enough : roofPlace file 0 ≤ h
+  unfolding stepsPlace
+  far-enough = let e = head-place file ok in omega arith
+
+  edition-kept : editionAt file ≡ editionAt G
+  unfolding editionAt
+  edition-kept = let l = far-enough in be-front file G 3 3 1 (same-head 3 1 (omega arith)) 1 (lit≤ tt)
+
+  units-kept : unitsAt file ≡ unitsAt G
+  unfolding unitsAt
+  units-kept = let l = far-enough in be-front file G 4 4 1 (same-head 4 1 (omega arith)) 1 (lit≤ tt)
+
+  bytes-kept : unitBytes file ≡ unitBytes G
+  unfolding unitBytes
+  bytes-kept = ap wide edition-kept
+
+  settings-kept : settingsPlace file ≡ settingsPlace G
+  settings-kept = ap₂ (λ (w n : ℕ). fleetBytes + w * n) bytes-kept units-kept
+
+  -- the head ends at the same place
+  pub head-end-same : headFrom (length G) G 0 ≡ h
+  head-end-same = go (leb (length a) (headEnd a 0)) refl
+    where
+      a : List ℕ
+      a = take h file
+
+      long : length a ≡ h
+      long = head-long file ok
+
+      fields : Whole a 0
+      fields = went-whole a (head-alone file ok) refl
+
+      whole-file : HeadAppend a (drop h file) 0 (headEnd a 0)
+      whole-file = headFrom-append a (drop h file) fields
+
+      go : (b : Bool) → leb (length a) (headEnd a 0) ≡ b → headFrom (length G) G 0 ≡ h
+      go true e =
+          let l : length a ≤ headEnd a 0 = leb-true (length a) (headEnd a 0) e in
+          headFrom-append a endField fields .on l ∙ omega (arith, end-first, long)
+      go false e =
+          let l : headEnd a 0 < length a = leb-false (length a) (headEnd a 0) e in
+          let same : headEnd (a ++ drop h file) 0 ≡ headEnd file 0 = ap (λ (f : List ℕ). headEnd f 0) (take-append-drop h file) in
+          let s : headEnd (a ++ drop h file) 0 ≡ headEnd a 0 = whole-file .within l in
+          absurd (omega (arith, long))
+
+  -- so there are as many roofs
+  many-kept : many file ok ≡ many G okG
+  unfolding stepsPlace
+  many-kept =
+      let e : h ≡ stepsPlace file = head-place file ok in
+      let g : headFrom (length G) G 0 ≡ stepsPlace G = head-place G okG in
+      let s = head-end-same in
+      let p = settings-kept in
+      let m = many-is file ok in
+      let n = many-is G okG in
+      omega arith
+
+  -- ---- the site
+  head-kept : siteOf file .head ≡ siteOf G .head
+  head-kept =
+      let l = far-enough in
+      head-told file ok
+      ∙ head-same file G 3 3 (settingsPlace file + 3) (settingsPlace file + 3) (same-head 3 6 (omega arith)) (same-head (settingsPlace file + 3) 12 (omega arith))
+      ∙ ap (λ (n : ℕ). headBy G header (n + header)) settings-kept
+      ∙ sym (head-told G okG)
+
+  wide-is : unitBytes file ≡ 3 + cond (ownLimits (editionAt file)) 57 49
+  unfolding unitBytes
+  wide-is = refl
+
+  unit-kept : (i : ℕ) → i < unitsAt file → unitAt (editionAt file) file (fleetBytes + unitBytes file * i + header) ≡ unitAt (editionAt file) G (fleetBytes + unitBytes file * i + header)
+  unit-kept i l =
+      let f = far-enough in
+      let p : ℕ = fleetBytes + unitBytes file * i + header in
+      let w = wide-is in
+      let n : unitBytes file * suc i ≡ unitBytes file * i + unitBytes file = mul-suc (unitBytes file) i in
+      let m : unitBytes file * suc i ≤ unitBytes file * unitsAt file = mul-le-mul-left (unitBytes file) l in
+      unit-same file G p p (editionAt file) (same-head p (cond (ownLimits (editionAt file)) 57 49) (omega arith))
+
+  all-units-kept : siteOf file .units ≡ siteOf G .units
+  all-units-kept =
+      units-told file ok
+      ∙ map-every (λ (at : ℕ). unitAt (editionAt file) file (at + header)) (λ (at : ℕ). unitAt (editionAt file) G (at + header)) (unitBytes file) (unitsAt file) fleetBytes unit-kept
+      ∙ (λ i. map (λ (at : ℕ). unitAt (edition-kept i) G (at + header)) (every (bytes-kept i) (units-kept i) fleetBytes []))
+      ∙ sym (units-told G okG)
+
+  pub site-same : siteOf (headFile file) ≡ siteOf file
+  site-same = let a = sym head-kept in let b = sym all-units-kept in λ i. record { head = a i; units = b i }
+
+  -- ---- the roofs
+  roof-kept : (i : ℕ) → i < many file ok → roofAt file (roofPlace file 0 + roofBytes * i) ≡ roofAt G (roofPlace file 0 + roofBytes * i)
+  unfolding stepsPlace
+  roof-kept i l =
+      let p : ℕ = roofPlace file i in
+      let t : RoofThere file p = roofs-there file ok i l in
+      let place : roofPlace file 0 + roofBytes * i ≡ p = omega arith in
+      let e : h ≡ stepsPlace file = head-place file ok in
+      let m = many-is file ok in
+      let one = t .first in
+      let two = t .second in
+      subst⁻¹ (λ (n : ℕ). roofAt file n ≡ roofAt G n) place
+      (roof-same file G p p (omega arith) (omega arith) (few-points warmBounds file (p + 25) (t .warm-in)) (few-points efficiencyBounds file (p + 157) (t .efficiency-in))
+      (same-head p 286 (omega arith)))
+
+  pub roofs-same : roofsOf (headFile file) ≡ roofsOf file
+  roofs-same =
+      sym (roofs-told file ok
+      ∙ map-every (roofAt file) (roofAt G) roofBytes (many file ok) (roofPlace file 0) roof-kept
+      ∙ ap₂ (λ (n s : ℕ). map (roofAt G) (every roofBytes n (s + settingsBytes + roofBytes * 0) [])) many-kept settings-kept
+      ∙ sym (roofs-told G okG))
+
+  -- ---- no steps are in the head
+  pub no-steps : (s : Sun) → stepsFrom (headFile file) s 0 ≡ []
+  unfolding stepsFrom stepsIn placesFrom be
+  no-steps s =
+      let a = take h file in
+      let long : length a ≡ h = head-long file ok in
+      let place : headFrom (length G) G 0 ≡ length a + 0 = let e = head-end-same in omega arith in
+      steps-behind-head G okG s ∙ ap (stepsFrom G s) place ∙ steps-shift a endField s 0
+
+-- ---- all of it
+pub record HeadSays (file : List ℕ) : Type 0 where
+  pub place : headFrom (length file) file 0 ≡ stepsPlace file
+  pub within : headFrom (length file) file 0 < length file
+  pub few : headFrom (length file) file 0 ≤ 22168
+  pub accepted : Accepted (headFile file)
+  pub head-end : headFrom (length (headFile file)) (headFile file) 0 ≡ headFrom (length file) file 0
+  pub site : siteOf (headFile file) ≡ siteOf file
+  pub roofs : roofsOf (headFile file) ≡ roofsOf file
+  pub steps : (s : Sun) → stepsFrom file s 0 ≡ stepsFrom file s (headFrom (length file) file 0)
+  pub none : (s : Sun) → stepsFrom (headFile file) s 0 ≡ []
+
+pub head-says : (file : List ℕ) → whole file .number ≡ 0 → HeadSays file
+head-says file ok = record {
+  place = head-place file ok;
+  within = head-within file ok;
+  few = head-few file ok;
+  accepted = head-accepted file ok;
+  head-end = head-end-same file ok;
+  site = site-same file ok;
+  roofs = roofs-same file ok;
+  steps = steps-behind-head file ok;
+  none = no-steps file ok;
+}
+
+pub accepted-says : (file : List ℕ) → Accepted file → HeadSays file
+accepted-says file z = head-says file (walk-accepted file z)

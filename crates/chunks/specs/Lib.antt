@@ -1,0 +1,1 @@
+-- A run file in chunks: no definitions of its own.
