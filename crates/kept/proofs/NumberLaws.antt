@@ -1,0 +1,77 @@
+-- The numbers of a state: a part of lent bytes is the part that a definition names, and what is read one by one is the whole mark. Assumes nothing.
+use mathlib.Core.Path.{_≡_, refl, sym, ap, _∙_}
+use mathlib.Core.List.{List, [], _∷_}
+use Prim.Native.Nat.{ℕ, zero, suc, _+_, _-_, _≤_}
+use native.Mathlib.Nat.{zero-add, suc-add}
+use native.Mathlib.Omega.{arith}
+use lib.IntN.{ℤ}
+use lib.ListN.{length, take, drop, replicate}
+use lib.Seq.{slice, take-nil}
+use mir.Syntax.{w32}
+use mir.Val.{toZ}
+use Rattle.octets.specs.BigEndian.{be, bytesOf, laid}
+use Rattle.octets.proofs.LaidLaws.{laid-length}
+use Rattle.records.proofs.LayLaws.{behind, both}
+use Rattle.fields.specs.declared.State.{State}
+use Rattle.fields.specs.Fields.{goneTo}
+use Rattle.stick.specs.declared.Reached.{Reached}
+use Rattle.stick.specs.Check.{reachOf, start}
+use Rattle.kept.specs.declared.Mark.{Mark}
+use Rattle.kept.specs.Layout.{placeIn, stepsKept, stageIn, siteBytes, tailBytes, sitePart, sunKept, knownBy, stateIn, markIn, tailPlace, heldPlace, stateSize, filled, progressOf, partsOf, numbersOf, topOf}
+use Rattle.kept.proofs.PieceLaws.{laid-filled}
+
+-- so many bytes from a place on are those up to its end
+pub take-drop : (n from : ℕ) (s : List ℕ) → take n (drop from s) ≡ slice from (from + n) s
+take-drop n zero s = ap (λ (k : ℕ). take k s) (sym (zero-add n))
+take-drop n (suc from) [] = take-nil n ∙ sym (ap (drop (suc from)) (take-nil (suc from + n)))
+take-drop n (suc from) (x ∷ s) = take-drop n from s ∙ ap (λ (k : ℕ). drop (suc from) (take k (x ∷ s))) (sym (suc-add from n))
+
+pub part-is : (from n : ℕ) (s : List ℕ) → take (from + n - from) (drop from s) ≡ slice from (from + n) s
+part-is from n s = ap (λ (k : ℕ). take k (drop from s)) less ∙ take-drop n from s
+  where
+    less : from + n - from ≡ n
+    less = omega arith
+
+-- the state that is read
+state-is : (s : List ℕ) (r : Reached) (st : State) (stage steps : ℕ)
+    → r ≡ reachOf (length (sitePart s)) start (sitePart s) 0 → stage ≡ stageIn s → steps ≡ stepsKept s
+    → st ≡ goneTo (r .state) stage (r .state .left) steps → st ≡ stateIn s
+unfolding stateIn knownBy
+state-is s r st stage steps a b d e =
+    let k : State = knownBy (sitePart s) in
+    e
+    ∙ ap (λ (x : Reached). goneTo (x .state) stage (x .state .left) steps) a
+    ∙ ap (λ (n : ℕ). goneTo k n (k .left) steps) b
+    ∙ ap (λ (n : ℕ). goneTo k (stageIn s) (k .left) n) d
+
+-- what is read one by one is the whole mark
+pub mark-is : (s : List ℕ) (r : Reached) (st : State) (place stage steps site tail light : ℕ) (warm : ℤ)
+    → r ≡ reachOf (length (sitePart s)) start (sitePart s) 0 → stage ≡ stageIn s → steps ≡ stepsKept s
+    → st ≡ goneTo (r .state) stage (r .state .left) steps → place ≡ placeIn s → site ≡ siteBytes s → tail ≡ tailBytes s
+    → light ≡ be 4 s 17 → warm ≡ toZ w32 (be 4 s 21)
+    → _≡_ {A = Mark} (record { place = place; state = st; site = site; tail = tail; sun = record { irradiance = light; temperature = warm } }) (markIn s)
+unfolding markIn sunKept
+mark-is s r st place stage steps site tail light warm a b d e f g h i j = rw (state-is s r st stage steps a b d e, f, g, h, i, j)
+
+-- ---- the numbers and a tail, with 0 behind it, are laid whole
+pub progress-length : (m : Mark) → length (progressOf m) ≡ 14
+unfolding progressOf bytesOf
+progress-length m = refl
+
+pub parts-length : (m : Mark) → length (partsOf m) ≡ 11
+unfolding partsOf bytesOf
+parts-length m = refl
+
+pub numbers-length : (m : Mark) → length (numbersOf m) ≡ 25
+unfolding numbersOf
+numbers-length m = both (progressOf m) (partsOf m) 14 11 (progress-length m) (parts-length m)
+
+pub top-laid : (s : List ℕ) (m : Mark) (tail : List ℕ) → length s ≡ stateSize → length tail ≡ m .tail → m .tail ≤ 131 → (t u v : List ℕ)
+    → t ≡ laid s 0 (numbersOf m) → u ≡ laid t tailPlace tail → v ≡ laid u (tailPlace + m .tail) (replicate (heldPlace - (tailPlace + m .tail)) 0)
+    → v ≡ laid s 0 (topOf m tail)
+unfolding topOf
+top-laid s m tail long l few t u v a b d =
+    let n : length (numbersOf m) ≡ 25 = numbers-length m in
+    let o : length t ≡ length s = ap length a ∙ laid-length s 0 (numbersOf m) (omega arith) in
+    let second : v ≡ laid t tailPlace (filled 131 tail) = laid-filled t tailPlace (omega arith) 131 (m .tail) (heldPlace - (tailPlace + m .tail)) tail l (omega arith) u v b d in
+    behind s 0 (omega arith) (numbersOf m) (filled 131 tail) 25 n t v a second

@@ -1,0 +1,62 @@
+-- Number, place and steps are laid behind one another, and 0 behind them up to the end: nothing else is left of the bytes.
+use borrow.Author.Needs.{needs}
+use native.Mathlib.Omega.{arith}
+use Prim.Native.Nat.{ℕ, _≤_}
+use mathlib.Core.Path.{_≡_, _∙_}
+use mathlib.Core.List.{_++_}
+use lib.ListN.{length, replicate, length-replicate}
+use Rattle.octets.specs.BigEndian.{bytesOf}
+use Rattle.octets.proofs.ByteLaws.{bytes-length}
+use Rattle.records.proofs.LayLaws.{behind, both, longer}
+use Rattle.kept.specs.Layout.{stoppedBytes}
+use Rattle.kept.proofs.PieceLaws.{laid-whole}
+use Rattle.kept.proofs.numbers.stop.Statement.{statement}
+use Rattle.kept.proofs.numbers.stop.Tie as tie
+
+put-u8-requires : tie.Need-put-u8-requires
+put-u8-requires c κs = search needs
+
+put-u64-requires : tie.Need-put-u64-requires
+put-u64-requires c κs = search needs
+
+put-u32-requires : tie.Need-put-u32-requires
+put-u32-requires c κs = search needs
+
+zero-requires : tie.Need-zero-requires
+zero-requires c κs = search needs
+
+same-length : tie.Need-same-length
+same-length c = search needs
+
+returns : tie.Need-returns
+unfolding stoppedBytes
+returns c =
+    let fourth = c .before .before in
+    let third = fourth .before .before .before .before in
+    let second = third .before .before .before .before in
+    let first = second .before .before .before .before in
+    let start = first .before .before .before in
+    let s = start .args .s .now in
+    let h : 0 ≤ length s = omega arith in
+    let number = start .args .number in
+    let place = start .args .place in
+    let steps = start .args .steps in
+    let a = bytesOf 1 number in
+    let b = a ++ bytesOf 8 place in
+    let d = b ++ bytesOf 4 steps in
+    let t₁ = first .put-u8 .last .0 in
+    let t₂ = second .put-u64 .last .0 in
+    let t₃ = third .put-u32 .last .0 in
+    let la = bytes-length 1 number in
+    let lb = longer a 1 8 place la in
+    let ld = longer b 9 4 steps lb in
+    let two = behind s 0 h a (bytesOf 8 place) 1 la t₁ t₂ (first .put-u8 .ensures) (second .put-u64 .ensures) in
+    let three = behind s 0 h b (bytesOf 4 steps) 9 lb t₂ t₃ two (third .put-u32 .ensures) in
+    let four = behind s 0 h d (replicate 23150 0) 13 ld t₃ (fourth .zero .last .0) three (fourth .zero .ensures) in
+    let l : length (d ++ replicate 23150 0) ≡ length s = omega (arith, both d (replicate 23150 0) 13 23150 ld (length-replicate {A = ℕ} 23150 0), start .pre) in
+    four ∙ laid-whole s (d ++ replicate 23150 0) l
+
+pub stop-spec : {M : Type 1} → statement M
+stop-spec =
+    tie.close
+    (tie.spec put-u8-requires put-u64-requires put-u32-requires zero-requires same-length returns)

@@ -1,0 +1,54 @@
+-- Each part and the 0 behind it are laid one behind the other.
+use borrow.Author.Needs.{needs}
+use Rattle.kept.proofs.StandLaws.{stands-laid}
+use Rattle.kept.proofs.stands.put_stands.Statement.{statement}
+use Rattle.kept.proofs.stands.put_stands.Tie as tie
+
+mul-held : tie.Need-mul-held
+mul-held c = search needs
+
+add-held : tie.Need-add-held
+add-held c = search needs
+
+add-flags : tie.Need-add-flags
+add-flags c = search needs
+
+put-held-requires : tie.Need-put-held-requires
+put-held-requires c κs = search needs
+
+zero-requires : tie.Need-zero-requires
+zero-requires c κs = search needs
+
+put-flags-requires : tie.Need-put-flags-requires
+put-flags-requires c κs = search needs
+
+zero-requires-2 : tie.Need-zero-requires-2
+zero-requires-2 c κs = search needs
+
+same-length : tie.Need-same-length
+same-length c = search needs
+
+returns : tie.Need-returns
+returns c =
+    let fourth = c .before .before in
+    let third = fourth .before .before .before .before in
+    let second = third .before .before .before .before in
+    let first = second .before .before .before .before in
+    let start = first .before .before .before .before .before in
+    let a = start .args in
+    let (long, (few, (same, fewer))) = start .pre in
+    stands-laid (a .s .now) (a .stored .now) (a .requests .now) (a .on .now) long few fewer (first .put-held .last .0) (second .zero .last .0) (third .put-flags .last .0) (fourth .zero2 .last .0) (first .put-held .ensures) (second .zero .ensures) (third .put-flags .ensures) (fourth .zero2 .ensures)
+
+pub put-stands-spec : {M : Type 1} → statement M
+put-stands-spec =
+    tie.close
+    (tie.spec
+    mul-held
+    add-held
+    add-flags
+    put-held-requires
+    zero-requires
+    put-flags-requires
+    zero-requires-2
+    same-length
+    returns)

@@ -1,0 +1,103 @@
+-- The lists are filled with what the bytes say, so that their test is the definition's.
+use borrow.Author.Needs.{needs}
+use native.Mathlib.Omega.{arith}
+use Prim.Native.Nat.{ℕ, _+_, _-_, _≤_}
+use mathlib.Core.Path.{sym, ap, ap₂, _∙_, subst⁻¹}
+use mathlib.Core.List.{List}
+use lib.IntN.{ℤ}
+use lib.ListN.{length, take, drop}
+use Rattle.stick.specs.Site.{siteOf}
+use Rattle.site.specs.Site.{count}
+use Rattle.stick.specs.Posts.{Accepted}
+use Rattle.kept.specs.Layout.{sitePlace, sitePart, storeAt, requestAt}
+use Rattle.kept.specs.Formed.{heldFits}
+use Rattle.kept.proofs.StandLaws.{upTo-length}
+use Rattle.kept.proofs.ListLaws.{site-part-is, few-units, few-roofs, loaded-is}
+use Rattle.kept.proofs.tests.loaded_fit.Statement.{statement}
+use Rattle.kept.proofs.tests.loaded_fit.Tie as tie
+
+-- few units and few inverters
+few : (c : tie.Start) → length (c .args .stored .now) ≤ 64
+few c = let (z, (e, (a, (p, (q, r))))) = c .pre in omega (arith, p, few-units (sitePart (c .args .s .now)) a)
+
+fewer : (c : tie.Start) → c .args .roofs ≤ 64
+fewer c = let (z, (e, (a, (p, (q, r))))) = c .pre in omega (arith, r, few-roofs (sitePart (c .args .s .now)) a)
+
+load-requires : tie.Need-load-requires
+load-requires c κs =
+    let s = c .before .before .before .before in
+    let (z, (e, (a, (p, (q, r))))) = s .pre in
+    (z .long, (few s, omega (arith, p, q)))
+
+add-held-fits : tie.Need-add-held-fits
+add-held-fits c = search needs
+
+sub-held-fits : tie.Need-sub-held-fits
+sub-held-fits c = search needs
+
+part-held-fits-start : tie.Need-part-held-fits-start
+part-held-fits-start c = search needs
+
+part-held-fits-end : tie.Need-part-held-fits-end
+part-held-fits-end c = search needs
+
+held-fits-requires : tie.Need-held-fits-requires
+held-fits-requires c κs =
+    let l = c .before .before .before .before .before .before in
+    let s = l .before .before .before .before .before in
+    let (z, (e, (a, (p, (q, r))))) = s .pre in
+    let part = site-part-is (s .args .s .now) (s .args .n) e in
+    let n = length (s .args .stored .now) in (
+      subst⁻¹ Accepted part a,
+      (
+        ap length (l .load .ensures .0) ∙ upTo-length n (storeAt (s .args .s .now)) ∙ p ∙ ap (λ (t : List ℕ). count (siteOf t)) (sym part),
+        ap length (l .load .ensures .1) ∙ upTo-length n (requestAt (s .args .s .now)) ∙ p ∙ ap (λ (t : List ℕ). count (siteOf t)) (sym part),
+      ),
+    )
+
+flags-fit-requires : tie.Need-flags-fit-requires
+flags-fit-requires c κs =
+    let l = c .before .before .before .before .before .before .before in
+    let s = l .before .before .before .before .before in
+    let (z, (e, (a, (p, (q, r))))) = s .pre in
+    (z .long, fewer s)
+
+same-length : tie.Need-same-length
+same-length c = search needs
+
+same-length-2 : tie.Need-same-length-2
+same-length-2 c = search needs
+
+returns : tie.Need-returns
+returns c =
+    let h = c .before in
+    let l = h .before .before .before .before .before .before .before in
+    let s = l .before .before .before .before .before in
+    let (z, (e, (a, (p, (q, r))))) = s .pre in
+    let part = site-part-is (s .args .s .now) (s .args .n) e in
+    let lent = take (sitePlace + s .args .n - sitePlace) (drop sitePlace (s .args .s .now)) in
+    loaded-is
+    (s .args .s .now)
+    (length (s .args .stored .now))
+    lent
+    (s .args .roofs)
+    (h .held-fits .result)
+    (c .flags-fit .result)
+    part
+    (h .held-fits .ensures ∙ ap₂ (λ (x : List ℕ) (y : List ℤ). heldFits (siteOf lent) x y) (l .load .ensures .0) (l .load .ensures .1))
+    (c .flags-fit .ensures)
+
+pub loaded-fit-spec : {M : Type 1} → statement M
+loaded-fit-spec =
+    tie.close
+    (tie.spec
+    load-requires
+    add-held-fits
+    sub-held-fits
+    part-held-fits-start
+    part-held-fits-end
+    held-fits-requires
+    flags-fit-requires
+    same-length
+    same-length-2
+    returns)

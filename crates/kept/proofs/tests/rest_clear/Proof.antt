@@ -1,0 +1,88 @@
+-- The four tests are the definition's.
+use borrow.Author.Needs.{needs}
+use Rattle.kept.proofs.FitLaws.{rest-is}
+use Rattle.kept.proofs.tests.rest_clear.Statement.{statement}
+use Rattle.kept.proofs.tests.rest_clear.Tie as tie
+
+u16-at-requires : tie.Need-u16-at-requires
+u16-at-requires c κs = search needs
+
+cast-n : tie.Need-cast-n
+cast-n c = search needs
+
+u8-at-requires : tie.Need-u8-at-requires
+u8-at-requires c κs = search needs
+
+cast-t : tie.Need-cast-t
+cast-t c = search needs
+
+add-is-clear : tie.Need-add-is-clear
+add-is-clear c = search needs
+
+is-clear-requires : tie.Need-is-clear-requires
+is-clear-requires c κs = search needs
+
+mul-is-clear : tie.Need-mul-is-clear
+mul-is-clear c = search needs
+
+add-is-clear-2 : tie.Need-add-is-clear-2
+add-is-clear-2 c = search needs
+
+is-clear-requires-2 : tie.Need-is-clear-requires-2
+is-clear-requires-2 c κs = search needs
+
+add-is-clear-3 : tie.Need-add-is-clear-3
+add-is-clear-3 c = search needs
+
+is-clear-requires-3 : tie.Need-is-clear-requires-3
+is-clear-requires-3 c κs = search needs
+
+add-is-clear-4 : tie.Need-add-is-clear-4
+add-is-clear-4 c = search needs
+
+is-clear-requires-4 : tie.Need-is-clear-requires-4
+is-clear-requires-4 c κs = search needs
+
+returns : tie.Need-returns
+returns c =
+    let third = c .before in
+    let second = third .before in
+    let first = second .before in
+    let tail = first .before in
+    let site = tail .before in
+    let a = site .before .before .args in
+    rest-is
+    (a .s .now)
+    (a .units)
+    (a .roofs)
+    (site .u16-at .result)
+    (tail .u8-at .result)
+    (first .is-clear .result)
+    (second .is-clear2 .result)
+    (third .is-clear3 .result)
+    (c .is-clear4 .result)
+    (site .u16-at .ensures)
+    (tail .u8-at .ensures)
+    (first .is-clear .ensures)
+    (second .is-clear2 .ensures)
+    (third .is-clear3 .ensures)
+    (c .is-clear4 .ensures)
+
+pub rest-clear-spec : {M : Type 1} → statement M
+rest-clear-spec =
+    tie.close
+    (tie.spec
+    u16-at-requires
+    cast-n
+    u8-at-requires
+    cast-t
+    add-is-clear
+    is-clear-requires
+    mul-is-clear
+    add-is-clear-2
+    is-clear-requires-2
+    add-is-clear-3
+    is-clear-requires-3
+    add-is-clear-4
+    is-clear-requires-4
+    returns)

@@ -1,0 +1,41 @@
+-- Nobody has to believe this file: the parts of contracts by name.
+use Prim.Native.Nat.{ℕ, _≤_}
+use mathlib.Core.Bool.{true, false}
+use mathlib.Core.List.{List, []}
+use mathlib.Core.Path.{_≡_}
+use lib.ListN.{length}
+use Rattle.site.specs.Site.{count}
+use Rattle.fields.specs.Fields.{goneTo}
+use Rattle.stick.specs.Check.{reached, reachOf, start}
+use Rattle.stick.specs.Site.{siteOf, roofsOf}
+use Rattle.kept.specs.Kept.{Kept, begun, noStanding}
+use Rattle.kept.specs.Layout.{stateSize, siteBytes, tailBytes, knownBy}
+use Rattle.kept.specs.Formed.{placeFits, sunFits, tailFits, heldFits}
+
+-- as long as a state, with parts no longer than their places
+pub record Sized (s : List ℕ) : Type 0 where
+  pub long : length s ≡ stateSize
+  pub site-fits : siteBytes s ≤ 22175
+  pub tail-fits : tailBytes s ≤ 131
+
+-- what is kept in a state that is well formed
+pub record WellKept (k : Kept) : Type 0 where
+  -- the site part's fields are whole and accepted, without steps, and lead to the state between fields
+  pub known : reachOf (length (k .site)) start (k .site) 0 ≡ reached 0 (length (k .site)) (knownBy (k .site))
+  pub no-steps : knownBy (k .site) .steps ≡ 0
+  pub state-is : goneTo (knownBy (k .site)) (k .state .stage) (knownBy (k .site) .left) (k .state .steps) ≡ k .state
+  pub closed : begun (k .state) ≡ true → knownBy (k .site) .stage ≡ 0
+  pub waiting : begun (k .state) ≡ false → (knownBy (k .site) .stage ≡ k .state .stage) × (k .state .steps ≡ 0)
+  pub site-short : length (k .site) ≤ 22175
+  pub few : k .state .steps ≤ 65535
+  -- place, sun and tail
+  pub placed : placeFits (k .place) (k .state .stage) (k .state .steps) (length (k .site)) (length (k .tail)) ≡ true
+  pub sunny : sunFits (k .state .stage) (k .sun) ≡ true
+  pub tailed : tailFits (k .state) (k .tail) ≡ true
+  pub tail-short : length (k .tail) ≤ 131
+  -- what stands
+  pub stores : begun (k .state) ≡ true → length (k .stands .stored) ≡ count (siteOf (k .site))
+  pub asks : length (k .stands .requests) ≡ length (k .stands .stored)
+  pub held : heldFits (siteOf (k .site)) (k .stands .stored) (k .stands .requests) ≡ true
+  pub flags : begun (k .state) ≡ true → length (k .on) ≡ length (roofsOf (k .site))
+  pub none-stands : begun (k .state) ≡ false → (k .stands ≡ noStanding) × (k .on ≡ [])

@@ -1,0 +1,141 @@
+-- The site part after whole fields: its own fields are whole and accepted, without steps, and lead to what is known between fields. Assumes nothing.
+use mathlib.Core.Path.{_≡_, refl, sym, ap, ap₂, _∙_, subst, subst⁻¹}
+use mathlib.Core.Bool.{Bool, true, false, _||_}
+use mathlib.Core.List.{List, [], _++_, append-nil}
+use Prim.Native.Nat.{ℕ, _+_, _≤_, _<_}
+use native.Mathlib.Omega.{arith}
+use lib.Dec.{eqb}
+use lib.ListN.{length, take, length-append}
+use borrow.Author.Tests.{eqb-true}
+use Rattle.whole.proofs.Choice.{passed-failed}
+use Rattle.octets.specs.BigEndian.{be}
+use Rattle.fields.specs.declared.State.{State}
+use Rattle.fields.specs.Fields.{atEnd, atInverters, kinds, sizeIn, sizeOf, headOf, standsIn, allowed, valueOf, refusedBy, stateOf, goneTo, roofAfter, stateAfter, takenBy}
+use Rattle.stick.specs.declared.Reached.{Reached}
+use Rattle.stick.specs.Check.{fieldAt, reached, reachOf, start}
+use Rattle.chunks.proofs.HeadChunks.{head-short}
+use Rattle.kept.specs.Kept.{Kept, begunAt, begun}
+use Rattle.kept.specs.Layout.{knownBy}
+use Rattle.kept.specs.Posts.{WellKept}
+use Rattle.taking.specs.Chunk.{closing, headIn, siteAfter}
+use Rattle.taking.specs.Posts.{Leads}
+use Rattle.taking.proofs.LedLaws.{leads-append, leads-upto}
+use Rattle.taking.proofs.StageLaws.{Along, first-may}
+use Rattle.taking.proofs.LeadLaws.{parts, going, behind-head, only-head, all-head, head-ends, stays-begun}
+use Rattle.taking.proofs.TwiceLaws.{site-by}
+
+-- ---- a site part that is well formed, with the state between fields
+pub record SiteWell (site : List ℕ) (st : State) : Type 0 where
+  pub known : reachOf (length site) start site 0 ≡ reached 0 (length site) (knownBy site)
+  pub no-steps : knownBy site .steps ≡ 0
+  pub state-is : goneTo (knownBy site) (st .stage) (knownBy site .left) (st .steps) ≡ st
+  pub closed : begun st ≡ true → knownBy site .stage ≡ 0
+  pub waiting : begun st ≡ false → (knownBy site .stage ≡ st .stage) × (st .steps ≡ 0)
+  pub site-short : length site ≤ 22175
+
+-- by the state to which its fields lead
+site-made : (site : List ℕ) (s st : State) → Leads start site s → s .steps ≡ 0 → goneTo s (st .stage) (s .left) (st .steps) ≡ st
+    → (begun st ≡ true → s .stage ≡ 0) → (begun st ≡ false → (s .stage ≡ st .stage) × (st .steps ≡ 0)) → length site ≤ 22175 → SiteWell site st
+unfolding knownBy
+site-made site s st l z is c w short =
+    let e : s ≡ knownBy site = sym (ap (λ (r : Reached). r .state) (l .leads)) in
+    record {
+      known = l .leads ∙ ap (reached 0 (length site)) e;
+      no-steps = subst (λ (x : State). x .steps ≡ 0) e z;
+      state-is = subst (λ (x : State). goneTo x (st .stage) (x .left) (st .steps) ≡ st) e is;
+      closed = λ b. subst (λ (x : State). x .stage ≡ 0) e (c b);
+      waiting = λ b. subst (λ (x : State). (x .stage ≡ st .stage) × (st .steps ≡ 0)) e (w b);
+      site-short = short;
+    }
+
+-- ---- the field that closes it
+closing-ends : (edition units left : ℕ) → Leads (stateOf atInverters edition units left 0) closing (stateOf atEnd edition units left 0)
+unfolding reachOf fieldAt headOf sizeOf kinds sizeIn takenBy refusedBy allowed standsIn valueOf stateAfter roofAfter be
+closing-ends edition units left = record { leads = refl }
+
+-- where a step may be closed and none has begun, an inverter may come
+at-inverters : (n : ℕ) → (eqb n 4 || eqb n 5 || eqb n 8) ≡ true → begunAt n ≡ false → n ≡ 5
+at-inverters n c b = go (eqb n 0) (eqb n 4) (eqb n 5) (eqb n 8) refl c b
+  where
+    go : (x y z u : Bool) → eqb n 5 ≡ z → (y || z || u) ≡ true → (x || y || u) ≡ false → n ≡ 5
+    go x y true u e c b = eqb-true n 5 e
+    go true y false u e c b = absurd (passed-failed refl b)
+    go false true false u e c b = absurd (passed-failed refl b)
+    go false false false true e c b = absurd (passed-failed refl b)
+    go false false false false e c b = absurd (passed-failed c refl)
+
+module _ (k : Kept) (well : WellKept k) where
+  pub kept-site : SiteWell (k .site) (k .state)
+  kept-site = record { known = well .known; no-steps = well .no-steps; state-is = well .state-is; closed = well .closed; waiting = well .waiting; site-short = well .site-short }
+
+  -- ---- what is kept before the steps: the site part leads to the state
+  pub leads-to : begun (k .state) ≡ false → Leads start (k .site) (k .state)
+  leads-to b =
+      let K = knownBy (k .site) in
+      let w = well .waiting b in
+      let stage = w .0 in
+      let steps : K .steps ≡ k .state .steps = well .no-steps ∙ sym (w .1) in
+      let same : K ≡ k .state = ap₂ (λ (a n : ℕ). goneTo K a (K .left) n) stage steps ∙ well .state-is in
+      record { leads = well .known ∙ ap (reached 0 (length (k .site))) same }
+
+  module _ (w : List ℕ) (next : State) (l : Leads (k .state) w next) where
+    abbrev mid : State
+    mid = parts w l .mid
+
+    -- ---- the steps had begun
+    module _ (b : begun (k .state) ≡ true) where
+      kept-on : SiteWell (k .site) next
+      kept-on = record {
+        known = well .known;
+        no-steps = well .no-steps;
+        state-is = ap (λ (s : State). goneTo s (next .stage) (s .left) (next .steps)) (well .state-is) ∙ sym (going w l b .same);
+        closed = λ e. well .closed b;
+        waiting = λ e. absurd (passed-failed (stays-begun w l b) e);
+        site-short = well .site-short;
+      }
+
+    -- ---- they had not: the fields before them are kept
+    module _ (b : begun (k .state) ≡ false) where
+      abbrev grown : List ℕ
+      grown = k .site ++ take (headIn w) w
+
+      grown-leads : Leads start grown mid
+      grown-leads = leads-append (k .site) (take (headIn w) w) (leads-to b) (leads-upto (parts w l .to) (parts w l .upto))
+
+      grown-before : begun mid ≡ false
+      grown-before = parts w l .still b
+
+      none-yet : mid .steps ≡ 0
+      none-yet = parts w l .none ∙ well .waiting b .1
+
+      pub grown-short : length grown ≤ 22168
+      grown-short = head-short grown (ap (λ (r : Reached). r .number) (grown-leads .leads)) (all-head grown grown-leads refl grown-before)
+
+      not-begun : begun next ≡ false → SiteWell (grown ++ []) next
+      not-begun e =
+          let same : mid ≡ next = only-head w l (all-head w l b e) in
+          let z : next .steps ≡ 0 = ap (λ (s : State). s .steps) (sym same) ∙ none-yet in
+          let short = grown-short in
+          subst⁻¹ (λ (site : List ℕ). SiteWell site next) (append-nil grown)
+          (site-made grown next next (subst (Leads start grown) same grown-leads) z refl (λ f. absurd (passed-failed f e)) (λ f. (refl, z)) (omega arith))
+
+      begins-here : begun next ≡ true → SiteWell (grown ++ closing) next
+      begins-here e =
+          let h : headIn w < length w = head-ends w l b e in
+          let five : mid .stage ≡ 5 = at-inverters (mid .stage) (first-may w (parts w l .on) h (parts w l .begins h)) grown-before in
+          let is : mid ≡ stateOf 5 (mid .edition) (mid .units) (mid .left) 0 = ap₂ (λ (a n : ℕ). goneTo mid a (mid .left) n) five none-yet in
+          let ended : State = stateOf 0 (mid .edition) (mid .units) (mid .left) 0 in
+          let a : Along mid next = behind-head w l h in
+          let short = grown-short in
+          let long : length (grown ++ closing) ≡ length grown + 7 = length-append grown closing in
+          site-made (grown ++ closing) ended next
+          (leads-append grown closing grown-leads (subst⁻¹ (λ (s : State). Leads s closing ended) is (closing-ends (mid .edition) (mid .units) (mid .left))))
+          refl (sym (a .same)) (λ f. refl) (λ f. absurd (passed-failed e f)) (omega arith)
+
+    pub site-well : SiteWell (siteAfter k w next) next
+    site-well = go (begun (k .state)) (begun next) refl refl
+      where
+        go : (x y : Bool) → begun (k .state) ≡ x → begun next ≡ y → SiteWell (siteAfter k w next) next
+        go true y ex ey = subst⁻¹ (λ (site : List ℕ). SiteWell site next) (site-by k w next true y ex ey) (kept-on ex)
+        go false true ex ey = subst⁻¹ (λ (site : List ℕ). SiteWell site next) (site-by k w next false true ex ey) (begins-here ex ey)
+        go false false ex ey = subst⁻¹ (λ (site : List ℕ). SiteWell site next) (site-by k w next false false ex ey) (not-begun ex ey)

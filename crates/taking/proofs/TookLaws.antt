@@ -1,0 +1,85 @@
+-- A field that is taken, by its tag: the stage at which it stands, how long it is, and the state behind it. Assumes nothing.
+use mathlib.Core.Path.{_≡_, refl, sym, ap, _∙_, subst}
+use mathlib.Core.Bool.{Bool, true, false, cond, _&&_, _||_}
+use mathlib.Core.List.{List}
+use Prim.Native.Nat.{ℕ, _+_, _-_, _≤_, _<_}
+use native.Mathlib.Omega.{arith}
+use lib.Dec.{leb, eqb}
+use lib.ListN.{length}
+use borrow.Author.Tests.{leb-true, eqb-true, eqb-false}
+use Rattle.whole.proofs.Choice.{passed-failed}
+use Rattle.whole.proofs.OverLaws.{and-parts}
+use Rattle.octets.specs.BigEndian.{be}
+use Rattle.parts.specs.Header.{header, tagAt, lengthAt, past}
+use Rattle.fields.specs.declared.State.{State}
+use Rattle.fields.specs.declared.Taken.the-variants.{Next}
+use Rattle.fields.specs.Fields.{atEnd, atFleet, atUnits, atSettings, atSteps, atInverters, atTemperature, atEfficiency, atReading}
+use Rattle.fields.specs.Fields.{begins, closes, kinds, sizeIn, sizeOf, standsIn, allowed, fleetIn, isReading, tooMany, valueOf, stateOf, goneTo, roofAfter, stateAfter}
+use Rattle.fields.proofs.FieldLaws.{fewer, step-counts, stands-nowhere}
+use Rattle.fields.proofs.TakenLaws.{not-many}
+use Rattle.stick.specs.Check.{fieldAt}
+use Rattle.stick.proofs.WalkLaws.{field-cases}
+use Rattle.stick.proofs.SaidLaws.{free-parts, accepted-test}
+use Rattle.chunks.proofs.SameLaws.{NoTag, by-tag}
+
+pub data Took (file : List ℕ) (st : State) (i : ℕ) (m : State) : Type 0 where
+  fleet : tagAt file i ≡ 1 → st .stage ≡ atFleet → past file i ≡ i + 9 → fleetIn file (i + header) ≡ true
+      → m ≡ stateOf atUnits (be 1 file (i + header)) (be 1 file (i + header + 1)) (be 1 file (i + header + 1)) (st .steps) → Took file st i m
+  unit : tagAt file i ≡ 2 → st .stage ≡ atUnits → m ≡ fewer st → Took file st i m
+  settings : tagAt file i ≡ 3 → st .stage ≡ atSettings → m ≡ goneTo st atInverters 64 (st .steps) → Took file st i m
+  inverter : tagAt file i ≡ 6 → st .stage ≡ atInverters → 1 ≤ st .left → m ≡ goneTo st atTemperature (st .left - 1) (st .steps) → Took file st i m
+  warm : tagAt file i ≡ 7 → st .stage ≡ atTemperature → m ≡ goneTo st atEfficiency (st .left) (st .steps) → Took file st i m
+  efficiency : tagAt file i ≡ 7 → st .stage ≡ atEfficiency → m ≡ goneTo st atInverters (st .left) (st .steps) → Took file st i m
+  reading : isReading (tagAt file i) ≡ true → closes st ≡ true → i + 3 ≤ past file i → past file i ≤ i + 27 → st .steps < 65535
+      → m ≡ goneTo st atSteps (st .left) (st .steps + 1) → Took file st i m
+  weather : tagAt file i ≡ 8 → begins st ≡ true → past file i ≡ i + 19 → m ≡ goneTo st atReading (st .left) (st .steps) → Took file st i m
+  end : tagAt file i ≡ 127 → begins st ≡ true → past file i ≡ i + 7 → m ≡ goneTo st atEnd (st .left) (st .steps) → Took file st i m
+
+module _ (file : List ℕ) (st : State) (i : ℕ) (m : State) where
+  -- a curve, by the stage
+  curve : tagAt file i ≡ 7 → (a b : Bool) → eqb (st .stage) atTemperature ≡ a → eqb (st .stage) atEfficiency ≡ b → (a || b) ≡ true
+      → m ≡ goneTo st (cond a atEfficiency atInverters) (st .left) (st .steps) → Took file st i m
+  curve t true b ea eb c is = warm t (eqb-true (st .stage) 6 ea) is
+  curve t false true ea eb c is = efficiency t (eqb-true (st .stage) 7 eb) is
+  curve t false false ea eb c is = absurd (passed-failed c refl)
+
+  -- an inverter
+  another-one : tagAt file i ≡ 6 → (eqb (st .stage) atInverters && leb 1 (st .left)) ≡ true → m ≡ goneTo st atTemperature (st .left - 1) (st .steps) → Took file st i m
+  another-one t a is =
+      let both = and-parts (eqb (st .stage) atInverters) (leb 1 (st .left)) a in
+      inverter t (eqb-true (st .stage) 5 (both .0)) (leb-true 1 (st .left) (both .1)) is
+
+  by-its-tag : (tag : ℕ) → tagAt file i ≡ tag → allowed st tag ≡ true → valueOf st tag file (i + header) ≡ 0 → tooMany st tag ≡ false → lengthAt file i ≡ sizeOf st tag
+      → m ≡ stateAfter st tag file (i + header) → Took file st i m
+  unfolding allowed kinds standsIn sizeOf sizeIn valueOf stateAfter roofAfter
+  by-its-tag tag =
+      by-tag (λ (tag : ℕ). tagAt file i ≡ tag → allowed st tag ≡ true → valueOf st tag file (i + header) ≡ 0 → tooMany st tag ≡ false → lengthAt file i ≡ sizeOf st tag
+      → m ≡ stateAfter st tag file (i + header) → Took file st i m) tag
+      (λ t a v n l is. fleet t (eqb-true (st .stage) 1 a) (omega arith) (accepted-test (fleetIn file (i + header)) v) is)
+      (λ t a v n l is. unit t (eqb-true (st .stage) 2 a) is)
+      (λ t a v n l is. settings t (eqb-true (st .stage) 3 a) is)
+      (λ t a v n l is. reading (ap isReading t) a (omega arith) (omega arith) (step-counts st 4 refl n) is)
+      (λ t a v n l is. reading (ap isReading t) a (omega arith) (omega arith) (step-counts st 5 refl n) is)
+      (λ t a v n l is. another-one t a is)
+      (λ t a v n l is. curve t (eqb (st .stage) 6) (eqb (st .stage) 7) refl refl a is)
+      (λ t a v n l is. weather t a (omega arith) is)
+      (λ none t a v n l is. last (eqb tag 127) refl none t a l is)
+    where
+      last : (b : Bool) → eqb tag 127 ≡ b → NoTag tag → tagAt file i ≡ tag → allowed st tag ≡ true → lengthAt file i ≡ sizeOf st tag
+          → m ≡ stateAfter st tag file (i + header) → Took file st i m
+      last true e none t a l is =
+          let e127 : tag ≡ 127 = eqb-true tag 127 e in
+          let four : lengthAt file i ≡ 4 = l ∙ ap (sizeOf st) e127 in
+          end (t ∙ e127) (subst (λ (k : ℕ). allowed st k ≡ true) e127 a) (omega arith) (is ∙ ap (λ (k : ℕ). stateAfter st k file (i + header)) e127)
+      last false e none t a l is =
+          absurd (passed-failed a (sym (stands-nowhere st tag (none .n₁) (none .n₂) (none .n₃) (none .n₄) (none .n₅) (none .n₆) (none .n₇) (none .n₈) (eqb-false tag 127 e))))
+
+  pub took : i ≤ length file → fieldAt st file i ≡ Next m → Took file st i m
+  took h f =
+      field-cases st file i h
+      (λ n z e. let q : _≡_ {A = ℕ} 0 1 = cc in absurd (omega arith))
+      (λ hd z e.
+      let tag = tagAt file i in
+      let parts = free-parts st tag file (i + header) z in
+      let is : m ≡ stateAfter st tag file (i + header) = cc in
+      by-its-tag tag refl (parts .0) (parts .1) (not-many st tag file (i + header) 0 (sym z) refl) (hd .size) is)

@@ -1,0 +1,3 @@
+-- Whole fields taken into what is kept of a run, and a chunk.
+pub mod Chunk
+pub mod Posts

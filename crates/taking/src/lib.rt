@@ -1,0 +1,1 @@
+// Whole fields taken into what is kept of a run: definitions and their laws, which need no code.
