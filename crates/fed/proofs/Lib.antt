@@ -1,0 +1,4 @@
+-- The theorems.
+pub mod CallLaws
+pub mod ChunkLaws
+pub mod FedProved

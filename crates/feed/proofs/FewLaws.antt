@@ -1,0 +1,108 @@
+-- Between any two fields of a run at most 64 units are said and at most 64 units or inverters are still to come: the fleet field says at most 64, the
+-- settings leave 64 inverters, and every other field leaves as many or one less. Assumes nothing.
+use mathlib.Core.Path.{_≡_, refl, ap, subst}
+use mathlib.Core.Bool.{true, _&&_}
+use mathlib.Core.List.{List, _++_}
+use Prim.Native.Nat.{ℕ, _+_, _-_, _*_, _≤_}
+use native.Mathlib.Nat.{mul-le-mul}
+use native.Mathlib.Omega.{arith}
+use lib.Dec.{leb}
+use lib.ListN.{length, take}
+use borrow.Author.Tests.{leb-true}
+use Rattle.whole.specs.Interval.{between}
+use Rattle.whole.proofs.Choice.{by-test}
+use Rattle.whole.proofs.OverLaws.{and-parts}
+use Rattle.octets.specs.BigEndian.{be}
+use Rattle.unit.specs.Ranges.{secondsIn, editionIn}
+use Rattle.parts.specs.Header.{header}
+use Rattle.fields.specs.declared.State.{State}
+use Rattle.fields.specs.Fields.{fleetIn, goneTo}
+use Rattle.fields.proofs.FieldLaws.{fewer}
+use Rattle.chunks.proofs.ReachChunks.{Went, there, passing}
+use Rattle.kept.specs.Kept.{Kept}
+use Rattle.kept.specs.Layout.{knownBy}
+use Rattle.kept.specs.Posts.{WellKept}
+use Rattle.taking.specs.Chunk.{goneBy}
+use Rattle.taking.proofs.TookLaws.{Took, fleet, unit, settings, inverter, warm, efficiency, reading, weather, end, took}
+use Rattle.taking.proofs.LedLaws.{led}
+use Rattle.taking.proofs.FedLaws.{gone-leads}
+
+pub record Few (st : State) : Type 0 where
+  pub units : st .units ≤ 64
+  pub left : st .left ≤ 64
+
+-- the fleet field's range
+fleet-few : (file : List ℕ) (at : ℕ) → fleetIn file at ≡ true → be 1 file (at + 1) ≤ 64
+unfolding fleetIn
+fleet-few file at e =
+    let n = be 1 file (at + 1) in
+    let form = editionIn (be 1 file at) in
+    let both = and-parts (form && between 1 64 n) (secondsIn (be 4 file (at + 2))) e in
+    leb-true n 64 (and-parts (leb 1 n) (leb n 64) (and-parts form (between 1 64 n) (both .0) .1) .1)
+
+-- one field
+module _ (file : List ℕ) (st : State) (i : ℕ) (m : State) (few : Few st) where
+  same : (stage steps : ℕ) → m ≡ goneTo st stage (st .left) steps → Few m
+  same stage steps is =
+      let u : m .units ≡ st .units = ap (λ (s : State). s .units) is in
+      let l : m .left ≡ st .left = ap (λ (s : State). s .left) is in
+      let a = few .units in
+      let b = few .left in
+      record { units = omega arith; left = omega arith }
+
+  took-few : Took file st i m → Few m
+  took-few (fleet t s p v is) =
+      let n = fleet-few file (i + header) v in
+      let u : m .units ≡ be 1 file (i + header + 1) = ap (λ (s : State). s .units) is in
+      let l : m .left ≡ be 1 file (i + header + 1) = ap (λ (s : State). s .left) is in
+      record { units = omega arith; left = omega arith }
+  took-few (unit t s is) =
+      let b = few .left in
+      let us : fewer st .units ≡ st .units = by-test (λ (x : State). x .units ≡ st .units) (leb (st .left) 1) _ _ (λ u. refl) (λ u. refl) in
+      let ls : fewer st .left ≤ 64 = by-test (λ (x : State). x .left ≤ 64) (leb (st .left) 1) _ _ (λ u. omega arith) (λ u. omega arith) in
+      let u : m .units ≡ fewer st .units = ap (λ (s : State). s .units) is in
+      let l : m .left ≡ fewer st .left = ap (λ (s : State). s .left) is in
+      let a = few .units in
+      record { units = omega arith; left = omega arith }
+  took-few (settings t s is) =
+      let u : m .units ≡ st .units = ap (λ (s : State). s .units) is in
+      let l : m .left ≡ 64 = ap (λ (s : State). s .left) is in
+      let a = few .units in
+      record { units = omega arith; left = omega arith }
+  took-few (inverter t s some is) =
+      let u : m .units ≡ st .units = ap (λ (s : State). s .units) is in
+      let l : m .left ≡ st .left - 1 = ap (λ (s : State). s .left) is in
+      let a = few .units in
+      let b = few .left in
+      record { units = omega arith; left = omega arith }
+  took-few (warm t s is) = same 7 (st .steps) is
+  took-few (efficiency t s is) = same 5 (st .steps) is
+  took-few (reading t s a b below is) = same 4 (st .steps + 1) is
+  took-few (weather t s p is) = same 8 (st .steps) is
+  took-few (end t s p is) = same 0 (st .steps) is
+
+-- fields one by one
+stays-few : (file : List ℕ) {st next : State} {i j : ℕ} → Went file next j st i → i ≤ length file → Few st → Few next
+stays-few file (there e f) h few = subst Few e few
+stays-few file {st} {next} {i} (passing m l e f w more) h few = stays-few file more w (took-few file st i m few (took file st i m h f))
+
+-- what is kept, and after a chunk
+module _ (k : Kept) (well : WellKept k) where
+  kept-few : Few (k .state)
+  kept-few =
+      let r = stays-few (k .site) (led (record { leads = well .known })) (omega arith) (record { units = omega arith; left = omega arith }) in
+      let u : knownBy (k .site) .units ≡ k .state .units = ap (λ (s : State). s .units) (well .state-is) in
+      let l : knownBy (k .site) .left ≡ k .state .left = ap (λ (s : State). s .left) (well .state-is) in
+      let a = r .units in
+      let b = r .left in
+      record { units = omega arith; left = omega arith }
+
+  pub gone-few : (chunk : List ℕ) → Few (goneBy k chunk .state)
+  gone-few chunk = stays-few (take (goneBy k chunk .at) (k .tail ++ chunk)) (led (gone-leads k chunk)) (omega arith) kept-few
+
+-- so the bytes of the records of few steps are few
+pub few-needed : (units left since upto : ℕ) → units ≤ 64 → upto ≤ 65535 → (40 * units + 29 * (64 - left)) * (upto - since) ≤ 4416 * 65535
+few-needed units left since upto h k =
+    let width : 40 * units + 29 * (64 - left) ≤ 4416 = omega arith in
+    let steps : upto - since ≤ 65535 = omega arith in
+    mul-le-mul width steps

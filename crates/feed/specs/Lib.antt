@@ -1,0 +1,3 @@
+-- A run fed in chunks: what the calls answer and leave.
+pub mod Answers
+pub mod Posts
