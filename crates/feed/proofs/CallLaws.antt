@@ -46,7 +46,7 @@ module _ (s : List ℕ) where
       go true e = record { is-open = open-by true e ∙ eq-eqb (numberIn s) 0 (sym (own-by true e) ∙ z) }
       go false e = absurd (omega (arith, own-by false e))
 
-  own-shut : (ownNumber s ≡ 0 → ⊥) → isOpen s ≡ false
+  pub own-shut : (ownNumber s ≡ 0 → ⊥) → isOpen s ≡ false
   own-shut n = go (wellFormed s) refl
     where
       go : (b : Bool) → wellFormed s ≡ b → isOpen s ≡ false
@@ -76,11 +76,11 @@ module _ (s : List ℕ) (m : Mark) (e : m ≡ markIn s) where
 
 -- ---- the room for a chunk's records
 module _ (s chunk : List ℕ) where
-  room-by : (a b : Bool) → isOpen s ≡ a → eqb (faultOf (keptIn s) chunk) 0 ≡ b → roomFor s chunk ≡ cond (a && b) (length (resultsFor (keptIn s) chunk)) 0
+  pub room-by : (a b : Bool) → isOpen s ≡ a → eqb (faultOf (keptIn s) chunk) 0 ≡ b → roomFor s chunk ≡ cond (a && b) (length (resultsFor (keptIn s) chunk)) 0
   unfolding roomFor
   room-by a b e f = ap₂ (λ (x y : Bool). cond (x && y) (length (resultsFor (keptIn s) chunk)) 0) e f
 
-  fault-by : (b : Bool) → leb (goneBy (keptIn s) chunk .number) 1 ≡ b → faultOf (keptIn s) chunk ≡ cond b 0 (goneBy (keptIn s) chunk .number)
+  pub fault-by : (b : Bool) → leb (goneBy (keptIn s) chunk .number) 1 ≡ b → faultOf (keptIn s) chunk ≡ cond b 0 (goneBy (keptIn s) chunk .number)
   unfolding faultOf
   fault-by b e = ap (λ (t : Bool). cond t 0 (goneBy (keptIn s) chunk .number)) e
 

@@ -13,3 +13,6 @@ pub mod AbsorbLaws
 pub mod GrowLaws
 pub mod TakeLaws
 pub mod RestLaws
+pub mod BothLaws
+pub mod FeedLaws
+pub mod ChunkLaws

@@ -8,6 +8,7 @@ use lib.Seq.{slice}
 use Rattle.solar.specs.declared.Sun.{Sun}
 use Rattle.solar.specs.Posts.{Shining}
 use Rattle.site.specs.Site.{count}
+use Rattle.parts.specs.Header.{past}
 use Rattle.fields.specs.declared.State.{State}
 use Rattle.stick.specs.declared.Reached.{Reached}
 use Rattle.stick.specs.Check.{reached}
@@ -19,15 +20,30 @@ use Rattle.fleet.specs.Posts.{Held}
 use Rattle.stretch.specs.Posts.{StepsThere}
 use Rattle.stretch.specs.Stretch.{standsAfter, onsAfter, recordsFrom}
 use Rattle.kept.specs.declared.Mark.{Mark}
-use Rattle.kept.specs.Kept.{begun}
+use Rattle.kept.specs.Kept.{Kept, begun}
 use Rattle.kept.specs.Layout.{stateSize, sitePlace, filled, markIn, keptIn, stateIn, storeAt, requestAt, flagAt, upTo, topOf, standsOf}
-use Rattle.taking.specs.Chunk.{goneBy, siteAfter}
+use Rattle.taking.specs.Chunk.{goneBy, siteAfter, absorbed, resultsBy, withTail}
 use Rattle.taking.specs.Posts.{Leads}
 use Rattle.feed.specs.Answers.{isOpen}
 
 -- how far fields go, by places that many bytes stand before
 abbrev pub moved : ℕ → Reached → Reached
 moved n r = reached (r .number) (n + r .at) (r .state)
+
+-- the records of whole fields and then those of others
+abbrev pub bothResults : Kept → List ℕ → State → List ℕ → State → List ℕ
+bothResults k w mid v next = resultsBy k w mid ++ resultsBy (absorbed k w mid) v next
+
+-- the bytes of a first field, and those of the others, which lie in a chunk behind a tail
+abbrev pub firstOf : List ℕ → List ℕ
+firstOf joint = take (past joint 0) joint
+
+abbrev pub othersOf : List ℕ → ℕ → ℕ → List ℕ → List ℕ
+othersOf joint tail at chunk = slice (past joint 0 - tail) (at - tail) chunk
+
+-- what is kept after both, with the bytes behind them as the tail
+abbrev pub bothKept : Kept → List ℕ → State → ℕ → ℕ → List ℕ → State → Kept
+bothKept k joint mid tail at chunk next = withTail (absorbed (absorbed k (firstOf joint) mid) (othersOf joint tail at chunk) next) (drop (at - tail) chunk)
 
 -- a state whose run goes on
 pub record Open (s : List ℕ) : Type 0 where

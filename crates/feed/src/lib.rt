@@ -12,6 +12,7 @@ pub use calls::place;
 pub use calls::room;
 pub use calls::start;
 pub use calls::steps;
+pub use feeding::feed;
 
 // The bytes of the largest field.
 const LARGEST: usize = 132;
