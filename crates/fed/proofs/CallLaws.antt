@@ -3,7 +3,7 @@
 use mathlib.Core.Path.{_≡_, refl, sym, ap, ap₂, _∙_, subst, subst⁻¹}
 use mathlib.Core.Logic.{_⊎_, inl, inr}
 use mathlib.Core.Bool.{Bool, true, false, not, cond, _&&_, _||_}
-use mathlib.Core.List.{List}
+use mathlib.Core.List.{List, []}
 use Prim.Native.Nat.{ℕ, _+_, _-_, _*_, _≤_, _<_}
 use native.Mathlib.Omega.{arith}
 use lib.Dec.{leb, ltb, eqb}
@@ -12,19 +12,20 @@ use borrow.Author.Tests.{ltb-true, ltb-false, leb-true, eqb-true, eqb-false, lt-
 use Rattle.whole.specs.Interval.{between}
 use Rattle.whole.proofs.Choice.{passed-failed}
 use Rattle.whole.proofs.OverLaws.{and-parts}
-use Rattle.records.specs.Records.{endBytes}
+use Rattle.octets.specs.BigEndian.{laid}
+use Rattle.records.specs.Records.{endOf, endBytes}
 use Rattle.kept.specs.Kept.{Kept}
 use Rattle.kept.specs.Layout.{stateSize, numberIn, placeIn, stepsKept, bytesFor, stoppedBytes, keptIn}
-use Rattle.kept.specs.Formed.{clear, going, stopped, wellFormed}
+use Rattle.kept.specs.Formed.{clear, going, stopped, wellFormed, isOpen}
 use Rattle.kept.specs.Posts.{WellKept}
 use Rattle.kept.proofs.FormedLaws.{kept-well}
 use Rattle.kept.proofs.KeptLaws.{kept-formed, Refusal, stopped-formed, stopped-number-back, stopped-place-back, stopped-steps-back}
-use Rattle.taking.specs.Chunk.{goneBy, fedBy}
+use Rattle.taking.specs.Chunk.{goneBy, fedBy, resultsFor}
 use Rattle.taking.proofs.NumberLaws.{stop-number}
 use Rattle.taking.proofs.PlacedLaws.{place-most}
 use Rattle.taking.proofs.WellLaws.{fed-well, stop-few, stop-place}
-use Rattle.feed.specs.Answers.{isOpen, ownNumber, faultOf, roomFor, feedNumber, faultLeaves, feedLeaves, endFault, endNumber, endLeaves}
-use Rattle.fed.specs.Holds.{CallLaw, Closed}
+use Rattle.feed.specs.Answers.{ownNumber, faultOf, roomFor, feedNumber, faultLeaves, feedLeaves, feedWrites, endFault, endNumber, endLeaves, endWrites}
+use Rattle.fed.specs.Holds.{CallLaw, Closed, writes}
 
 -- ---- the answers, by their tests
 abbrev answered-by : Bool → ℕ → Bool → ℕ → Bool → ℕ
@@ -420,6 +421,53 @@ module _ (s c : List ℕ) (room : ℕ) where
       go (too-short w z h l) = enough-leaves s (keptIn s) refl w z c h more m ∙ sym (enough-leaves s (keptIn s) refl w z c h (roomFor s c) (omega arith))
       go (taken w z h l) = enough-leaves s (keptIn s) refl w z c h more m ∙ sym (enough-leaves s (keptIn s) refl w z c h (roomFor s c) (omega arith))
 
+  again-at-end : endNumber s room ≡ 11 → endLeaves s room ≡ s
+  again-at-end e = go (ending s room)
+    where
+      go : Ending s room → endLeaves s room ≡ s
+      go (shut-out own) = own-end-leaves s own room
+      go (refused w z f) =
+          let k = keptIn s in absurd (no-eleven (endFault k) (end-refusal k (kept-well s w z) f) (sym (refused-number s k refl w z room f) ∙ e))
+      go (too-short w z f l) = short-end-leaves s (keptIn s) refl w z room f l
+      go (taken w z f l) = let g = end-number s (keptIn s) refl w z room f l in absurd (omega arith)
+
+  enough-at-end : endNumber s room ≡ 11 → (more : ℕ) → endBytes ≤ more → endNumber s more ≡ 0
+  enough-at-end e more m = go (ending s room)
+    where
+      go : Ending s room → endNumber s more ≡ 0
+      go (shut-out own) = absurd (own-not-eleven s own (sym (own-end s own room) ∙ e))
+      go (refused w z f) =
+          let k = keptIn s in absurd (no-eleven (endFault k) (end-refusal k (kept-well s w z) f) (sym (refused-number s k refl w z room f) ∙ e))
+      go (too-short w z f l) = end-number s (keptIn s) refl w z more f m
+      go (taken w z f l) = end-number s (keptIn s) refl w z more f m
+
+-- ---- what a call writes
+module _ (s c lent : List ℕ) where
+  nothing : (feedNumber s c (length lent) ≡ 0 → ⊥) → feedWrites s c lent ≡ lent
+  unfolding feedWrites
+  nothing n = ap (λ (b : Bool). cond b (laid lent 0 (resultsFor (keptIn s) c)) lent) (ne-eqb (feedNumber s c (length lent)) 0 n)
+
+  nothing-at-end : (endNumber s (length lent) ≡ 0 → ⊥) → endWrites s lent ≡ lent
+  unfolding endWrites
+  nothing-at-end n = ap (λ (b : Bool). cond b (laid lent 0 (endOf (keptIn s .state .steps))) lent) (ne-eqb (endNumber s (length lent)) 0 n)
+
+  -- a call that is not refused is none with just the room it needs either
+  just-enough : feedNumber s c (length lent) ≡ 0 → feedNumber s c (roomFor s c) ≡ 0
+  just-enough e = go (feeding s c (length lent))
+    where
+      go : Feeding s c (length lent) → feedNumber s c (roomFor s c) ≡ 0
+      go (shut-out own) = absurd (own (sym (own-feed s own c (length lent)) ∙ e))
+      go (faulty w z h) = fault-number s (keptIn s) refl w z c h (roomFor s c) ∙ sym (fault-number s (keptIn s) refl w z c h (length lent)) ∙ e
+      go (too-short w z h l) = let f = short-number s (keptIn s) refl w z c h (length lent) l in absurd (omega arith)
+      go (taken w z h l) = enough-number s (keptIn s) refl w z c h (roomFor s c) (omega arith)
+
+  written : feedNumber s c (length lent) ≡ 0 → feedWrites s c lent ≡ laid lent 0 (writes s c)
+  unfolding feedWrites writes
+  written e =
+      let results = resultsFor (keptIn s) c in
+      ap (λ (b : Bool). cond b (laid lent 0 results) lent) (eq-eqb (feedNumber s c (length lent)) 0 e)
+      ∙ sym (ap (λ (b : Bool). laid lent 0 (cond b results [])) (eq-eqb (feedNumber s c (roomFor s c)) 0 (just-enough e)))
+
 -- ---- a state that answers every call, the end's too, with a number, and stands
 own-closed : (t : List ℕ) → (ownNumber t ≡ 0 → ⊥) → Closed t (ownNumber t)
 own-closed t own = record { fed-number = own-feed t own; fed-leaves = own-leaves t own; end-number = own-end t own; end-leaves = own-end-leaves t own }
@@ -486,6 +534,11 @@ call-law s chunk room = record {
   again = again s chunk room;
   enough = enough s chunk room;
   same-then = enough-same s chunk room;
+  again-at-end = again-at-end s chunk room;
+  enough-at-end = enough-at-end s chunk room;
+  nothing = nothing s chunk;
+  nothing-at-end = nothing-at-end s chunk;
+  written = written s chunk;
   stays = stays s chunk room;
   stays-at-end = stays-at-end s chunk room;
   refused-once = refused-closed s room chunk;

@@ -5,6 +5,7 @@ use mathlib.Core.List.{List, [], _∷_, _++_}
 use mathlib.Core.Path.{_≡_}
 use lib.Dec.{eqb}
 use lib.ListN.{length}
+use Rattle.octets.specs.BigEndian.{laid}
 use Rattle.stick.specs.Check.{start, walk}
 use Rattle.records.specs.Records.{endOf, endBytes}
 use Rattle.season.specs.Run.{resultOf}
@@ -12,7 +13,7 @@ use Rattle.kept.specs.Kept.{atStart}
 use Rattle.kept.specs.Layout.{numberIn, placeIn, stepsKept, bytesFor, keptIn}
 use Rattle.kept.specs.Formed.{wellFormed}
 use Rattle.taking.specs.Chunk.{resultsFor}
-use Rattle.feed.specs.Answers.{roomFor, feedNumber, feedLeaves, endNumber, endLeaves}
+use Rattle.feed.specs.Answers.{roomFor, feedNumber, feedLeaves, feedWrites, endNumber, endLeaves, endWrites}
 
 -- the bytes of chunks in order
 unfoldable pub joined : List (List ℕ) → List ℕ
@@ -74,6 +75,12 @@ pub record CallLaw (s chunk : List ℕ) (room : ℕ) : Type 0 where
   pub again : feedNumber s chunk room ≡ 11 → feedLeaves s chunk room ≡ s
   pub enough : feedNumber s chunk room ≡ 11 → (more : ℕ) → roomFor s chunk ≤ more → feedNumber s chunk more ≡ 0
   pub same-then : feedNumber s chunk room ≡ 11 → (more : ℕ) → roomFor s chunk ≤ more → feedLeaves s chunk more ≡ feedLeaves s chunk (roomFor s chunk)
+  pub again-at-end : endNumber s room ≡ 11 → endLeaves s room ≡ s
+  pub enough-at-end : endNumber s room ≡ 11 → (more : ℕ) → endBytes ≤ more → endNumber s more ≡ 0
+  -- a refused call writes nothing; any other writes its results at the start of whatever room it has
+  pub nothing : (lent : List ℕ) → (feedNumber s chunk (length lent) ≡ 0 → ⊥) → feedWrites s chunk lent ≡ lent
+  pub nothing-at-end : (lent : List ℕ) → (endNumber s (length lent) ≡ 0 → ⊥) → endWrites s lent ≡ lent
+  pub written : (lent : List ℕ) → feedNumber s chunk (length lent) ≡ 0 → feedWrites s chunk lent ≡ laid lent 0 (writes s chunk)
   -- a state stays one
   pub stays : wellFormed s ≡ true → wellFormed (feedLeaves s chunk room) ≡ true
   pub stays-at-end : wellFormed s ≡ true → wellFormed (endLeaves s room) ≡ true

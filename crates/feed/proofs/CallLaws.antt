@@ -16,17 +16,18 @@ use Rattle.records.specs.Records.{endOf}
 use Rattle.kept.specs.declared.Mark.{Mark}
 use Rattle.kept.specs.Kept.{Kept, atStart}
 use Rattle.kept.specs.Layout.{stateSize, heldPlace, sitePlace, filled, numberIn, markIn, keptIn, markOf, topOf, standsOf, bytesFor, stoppedBytes}
-use Rattle.kept.specs.Formed.{wellFormed}
+use Rattle.kept.specs.Formed.{wellFormed, isOpen}
 use Rattle.taking.specs.Chunk.{goneBy, resultsFor}
 use Rattle.taking.proofs.FedLaws.{gone-leads}
 use Rattle.taking.proofs.LeadLaws.{more-steps}
 use Rattle.taking.proofs.CountLaws.{results-long}
 use Rattle.taking.proofs.PlacedLaws.{tail-within}
 use Rattle.taking.proofs.WellLaws.{stop-few}
-use Rattle.feed.specs.Answers.{isOpen, ownNumber, startNumber, startLeaves, faultOf, roomFor, endFault, endNumber, endLeaves, endWrites}
-use Rattle.feed.specs.Posts.{Open}
-use Rattle.feed.proofs.OpenLaws.{open-well, open-tail}
-use Rattle.feed.proofs.KeepLaws.{kept-after}
+use Rattle.feed.specs.Answers.{ownNumber, startNumber, startLeaves, faultOf, roomFor, endFault, endNumber, endLeaves, endWrites}
+use Rattle.intake.specs.Posts.{Open}
+use Rattle.intake.proofs.OpenLaws.{open-well}
+use Rattle.intake.proofs.MarkLaws.{mark-place, mark-state, mark-steps, mark-tail, mark-within}
+use Rattle.intake.proofs.KeepLaws.{kept-after}
 use Rattle.feed.proofs.FewLaws.{gone-few}
 
 -- ---- what a state answers: 0 where its run goes on, and nowhere else
@@ -52,27 +53,6 @@ module _ (s : List ℕ) where
       go : (b : Bool) → wellFormed s ≡ b → isOpen s ≡ false
       go true e = open-by true e ∙ ne-eqb (numberIn s) 0 (λ z. n (own-by true e ∙ z))
       go false e = open-by false e
-
--- ---- a mark is what is kept, without lists
-module _ (s : List ℕ) (m : Mark) (e : m ≡ markIn s) where
-  pub mark-place : m .place ≡ keptIn s .place
-  unfolding markIn keptIn
-  mark-place = ap (λ (k : Mark). k .place) e
-
-  pub mark-state : m .state ≡ keptIn s .state
-  unfolding markIn keptIn
-  mark-state = ap (λ (k : Mark). k .state) e
-
-  mark-steps : m .state .steps ≡ keptIn s .state .steps
-  mark-steps = ap (λ (st : State). st .steps) mark-state
-
-  pub mark-tail : Open s → m .tail ≡ length (keptIn s .tail)
-  unfolding markIn keptIn
-  mark-tail o = ap (λ (k : Mark). k .tail) e ∙ sym (open-tail s o)
-
-  -- the tail is among the bytes taken
-  pub mark-within : Open s → m .tail ≤ m .place
-  mark-within o = omega (arith, mark-place, mark-tail o, tail-within (keptIn s) (open-well s o))
 
 -- ---- the room for a chunk's records
 module _ (s chunk : List ℕ) where

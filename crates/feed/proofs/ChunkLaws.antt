@@ -14,10 +14,12 @@ use Rattle.kept.specs.Kept.{Kept}
 use Rattle.kept.specs.Layout.{markIn, keptIn, bytesFor, stoppedBytes}
 use Rattle.taking.specs.Chunk.{goneBy, fedBy, resultsFor}
 use Rattle.taking.proofs.WellLaws.{stop-few, stop-place}
-use Rattle.feed.specs.Answers.{isOpen, ownNumber, faultOf, roomFor, feedNumber, faultLeaves, feedLeaves, feedWrites}
-use Rattle.feed.specs.Posts.{Open, Gone}
-use Rattle.feed.proofs.OpenLaws.{open-well}
-use Rattle.feed.proofs.CallLaws.{own-open, own-shut, mark-place, mark-tail, room-by, fault-by}
+use Rattle.kept.specs.Formed.{isOpen}
+use Rattle.feed.specs.Answers.{ownNumber, faultOf, roomFor, feedNumber, faultLeaves, feedLeaves, feedWrites}
+use Rattle.intake.specs.Posts.{Open, Gone}
+use Rattle.intake.proofs.OpenLaws.{open-well}
+use Rattle.feed.proofs.CallLaws.{own-open, own-shut, room-by, fault-by}
+use Rattle.intake.proofs.MarkLaws.{mark-place, mark-tail}
 
 -- the number, the bytes written, the state's bytes and the room afterwards
 abbrev pub Feeds : List ℕ → List ℕ → List ℕ → ℕ → ℕ → List ℕ → List ℕ → Type 0

@@ -10,13 +10,8 @@ use Rattle.fields.specs.Fields.{atEnd}
 use Rattle.records.specs.Records.{endOf, endBytes}
 use Rattle.kept.specs.Kept.{Kept, atStart}
 use Rattle.kept.specs.Layout.{stateSize, numberIn, placeIn, stepsKept, bytesFor, stoppedBytes, keptIn}
-use Rattle.kept.specs.Formed.{wellFormed}
+use Rattle.kept.specs.Formed.{wellFormed, isOpen}
 use Rattle.taking.specs.Chunk.{goneBy, fedBy, resultsFor}
-
--- a run that goes on
-unfoldable pub isOpen : List ℕ → Bool
-unfolding wellFormed
-isOpen s = wellFormed s && eqb (numberIn s) 0
 
 -- what a state answers before its call is looked at: 0 where the run goes on
 unfoldable pub ownNumber : List ℕ → ℕ

@@ -1,3 +1,2 @@
 -- A run fed in chunks: what the calls answer and leave.
 pub mod Answers
-pub mod Posts

@@ -1,18 +1,10 @@
 ghost use mathlib.Core.Path.{_≡_};
 ghost use mathlib.Core.Bool.{cond, not};
-ghost use mathlib.Core.List.{[]};
 ghost use Prim.Native.Nat.{_+_, _-_, _*_, _≤_};
 ghost use lib.Dec.{eqb};
-ghost use lib.ListN.{length, drop};
-ghost use Rattle.octets.specs.BigEndian.{laid};
-ghost use Rattle.kept.specs.Layout.{markIn, keptIn, bytesFor};
-ghost use Rattle.kept.specs.Posts.{Sized};
-ghost use Rattle.taking.specs.Chunk.{goneBy, withTail, fedBy, resultsFor};
-ghost use Rattle.feed.specs.Answers.{ownNumber, startNumber, startLeaves, roomFor, feedNumber, feedLeaves, feedWrites, endNumber, endLeaves, endWrites, placeTold, stepsTold};
-ghost use Rattle.feed.specs.Posts.{Open, Gone};
+ghost use lib.ListN.{length};
+ghost use Rattle.feed.specs.Answers.{ownNumber, startNumber, startLeaves, roomFor, endNumber, endLeaves, endWrites, placeTold, stepsTold};
 use super::Fed;
-use super::joints;
-use super::running;
 use fields::AT_END;
 use fields::AT_FLEET;
 use fields::State;
@@ -55,7 +47,7 @@ pub fn room(s: &[u8], chunk: &[u8]) -> u64
         return 0;
     }
     let m = kept::marked(s);
-    let r = joints::gone(s, m, chunk);
+    let r = intake::gone(s, m, chunk);
     if 1 < r.number {
         return 0;
     }
@@ -135,7 +127,7 @@ pub fn start(s: &mut [u8]) -> u8
         },
     };
     kept::zero(s, SITE, SIZE);
-    running::clear_stands(s);
+    intake::clear_stands(s);
     kept::put_top(s, m, &none, 0, 0);
     0
 }

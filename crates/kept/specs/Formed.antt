@@ -107,3 +107,8 @@ stopped s =
 unfoldable pub wellFormed : List ℕ → Bool
 unfolding going stopped be
 wellFormed s = eqb (length s) stateSize && cond (eqb (numberIn s) 0) (going s) (stopped s)
+
+-- a run that goes on
+unfoldable pub isOpen : List ℕ → Bool
+unfolding wellFormed
+isOpen s = wellFormed s && eqb (numberIn s) 0

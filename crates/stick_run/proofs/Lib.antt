@@ -1,2 +1,2 @@
--- Laws about the steps that are still to come.
-pub mod WalkLaws
+-- The laws that the proofs of this program share.
+pub mod RoomLaws

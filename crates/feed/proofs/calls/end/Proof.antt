@@ -2,9 +2,10 @@
 use mathlib.Core.Path.{_≡_, sym, _∙_}
 use native.Mathlib.Omega.{arith}
 use Rattle.feed.specs.Answers.{ownNumber}
-use Rattle.feed.specs.Posts.{Open}
-use Rattle.feed.proofs.OpenLaws.{open-sized}
-use Rattle.feed.proofs.CallLaws.{own-open, mark-within, faultBy, ends-shut, ends-refused, ends-short, ends-over}
+use Rattle.intake.specs.Posts.{Open}
+use Rattle.intake.proofs.OpenLaws.{open-sized}
+use Rattle.feed.proofs.CallLaws.{own-open, faultBy, ends-shut, ends-refused, ends-short, ends-over}
+use Rattle.intake.proofs.MarkLaws.{mark-within}
 use borrow.Author.Needs.{needs}
 use Rattle.feed.proofs.calls.end.Statement.{statement}
 use Rattle.feed.proofs.calls.end.Tie as tie

@@ -6,7 +6,7 @@ use Rattle.kept.specs.Layout.{numberIn}
 use Rattle.kept.specs.Formed.{wellFormed}
 use Rattle.kept.proofs.FormedLaws.{state-long}
 use Rattle.feed.specs.Answers.{ownNumber}
-use Rattle.feed.proofs.StandLaws.{one-of}
+use Rattle.intake.proofs.StandLaws.{one-of}
 use borrow.Author.Needs.{needs}
 use Rattle.feed.proofs.calls.own_number.Statement.{statement}
 use Rattle.feed.proofs.calls.own_number.Tie as tie

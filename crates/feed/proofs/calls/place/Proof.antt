@@ -6,7 +6,7 @@ use Rattle.kept.specs.Layout.{placeIn}
 use Rattle.kept.specs.Formed.{wellFormed}
 use Rattle.kept.proofs.FormedLaws.{state-long}
 use Rattle.feed.specs.Answers.{placeTold}
-use Rattle.feed.proofs.StandLaws.{one-of}
+use Rattle.intake.proofs.StandLaws.{one-of}
 use borrow.Author.Needs.{needs}
 use Rattle.feed.proofs.calls.place.Statement.{statement}
 use Rattle.feed.proofs.calls.place.Tie as tie

@@ -1,7 +1,7 @@
 -- Where the run goes on and no field is refused, the records of the steps closed are so many bytes; else there are none.
 use mathlib.Core.Path.{sym, _∙_}
-use Rattle.feed.specs.Posts.{Open}
-use Rattle.feed.proofs.OpenLaws.{open-sized}
+use Rattle.intake.specs.Posts.{Open}
+use Rattle.intake.proofs.OpenLaws.{open-sized}
 use Rattle.feed.proofs.CallLaws.{own-open, room-shut, room-refused, room-ready, room-is}
 use borrow.Author.Needs.{needs}
 use Rattle.feed.proofs.calls.room.Statement.{statement}

@@ -2,9 +2,10 @@
 use mathlib.Core.Path.{_≡_, sym, _∙_}
 use native.Mathlib.Omega.{arith}
 use Rattle.feed.specs.Answers.{ownNumber, roomFor}
-use Rattle.feed.specs.Posts.{Open}
-use Rattle.feed.proofs.OpenLaws.{open-sized}
-use Rattle.feed.proofs.CallLaws.{own-open, mark-within, room-ready, room-is}
+use Rattle.intake.specs.Posts.{Open}
+use Rattle.intake.proofs.OpenLaws.{open-sized}
+use Rattle.feed.proofs.CallLaws.{own-open, room-ready, room-is}
+use Rattle.intake.proofs.MarkLaws.{mark-within}
 use Rattle.feed.proofs.ChunkLaws.{place-near, feeds-shut, feeds-refused, feeds-gone, feeds-short, room-there, feeds-in}
 use borrow.Author.Needs.{needs}
 use Rattle.feed.proofs.feeding.feed.Statement.{statement}

@@ -1,0 +1,191 @@
+-- The first field is put together from the tail and the chunk and taken in before the others; where it is not whole, all becomes the tail.
+use borrow.Author.Needs.{needs}
+use native.Mathlib.Omega.{arith}
+use Prim.Native.Nat.{ℕ, _+_, _-_, _≤_}
+use mathlib.Core.Path.{_≡_, sym, ap, _∙_}
+use mathlib.Core.List.{List, _++_}
+use lib.ListN.{length, take}
+use Rattle.octets.specs.BigEndian.{laid}
+use Rattle.fields.specs.declared.Taken.the-variants.{Next, Stop}
+use Rattle.stick.specs.Check.{fieldAt}
+use Rattle.kept.specs.Layout.{tailPart, keptIn, bytesFor}
+use Rattle.intake.proofs.OpenLaws.{open-sized}
+use Rattle.intake.proofs.JointLaws.{take-most}
+use Rattle.intake.proofs.FeedLaws.{Fits, Stays, joint-fits, joint-stays}
+use Rattle.intake.proofs.feeding.take_joined.Statement.{statement}
+use Rattle.intake.proofs.feeding.take_joined.Tie as tie
+
+-- the start of the function, and what is put together
+abbrev first : tie.After-join → tie.Start
+first j = j .before .before .before .before .before .before .before .before
+
+abbrev made : tie.After-field → tie.After-join
+made f = f .before .before .before .before
+
+abbrev bytes : tie.Start → List ℕ
+bytes s = tailPart (s .args .s .now) ++ s .args .chunk .now
+
+few : (j : tie.After-join) → j .join .result ≤ 132
+few j = omega (arith, j .join .ensures .0, take-most 132 (bytes (first j)))
+
+abbrev read : tie.After-join → List ℕ
+read j = take (j .join .result - 0) (j .join .last .0)
+
+joint-read : (j : tie.After-join) → read j ≡ take 132 (keptIn (first j .args .s .now) .tail ++ first j .args .chunk .now)
+unfolding keptIn
+joint-read j = let z : j .join .result - 0 ≡ j .join .result = omega arith in ap (λ (k : ℕ). take k (j .join .last .0)) z ∙ j .join .ensures .1
+
+next-is : (n : tie.After-mid) → let j = made (n .before .before) in fieldAt (first j .args .m .state) (read j) 0 ≡ Next (n .mid .given .0 .0)
+next-is n = sym (f .field .ensures .0) ∙ n .mid .given .1
+  where
+    f : tie.After-field
+    f = n .before .before
+
+stop-is : (n : tie.After-enum-told) → let j = made (n .before .before) in fieldAt (first j .args .m .state) (read j) 0 ≡ Stop (n .enum-told .given .0 .0)
+stop-is n = sym (f .field .ensures .0) ∙ n .enum-told .given .1
+  where
+    f : tie.After-field
+    f = n .before .before
+
+fits : (n : tie.After-mid) → let j = made (n .before .before) in let a = first j .args in Fits (keptIn (a .s .now)) (a .chunk .now) (read j) (n .mid .given .0 .0) (a .m .tail) (a .r .at) (a .r .state)
+fits n =
+    let j = made (n .before .before) in
+    let s = first j in
+    let a = s .args in
+    let (g, (some, room)) = s .pre in
+    joint-fits (a .s .now) (a .chunk .now) (a .m) (a .r) g some (read j) (joint-read j) (n .mid .given .0 .0) (next-is n)
+
+stays : (n : tie.After-enum-told) → let j = made (n .before .before) in let a = first j .args in Stays (a .s .now) (a .chunk .now) (read j) (a .m .state)
+stays n =
+    let j = made (n .before .before) in
+    let s = first j in
+    let a = s .args in
+    let (g, (some, room)) = s .pre in
+    joint-stays (a .s .now) (a .chunk .now) (a .m) (a .r) g some (read j) (joint-read j) (n .enum-told .given .0 .0) (stop-is n)
+
+slice-aggregate-join : tie.Need-slice-aggregate-join
+slice-aggregate-join c = search needs
+
+join-requires : tie.Need-join-requires
+join-requires c κs =
+    let s = c .before .before .before .before .before .before .before in
+    let (g, some) = s .pre in
+    (omega arith, open-sized (s .args .s .now) (g .is-open))
+
+sub-field : tie.Need-sub-field
+sub-field c = search needs
+
+part-field-start : tie.Need-part-field-start
+part-field-start c = search needs
+
+part-field-end : tie.Need-part-field-end
+part-field-end c = let j = c .before .before in omega (arith, few j, j .join .kept)
+
+field-requires : tie.Need-field-requires
+field-requires c κs = search needs
+
+enum-known-mid : tie.Need-enum-known-mid
+enum-known-mid c = search needs
+
+sub-take-both : tie.Need-sub-take-both
+sub-take-both c = search needs
+
+part-take-both-start : tie.Need-part-take-both-start
+part-take-both-start c = search needs
+
+part-take-both-end : tie.Need-part-take-both-end
+part-take-both-end c = let j = made (c .before .before .before .before .before) in omega (arith, few j, j .join .kept)
+
+take-both-requires : tie.Need-take-both-requires
+unfolding keptIn
+take-both-requires c κs =
+    let n = c .before .before .before .before .before in
+    let j = made (n .before .before) in
+    let s = first j in
+    let (g, (some, room)) = s .pre in
+    let f = fits n in (
+      g .is-open,
+      (
+        f .header-there,
+        (
+          f .first-there,
+          (f .beyond-tail, (f .others-behind, (f .within, (f .short, (f .first-leads, (f .others-lead, omega (arith, room, ap length (f .results-are)))))))),
+        ),
+      ),
+    )
+
+enum-told : tie.Need-enum-told
+enum-told c = search needs
+
+sub-take-rest : tie.Need-sub-take-rest
+sub-take-rest c = search needs
+
+part-take-rest-start : tie.Need-part-take-rest-start
+part-take-rest-start c = search needs
+
+part-take-rest-end : tie.Need-part-take-rest-end
+part-take-rest-end c = let j = made (c .before .before .before .before) in omega (arith, few j, j .join .kept)
+
+take-rest-requires : tie.Need-take-rest-requires
+take-rest-requires c κs =
+    let n = c .before .before .before .before in
+    let j = made (n .before .before) in
+    let s = first j in
+    let (g, (some, room)) = s .pre in
+    let f = stays n in
+    (g .is-open, (omega arith, (omega arith, (omega (arith, f .short), (f .leads, omega (arith, room, ap length (f .results-are)))))))
+
+same-length : tie.Need-same-length
+same-length c = search needs
+
+same-length-2 : tie.Need-same-length-2
+same-length-2 c = search needs
+
+returns : tie.Need-returns
+returns c =
+    let y = c .before .before .before .before in
+    let n = y .before .before .before .before .before .before in
+    let a = first (made (n .before .before)) .args in
+    let f = fits n in
+    (y .take-both .ensures .0 ∙ ap bytesFor (f .kept-is), y .take-both .ensures .1 ∙ ap (laid (a .room .now) 0) (f .results-are))
+
+same-length-3 : tie.Need-same-length-3
+same-length-3 c = search needs
+
+same-length-4 : tie.Need-same-length-4
+same-length-4 c = search needs
+
+returns-2 : tie.Need-returns-2
+returns-2 c =
+    let y = c .before .before .before .before in
+    let n = y .before .before .before .before .before in
+    let a = first (made (n .before .before)) .args in
+    let f = stays n in
+    (y .take-rest .ensures .0 ∙ ap bytesFor (f .kept-is), y .take-rest .ensures .1 ∙ ap (laid (a .room .now) 0) (f .results-are))
+
+pub take-joined-spec : {M : Type 1} → statement M
+take-joined-spec =
+    tie.close
+    (tie.spec
+    slice-aggregate-join
+    join-requires
+    sub-field
+    part-field-start
+    part-field-end
+    field-requires
+    enum-known-mid
+    sub-take-both
+    part-take-both-start
+    part-take-both-end
+    take-both-requires
+    enum-told
+    sub-take-rest
+    part-take-rest-start
+    part-take-rest-end
+    take-rest-requires
+    same-length
+    same-length-2
+    returns
+    same-length-3
+    same-length-4
+    returns-2)

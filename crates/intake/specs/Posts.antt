@@ -1,0 +1,123 @@
+-- Nobody has to believe this file: the parts of contracts by name.
+use Prim.Native.Nat.{ℕ, _+_, _-_, _≤_}
+use mathlib.Core.Bool.{Bool, true, cond}
+use mathlib.Core.List.{List, [], _++_}
+use mathlib.Core.Path.{_≡_}
+use lib.ListN.{length, take, drop}
+use lib.Seq.{slice}
+use Rattle.solar.specs.declared.Sun.{Sun}
+use Rattle.solar.specs.Posts.{Shining}
+use Rattle.site.specs.Site.{count}
+use Rattle.parts.specs.Header.{past}
+use Rattle.fields.specs.declared.State.{State}
+use Rattle.stick.specs.declared.Reached.{Reached}
+use Rattle.stick.specs.Check.{reached}
+use Rattle.stick.specs.Site.{siteOf, roofsOf, stepsFrom, sunFrom}
+use Rattle.stick.specs.Posts.{Accepted}
+use Rattle.roofs.specs.Roofs.{allOff}
+use Rattle.fleet.specs.Step.{Standing, standing, atFirst}
+use Rattle.fleet.specs.Posts.{Held}
+use Rattle.stretch.specs.Posts.{StepsThere}
+use Rattle.stretch.specs.Stretch.{standsAfter, onsAfter, recordsFrom}
+use Rattle.kept.specs.declared.Mark.{Mark}
+use Rattle.kept.specs.Kept.{Kept, begun}
+use Rattle.kept.specs.Layout.{stateSize, sitePlace, filled, markIn, keptIn, stateIn, storeAt, requestAt, flagAt, upTo, topOf, standsOf}
+use Rattle.taking.specs.Chunk.{goneBy, siteAfter, absorbed, resultsBy, withTail}
+use Rattle.taking.specs.Posts.{Leads}
+use Rattle.kept.specs.Formed.{isOpen}
+
+-- how far fields go, by places that many bytes stand before
+abbrev pub moved : ℕ → Reached → Reached
+moved n r = reached (r .number) (n + r .at) (r .state)
+
+-- the records of whole fields and then those of others
+abbrev pub bothResults : Kept → List ℕ → State → List ℕ → State → List ℕ
+bothResults k w mid v next = resultsBy k w mid ++ resultsBy (absorbed k w mid) v next
+
+-- the bytes of a first field, and those of the others, which lie in a chunk behind a tail
+abbrev pub firstOf : List ℕ → List ℕ
+firstOf joint = take (past joint 0) joint
+
+abbrev pub othersOf : List ℕ → ℕ → ℕ → List ℕ → List ℕ
+othersOf joint tail at chunk = slice (past joint 0 - tail) (at - tail) chunk
+
+-- what is kept after both, with the bytes behind them as the tail
+abbrev pub bothKept : Kept → List ℕ → State → ℕ → ℕ → List ℕ → State → Kept
+bothKept k joint mid tail at chunk next = withTail (absorbed (absorbed k (firstOf joint) mid) (othersOf joint tail at chunk) next) (drop (at - tail) chunk)
+
+-- a state whose run goes on
+pub record Open (s : List ℕ) : Type 0 where
+  pub is-open : isOpen s ≡ true
+
+-- whole fields, all of them accepted from some state on
+pub record Walked (bytes : List ℕ) : Type 0 where
+  pub since : State
+  pub upto : State
+  pub leads : Leads since bytes upto
+
+-- a state's bytes with the site part that whole fields lead to, of so many bytes; the others as they were
+pub record Grown (s grown bytes : List ℕ) (next : State) (site : ℕ) : Type 0 where
+  pub front : take sitePlace grown ≡ take sitePlace s
+  pub part : drop sitePlace grown ≡ filled 22175 (siteAfter (keptIn s) bytes next)
+  pub sized : site ≡ length (siteAfter (keptIn s) bytes next)
+  pub fits : site ≤ 22175
+
+-- ---- the run over whole fields, by a mark and a state's bytes with the site part that they lead to
+
+-- what stands before them
+unfoldable pub firstBy : Mark → List ℕ → List ℕ → Standing
+unfolding upTo storeAt requestAt atFirst siteOf
+firstBy m s site =
+    cond (begun (m .state)) (standing (upTo (count (siteOf site)) (storeAt s)) (upTo (count (siteOf site)) (requestAt s))) (atFirst (siteOf site .units))
+
+unfoldable pub flagsBy : Mark → List ℕ → List ℕ → List Bool
+unfolding upTo flagAt roofsOf
+flagsBy m s site = cond (begun (m .state)) (upTo (length (roofsOf site)) (flagAt s)) (allOff (roofsOf site))
+
+-- what stands after them, from a place on
+unfoldable pub standsBy : Mark → List ℕ → List ℕ → List ℕ → ℕ → Standing
+unfolding standsAfter firstBy stepsFrom siteOf
+standsBy m s site bytes head = standsAfter (siteOf site) (firstBy m s site) (stepsFrom bytes (m .sun) head)
+
+unfoldable pub onBy : Mark → List ℕ → List ℕ → List ℕ → ℕ → List Bool
+unfolding onsAfter flagsBy stepsFrom roofsOf
+onBy m s site bytes head = onsAfter (roofsOf site) (flagsBy m s site) (stepsFrom bytes (m .sun) head)
+
+-- their records
+unfoldable pub recordsOver : Mark → List ℕ → List ℕ → List ℕ → ℕ → List ℕ
+unfolding recordsFrom firstBy flagsBy stepsFrom siteOf roofsOf
+recordsOver m s site bytes head =
+    recordsFrom (siteOf site) (roofsOf site) (m .state .steps) (firstBy m s site) (flagsBy m s site) (stepsFrom bytes (m .sun) head)
+
+-- the mark after them, without a tail
+abbrev pub markAfter : Mark → State → ℕ → Sun → ℕ → Mark
+markAfter m next site s bytes = record { place = m .place - m .tail + bytes; state = next; site = site; tail = 0; sun = s }
+
+-- what the run over whole fields leaves of a state's bytes
+unfoldable pub leftBy : Mark → List ℕ → ℕ → List ℕ → ℕ → State → List ℕ
+unfolding topOf standsOf standsBy onBy sunFrom
+leftBy m s n bytes head next =
+    let site = slice sitePlace (sitePlace + n) s in
+    let st = standsBy m s site bytes head in
+    topOf (markAfter m next n (sunFrom bytes (m .sun) head) (length bytes)) [] ++ standsOf (st .stored) (st .requests) (onBy m s site bytes head) ++ drop sitePlace s
+
+-- what the run over whole fields may count on
+pub record Ahead (s : List ℕ) (m : Mark) (n : ℕ) (bytes : List ℕ) (head : ℕ) (next : State) : Type 0 where
+  pub long : length s ≡ stateSize
+  pub fits : n ≤ 22175
+  pub accepted : Accepted (slice sitePlace (sitePlace + n) s)
+  pub held : Held (siteOf (slice sitePlace (sitePlace + n) s)) (firstBy m s (slice sitePlace (sitePlace + n) s) .stored) (firstBy m s (slice sitePlace (sitePlace + n) s) .requests)
+  pub upto : head ≤ length bytes
+  pub there : StepsThere bytes head
+  pub shines : Shining (m .sun)
+  pub counted : m .state .steps + length (stepsFrom bytes (m .sun) head) ≡ next .steps
+  pub few : next .steps ≤ 65535
+  pub place-there : m .tail ≤ m .place
+  pub place-fits : m .place + length bytes ≤ 18446744073709551615
+
+-- a state whose run goes on, its mark, and how far a chunk without a fault goes
+pub record Gone (s : List ℕ) (m : Mark) (chunk : List ℕ) (r : Reached) : Type 0 where
+  pub is-open : Open s
+  pub mark-is : m ≡ markIn s
+  pub gone-is : r ≡ goneBy (keptIn s) chunk
+  pub no-fault : r .number ≤ 1

@@ -1,0 +1,252 @@
+ghost use mathlib.Core.Path.{_≡_};
+ghost use mathlib.Core.Bool.{false, cond};
+ghost use mathlib.Core.List.{[], _++_};
+ghost use Prim.Native.Nat.{_+_, _*_, _≤_};
+ghost use lib.ListN.{length, drop, replicate};
+ghost use lib.Seq.{slice};
+ghost use Rattle.octets.specs.BigEndian.{laid};
+ghost use Rattle.rows.specs.Rows.{unitsBy};
+ghost use Rattle.storage.specs.Posts.{Rested};
+ghost use Rattle.solar.specs.Posts.{Shining};
+ghost use Rattle.site.specs.Site.{count};
+ghost use Rattle.stick.specs.Site.{siteOf, roofsOf, stepsFrom, sunFrom};
+ghost use Rattle.stick.specs.Posts.{Accepted};
+ghost use Rattle.fleet.specs.Step.{standing, atFirst};
+ghost use Rattle.fleet.specs.Posts.{Held};
+ghost use Rattle.stretch.specs.Stretch.{allBytes, standsAfter, onsAfter, recordsFrom};
+ghost use Rattle.stretch.specs.Posts.{StepsThere};
+ghost use Rattle.kept.specs.Kept.{begun};
+ghost use Rattle.kept.specs.Layout.{stateSize, heldPlace, sitePlace, storeAt, requestAt, flagAt, upTo, topOf, standsOf};
+ghost use Rattle.intake.specs.Posts.{recordsOver, markAfter, leftBy, Ahead};
+use fields::State;
+use kept::Mark;
+use kept::SITE;
+use records::RECORD_BYTES;
+use records::ROOF_RECORD_BYTES;
+use solar::Sun;
+use stretch::Way;
+
+// The steps in a stretch, over the site that lies in bytes; its units are in the rows.
+fn over(
+    site: &[u8],
+    rows: &[[u64; 17]],
+    bytes: &[u8],
+    from: usize,
+    way: Way,
+    stored: &mut [u64],
+    requests: &mut [i32],
+    on: &mut [bool],
+    room: &mut [u8],
+    out: usize,
+) -> Way
+    requires { ⌜ Accepted (now site) ⌝ }
+    requires { ⌜ unitsBy (now rows) ≡ siteOf (now site) .units ⌝ }
+    requires { ⌜ Rested (now rows) ⌝ }
+    requires { ⌜ Held (siteOf (now site)) (now stored) (now requests) ⌝ }
+    requires { ⌜ length (now on) ≡ length (roofsOf (now site)) ⌝ }
+    requires { ⌜ from ≤ length (now bytes) ⌝ }
+    requires { ⌜ StepsThere (now bytes) from ⌝ }
+    requires { ⌜ Shining (way .sun) ⌝ }
+    requires { ⌜ way .step + length (stepsFrom (now bytes) (way .sun) from) ≤ 65535 ⌝ }
+    requires { ⌜ out + allBytes (siteOf (now site)) (roofsOf (now site)) * length (stepsFrom (now bytes) (way .sun) from) ≤ length (now room) ⌝ }
+    ensures { λ r. ⌜ r .step ≡ way .step + length (stepsFrom (now (bytes .entry)) (way .sun) from) ⌝ }
+    ensures { λ r. ⌜ r .sun ≡ sunFrom (now (bytes .entry)) (way .sun) from ⌝ }
+    ensures { λ _. ⌜ standing (now (stored .exit)) (now (requests .exit)) ≡ standsAfter (siteOf (now (site .entry))) (standing (now (stored .entry)) (now (requests .entry))) (stepsFrom (now (bytes .entry)) (way .sun) from) ⌝ }
+    ensures { λ _. ⌜ now (on .exit) ≡ onsAfter (roofsOf (now (site .entry))) (now (on .entry)) (stepsFrom (now (bytes .entry)) (way .sun) from) ⌝ }
+    ensures { λ _. ⌜ now (room .exit) ≡ laid (now (room .entry)) out (recordsFrom (siteOf (now (site .entry))) (roofsOf (now (site .entry))) (way .step) (standing (now (stored .entry)) (now (requests .entry))) (now (on .entry)) (stepsFrom (now (bytes .entry)) (way .sun) from)) ⌝ }
+{
+    let f = fleet::framed(stick::head(site), rows);
+    let first = stick::roofs_place(site);
+    stretch::along(
+        site,
+        first,
+        f,
+        rows,
+        bytes,
+        from,
+        way,
+        stored,
+        requests,
+        on,
+        room,
+        out,
+    )
+}
+
+// What stands before whole fields: what is kept or, where the steps are only to begin, what stands at
+// first.
+fn stand(
+    s: &[u8],
+    m: Mark,
+    rows: &[[u64; 17]],
+    stored: &mut [u64],
+    requests: &mut [i32],
+    on: &mut [bool],
+)
+    requires { ⌜ length (now s) ≡ stateSize ⌝ }
+    requires { ⌜ length (now rows) ≤ 64 ⌝ }
+    requires { ⌜ length (now stored) ≡ length (now rows) ⌝ }
+    requires { ⌜ length (now requests) ≡ length (now rows) ⌝ }
+    requires { ⌜ length (now on) ≤ 64 ⌝ }
+    ensures { λ _. ⌜ standing (now (stored .exit)) (now (requests .exit)) ≡ cond (begun (m .state)) (standing (upTo (length (now (rows .entry))) (storeAt (now (s .entry)))) (upTo (length (now (rows .entry))) (requestAt (now (s .entry))))) (atFirst (unitsBy (now (rows .entry)))) ⌝ }
+    ensures { λ _. ⌜ now (on .exit) ≡ cond (begun (m .state)) (upTo (length (now (on .entry))) (flagAt (now (s .entry)))) (replicate (length (now (on .entry))) false) ⌝ }
+{
+    if kept::begun_at(m.state.stage) {
+        kept::load(s, stored, requests);
+        kept::load_on(s, on);
+        return;
+    }
+    fleet::start(rows, stored, requests);
+    roofs::turn_off(on);
+}
+
+// The mark after whole fields.
+fn mark_after(m: Mark, next: State, site: usize, sun: Sun, bytes: usize) -> Mark
+    requires { ⌜ m .tail ≤ m .place ⌝ }
+    requires { ⌜ m .place + bytes ≤ 18446744073709551615 ⌝ }
+    ensures { λ r. ⌜ r ≡ markAfter m next site sun bytes ⌝ }
+{
+    Mark {
+        place: m.place - (m.tail as u64) + (bytes as u64),
+        state: next,
+        site,
+        tail: 0,
+        sun,
+    }
+}
+
+// What is kept after whole fields: a mark without a tail, and what stands.
+fn keep(s: &mut [u8], k: Mark, bytes: &[u8], stored: &[u64], requests: &[i32], on: &[bool])
+    requires { ⌜ length (now s) ≡ stateSize ⌝ }
+    requires { ⌜ k .site ≤ 22175 ⌝ }
+    requires { ⌜ k .tail ≡ 0 ⌝ }
+    requires { ⌜ length (now stored) ≤ 64 ⌝ }
+    requires { ⌜ length (now requests) ≡ length (now stored) ⌝ }
+    requires { ⌜ length (now on) ≤ 64 ⌝ }
+    ensures { λ _. ⌜ now (s .exit) ≡ topOf k [] ++ standsOf (now (stored .entry)) (now (requests .entry)) (now (on .entry)) ++ drop sitePlace (now (s .entry)) ⌝ }
+{
+    kept::put_stands(s, stored, requests, on);
+    kept::put_top(s, k, bytes, 0, 0);
+}
+
+// The run over whole fields, with rows and lists for the site's units and inverters.
+fn run_with(
+    s: &mut [u8],
+    m: Mark,
+    n: usize,
+    bytes: &[u8],
+    head: usize,
+    next: State,
+    rows: &mut [[u64; 17]],
+    stored: &mut [u64],
+    requests: &mut [i32],
+    on: &mut [bool],
+    room: &mut [u8],
+    out: usize,
+)
+    requires { ⌜ Ahead (now s) m n (now bytes) head next ⌝ }
+    requires { ⌜ length (now rows) ≡ count (siteOf (slice sitePlace (sitePlace + n) (now s))) ⌝ }
+    requires { ⌜ length (now stored) ≡ length (now rows) ⌝ }
+    requires { ⌜ length (now requests) ≡ length (now rows) ⌝ }
+    requires { ⌜ length (now on) ≡ length (roofsOf (slice sitePlace (sitePlace + n) (now s))) ⌝ }
+    requires { ⌜ out + length (recordsOver m (now s) (slice sitePlace (sitePlace + n) (now s)) (now bytes) head) ≤ length (now room) ⌝ }
+    ensures { λ _. ⌜ now (s .exit) ≡ leftBy m (now (s .entry)) n (now (bytes .entry)) head next ⌝ }
+    ensures { λ _. ⌜ now (room .exit) ≡ laid (now (room .entry)) out (recordsOver m (now (s .entry)) (slice sitePlace (sitePlace + n) (now (s .entry))) (now (bytes .entry)) head) ⌝ }
+{
+    stick::load(&s[SITE..SITE + n], rows);
+    stand(s, m, rows, stored, requests, on);
+    let sun = m.sun;
+    let way = Way {
+        step: m.state.steps,
+        sun,
+    };
+    let w = over(
+        &s[SITE..SITE + n],
+        rows,
+        bytes,
+        head,
+        way,
+        stored,
+        requests,
+        on,
+        room,
+        out,
+    );
+    let k = mark_after(m, next, n, w.sun, bytes.len());
+    keep(s, k, bytes, stored, requests, on);
+}
+
+// The bytes of the records of so many steps of a site.
+fn bytes_of(site: &[u8], steps: u32) -> usize
+    requires { ⌜ Accepted (now site) ⌝ }
+    requires { ⌜ steps ≤ 65535 ⌝ }
+    ensures { λ r. ⌜ r ≡ allBytes (siteOf (now (site .entry))) (roofsOf (now (site .entry))) * steps ⌝ }
+{
+    let size = RECORD_BYTES * stick::units(site) + ROOF_RECORD_BYTES * stick::roofs(site);
+    size * (steps as usize)
+}
+
+// The run over whole fields: what is kept afterwards, without a tail, and their records from a place
+// of the room on; the place behind them.
+pub fn run(
+    s: &mut [u8],
+    m: Mark,
+    n: usize,
+    bytes: &[u8],
+    head: usize,
+    next: State,
+    room: &mut [u8],
+    out: usize,
+) -> usize
+    requires { ⌜ Ahead (now s) m n (now bytes) head next ⌝ }
+    requires { ⌜ out + length (recordsOver m (now s) (slice sitePlace (sitePlace + n) (now s)) (now bytes) head) ≤ length (now room) ⌝ }
+    ensures { λ r. ⌜ r ≡ out + length (recordsOver m (now (s .entry)) (slice sitePlace (sitePlace + n) (now (s .entry))) (now (bytes .entry)) head) ⌝ }
+    ensures { λ _. ⌜ now (s .exit) ≡ leftBy m (now (s .entry)) n (now (bytes .entry)) head next ⌝ }
+    ensures { λ _. ⌜ now (room .exit) ≡ laid (now (room .entry)) out (recordsOver m (now (s .entry)) (slice sitePlace (sitePlace + n) (now (s .entry))) (now (bytes .entry)) head) ⌝ }
+{
+    let units = stick::units(&s[SITE..SITE + n]);
+    let roofs = stick::roofs(&s[SITE..SITE + n]);
+    let size = bytes_of(&s[SITE..SITE + n], next.steps - m.state.steps);
+    let mut rows = [[0u64; 17]; 64];
+    let mut stored = [0u64; 64];
+    let mut requests = [0i32; 64];
+    let mut on = [false; 64];
+    run_with(
+        s,
+        m,
+        n,
+        bytes,
+        head,
+        next,
+        &mut rows[0..units],
+        &mut stored[0..units],
+        &mut requests[0..units],
+        &mut on[0..roofs],
+        room,
+        out,
+    );
+    out + size
+}
+
+// Nothing stands yet.
+pub fn clear_stands(s: &mut [u8])
+    requires { ⌜ length (now s) ≡ stateSize ⌝ }
+    ensures { λ _. ⌜ now (s .exit) ≡ laid (now (s .entry)) heldPlace (standsOf [] [] []) ⌝ }
+{
+    let stored = [0u64; 1];
+    let requests = [0i32; 1];
+    let on = [false; 1];
+    kept::put_stands(s, &stored[0..0], &requests[0..0], &on[0..0]);
+}
+
+// Where the steps have not begun: nothing stands yet.
+pub fn wait(s: &mut [u8], m: Mark, n: usize, bytes: &[u8], next: State)
+    requires { ⌜ length (now s) ≡ stateSize ⌝ }
+    requires { ⌜ n ≤ 22175 ⌝ }
+    requires { ⌜ m .tail ≤ m .place ⌝ }
+    requires { ⌜ m .place + length (now bytes) ≤ 18446744073709551615 ⌝ }
+    ensures { λ _. ⌜ now (s .exit) ≡ topOf (markAfter m next n (m .sun) (length (now (bytes .entry)))) [] ++ standsOf [] [] [] ++ drop sitePlace (now (s .entry)) ⌝ }
+{
+    clear_stands(s);
+    kept::put_top(s, mark_after(m, next, n, m.sun, bytes.len()), bytes, 0, 0);
+}
