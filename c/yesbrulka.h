@@ -298,6 +298,41 @@ uint32_t yb_solar(uint32_t array, uint32_t kva, uint16_t cut_in, uint16_t cut_ou
     const int32_t *eff_x, size_t eff_x_len, const int32_t *eff_y, size_t eff_y_len, double irradiance,
     double temperature, uint8_t on, uint8_t *on_after, int32_t *watts, int32_t *vars, uint64_t *dc);
 
+/* Feed a run in chunks: a run file of any length, in pieces as they come to hand.
+**
+** All that the library keeps between two calls is state, yb_feed_size() bytes of the caller's memory. It has no
+** addresses in it, so it may be copied, kept and taken up again. No two lent things of a call may overlap.
+**
+** yb_feed_start makes state ready for a file's first byte, whatever it held. yb_feed takes the next chunk, cut
+** anywhere, of any length, 0 too, and stores the records of every step that the chunk completes at the start of room,
+** and in *written how many bytes they are. yb_feed_end says that the file has ended; it alone stores the end record,
+** 7 bytes. One call's results behind the other's are what yb_run gives for the whole file, which may be longer here
+** than yb_run takes. yb_feed_room tells how many bytes yb_feed would store for a chunk; 0 if none, or if it would be
+** refused for anything but room.
+**
+** yb_feed_place and yb_feed_steps tell the bytes and the steps taken so far or, once the run was refused, the place and
+** the steps of the refusal, which are those of yb_check for the whole file; 0 for a state that is not well formed.
+**
+** yb_feed and yb_feed_end return 0, or the first of these that holds:
+**    10  state is not yb_feed_size() long, or its bytes are no state; nothing is changed
+**        the number that an earlier call returned, unless that was 10 or 11; after yb_feed_end returned 0, 9
+**     1  (yb_feed_end) the file broke off within a field
+**     8  (yb_feed_end) the file ended before its end field
+**        (yb_feed) the number of the first fault in the chunk, as yb_check has it, though the size of a file is never
+**        one; then nothing of this chunk is stored, not even of the steps before the fault
+**    11  room is too short; nothing is changed, place and steps are as before, and the call can be made again
+** room and *written are changed only when 0 is returned. yb_feed_start returns 0, or 10 if state is not
+** yb_feed_size() long.
+*/
+uint64_t yb_feed_size(void);
+uint32_t yb_feed_start(uint8_t *state, size_t state_len);
+uint32_t yb_feed(uint8_t *state, size_t state_len, const uint8_t *chunk, size_t chunk_len, uint8_t *room,
+    size_t room_len, uint64_t *written);
+uint32_t yb_feed_end(uint8_t *state, size_t state_len, uint8_t *room, size_t room_len, uint64_t *written);
+uint64_t yb_feed_room(const uint8_t *state, size_t state_len, const uint8_t *chunk, size_t chunk_len);
+uint64_t yb_feed_place(const uint8_t *state, size_t state_len);
+uint32_t yb_feed_steps(const uint8_t *state, size_t state_len);
+
 #ifdef __cplusplus
 }
 #endif

@@ -1,14 +1,14 @@
 #!/bin/bash
-# Builds the C programs over the archive into build/x86_64/, and beside them build/watts and build/import, the
-# commands that people call. The archive must be there already.
+# Builds the C programs over the archive into build/x86_64/, and beside them build/watts, build/feed and build/import,
+# the commands that people call. The archive must be there already.
 set -eu
 cd "$(dirname "${BASH_SOURCE[0]}")/.."
 . tools/env.sh
 yb_toolchain || { echo "$YB_CC_WHY" >&2; exit 1; }
 
 # Each program is named after its first part in c/, and its further parts are named after it.
-programs='tests/host tests/test_surface tests/test_stack watts/watts import/import'
-commands='watts import'
+programs='tests/host tests/test_surface tests/test_stack watts/watts feed/feed import/import'
+commands='watts feed import'
 
 # Nothing of an earlier build may stand in for what fails to build now.
 for program in $programs; do

@@ -120,6 +120,7 @@ yb_toolchain
 export YB_HOST="$YB_EMULATOR ../build/x86_64/host"
 
 step line 'proofs' rt ci
+step line 'wrong programs' tools/refusals.sh
 step one 'stored cases' stored_cases
 step one 'sample sticks' sample_sticks
 step none 'archive' archive
@@ -131,13 +132,14 @@ if [ -n "$YB_CC" ]; then
     step line 'C stack' stack
     step cargo 'reference and archive' reference
     step line 'watts command' c/tests/test_watts.sh
+    step line 'feed command' c/tests/test_feed.sh
     step line 'import command' c/tests/test_import.sh
     step line 'programs' c/tests/test_programs.sh
     step one 'sample season' make --no-print-directory sample
 else
     step cargo 'reference' reference --lib --bins
-    for tests in 'C surface' 'C stack' 'the archive beside the reference' 'watts command' 'import command' \
-        'programs' 'sample season'; do
+    for tests in 'C surface' 'C stack' 'the archive beside the reference' 'watts command' 'feed command' \
+        'import command' 'programs' 'sample season'; do
         echo "NOT RUN: $tests: $YB_CC_WHY"
     done
 fi

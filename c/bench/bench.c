@@ -13,7 +13,10 @@
 ** that brings them on and off every day; the weather of one hour in forty is missing. The runs include the check of the
 ** file.
 **
-** Exit status 0 if both checks gave the right number, place and steps for each file and both runs the same result, 1
+** The first of these fleets, with inverters and without, are run once more by the archive alone: fed in chunks of
+** 65,536 bytes, beside the run of the whole file.
+**
+** Exit status 0 if both checks gave the right number, place and steps for each file and all runs the same result, 1
 ** if one did not, 2 if there is no clock or the lines cannot be written. The times do not matter for it.
 */
 #define _POSIX_C_SOURCE 200809L /* for clock_gettime */
@@ -32,6 +35,10 @@
 #define RECORD 40
 #define SOLAR 29
 #define MOST_ROOM ((RECORD * YB_MOST_UNITS + SOLAR * YB_MOST_INVERTERS) * YEAR + 7)
+
+/* The chunks of a fed run, and room for its state. */
+#define CHUNK 65536
+#define MOST_STATE 65536
 
 /* The complete files, each but the last with half of the next one's steps. */
 #define COMPLETE 4
@@ -379,6 +386,29 @@ static double time_ref_run(void)
     return time_one_run(ref_run);
 }
 
+/* The run of the archive, fed in chunks; called like the others. */
+static uint32_t feed_run(const uint8_t *bytes, size_t len, uint8_t *results, size_t results_len)
+{
+    static uint8_t state[MOST_STATE];
+    size_t size = (size_t)yb_feed_size();
+    if (size > sizeof state)
+        give_up("a state is larger than it was");
+    uint32_t number = yb_feed_start(state, size);
+    for (size_t at = 0; at < len && number == 0; at += CHUNK) {
+        uint64_t written = 0;
+        number = yb_feed(state, size, bytes + at, len - at < CHUNK ? len - at : CHUNK, results, results_len, &written);
+        results += written;
+        results_len -= (size_t)written;
+    }
+    uint64_t written;
+    return number != 0 ? number : yb_feed_end(state, size, results, results_len, &written);
+}
+
+static double time_feed(void)
+{
+    return time_one_run(feed_run);
+}
+
 static int by_size(const void *a, const void *b)
 {
     double x = *(const double *)a, y = *(const double *)b;
@@ -541,6 +571,47 @@ static int show_runs(void)
     return right;
 }
 
+/* The archive's run of a year, fed and whole. */
+static int show_fed(int units, int inverters)
+{
+    make_year(units, inverters, 1, 0);
+    memset(kept, 0, room_len);
+    memset(room, 0, room_len);
+    uint32_t whole = yb_run(file, file_len, kept, room_len), fed = feed_run(file, file_len, room, room_len);
+    if (whole != 0 || fed != 0 || memcmp(room, kept, room_len) != 0) {
+        printf("WRONG: the fed run of %d units and %d inverters: its number is %" PRIu32 ", the whole run's %" PRIu32
+            ", and the results are %s\n", units, inverters, fed, whole,
+            memcmp(room, kept, room_len) == 0 ? "the same" : "not the same");
+        return 0;
+    }
+    struct pair pair = measure(time_feed, time_run);
+    double steps = (double)(units + inverters) * YEAR;
+    printf("%5d  %9d  %8zu", units, inverters, file_len);
+    printf("  |  %8.1f  %9.1f  %7.4f", pair.archive.median / steps, pair.reference.median / steps, pair.ratio);
+    printf("  |  %8.1f  %9.1f  %7.4f\n", pair.archive.least / steps, pair.reference.least / steps,
+        pair.archive.least / pair.reference.least);
+    fflush(stdout);
+    return 1;
+}
+
+static int show_feeds(void)
+{
+    static const int fleets[] = {1, 8, 64}, roofs[] = {8, 64};
+    int right = 1;
+    printf("\nThe archive's run of %d steps, fed in chunks of %d bytes and whole: ns for each step of a unit or an\n"
+        "inverter, of %d rounds; the ratio is fed / whole.\n\n", YEAR, CHUNK, ROUNDS);
+    printf("%26s  |  %-28s  |  least\n", "", "median");
+    printf("%5s  %9s  %8s", "units", "inverters", "bytes");
+    for (int i = 0; i < 2; i++)
+        printf("  |  %8s  %9s  %7s", "fed", "whole", "ratio");
+    printf("\n");
+    for (size_t i = 0; i < sizeof fleets / sizeof fleets[0]; i++)
+        right &= show_fed(fleets[i], 0);
+    for (size_t i = 0; i < sizeof roofs / sizeof roofs[0]; i++)
+        right &= show_fed(roofs[i], roofs[i]);
+    return right;
+}
+
 int main(void)
 {
     struct row rows[COMPLETE], overlong;
@@ -555,6 +626,7 @@ int main(void)
             "with other bytes after it.\n", overlong.right.place);
     }
     right &= show_runs();
+    right &= show_feeds();
     printf("\nThe reference here is ordinary Rust written to be quick (reference/bench/src/tight.rs, run.rs).\n");
     if (fflush(stdout) != 0 || ferror(stdout))
         give_up("the lines cannot be written");

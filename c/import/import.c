@@ -1,15 +1,15 @@
 /* import: checks the run files of sticks, in bulk, and shows what is wrong with one; runs a season into a result
 ** file, and shows what came out; studies where a fleet settles.
 **
-** The file's bytes are lent to the library; this program only reads, asks, writes and prints. Exit status 0 if
+** The file's bytes are fed to the library; this program only reads, asks, writes and prints. Exit status 0 if
 ** all files are complete and what was asked for is done, 1 if something was refused, 2 for a wrong call, a file
 ** that cannot be read or written, or lines that cannot be written.
 */
-#define _POSIX_C_SOURCE 200809L /* for isatty */
+#include <inttypes.h>
 #include <string.h>
-#include <unistd.h>
 
 #include "import.h"
+#include "yesbrulka.h"
 
 /* From this number of files on there is a progress line. */
 enum { MANY = 10 };
@@ -28,6 +28,9 @@ static const char meanings[] =
     "FILE is a run file as it is on a stick, RESULT the result file that run made of it. Steps, units and inverters\n"
     "are counted from 0, as in RESULT; only the advice on a refused FILE counts them as people do: the 1st unit is\n"
     "unit 0. Power is positive when a unit or an inverter gives and negative when a unit takes.\n"
+    "\n"
+    "FILE may come through a pipe; - is standard input. It is read piece by piece, however long it is, and at a\n"
+    "terminal a line says how far that is where FILE has more than 2097152 bytes.\n"
     "\n"
     "A FILE of edition 3 is a plan made with the older storage model: a unit draws its idle loss at the grid, in\n"
     "every step. Its power is then that at the grid: what its own inverter gives less the idle loss, and negative if\n"
@@ -67,44 +70,45 @@ static const char meanings[] =
     "2 a wrong call, or a file that cannot be read or written.\n";
 
 /* The progress line comes after each file's lines and goes before the next ones. */
-static void progress(int done, int all)
+static void files_progress(int done, int all)
 {
-    fflush(stdout);
-    fprintf(stderr, "\r%d of %d files", done, all);
-    fflush(stderr);
+    char text[PROGRESS];
+    snprintf(text, sizeof text, "%d of %d files", done, all);
+    show_progress(text);
 }
 
-static void end_progress(void)
+/* A complete stick may be longer than a call of the library takes that wants all of it at once. */
+static void print_length(const struct stick *stick)
 {
-    fprintf(stderr, "\r%40s\r", "");
-    fflush(stderr);
+    if (stick->len <= YB_MOST_FILE_BYTES)
+        return;
+    printf("    It has %" PRIu64 " bytes, more than the %d of a call that takes a whole file: it can be fed, as the\n"
+        "    commands here do, and not lent to such a call.\n", stick->len, YB_MOST_FILE_BYTES);
 }
 
 /* The lines of one file, and with show its refused field; gives what came of it. */
 static int look(const char *name, int show)
 {
-    struct stick stick;
-    int outcome = ask(&stick, name);
+    struct stick stick = {.name = name, .is_shown = show};
+    int outcome = feed_file(&stick, NULL);
     if (outcome != FAILED)
-        print_answer(&stick, show);
+        print_answer(&stick);
+    if (outcome == COMPLETE)
+        print_length(&stick);
     return outcome;
 }
 
 static int look_at_all(int count, char **names, int show)
 {
     int refused = 0, not_checked = 0;
-    int with_progress = count >= MANY && isatty(STDERR_FILENO);
     for (int i = 0; i < count; i++) {
-        if (with_progress && i != 0)
-            end_progress();
         int outcome = look(names[i], show);
         refused += outcome == REFUSED;
         not_checked += outcome == FAILED;
-        if (with_progress)
-            progress(i + 1, count);
+        if (count >= MANY)
+            files_progress(i + 1, count);
     }
-    if (with_progress)
-        end_progress();
+    end_progress();
     if (fflush(stdout) != 0)
         return FAILED;
     if (refused != 0)

@@ -14,15 +14,50 @@
 /* What came of a command, which is its exit status. */
 enum { COMPLETE = 0, REFUSED = 1, FAILED = 2 };
 
-/* A file as it was read, and the check's answer. The units, 1 to 64, and the inverters, 0 to 64, are those of a file
-** that was asked for as a complete one.
+/* What is read of a stick here: a field's tag, and the two bytes of its length, to get to the next one. They are its
+** header.
+*/
+enum { HEADER = 3 };
+enum {
+    FLEET_TAG = 0x01,
+    UNIT_TAG = 0x02,
+    SETTINGS_TAG = 0x03,
+    POWER_TAG = 0x04,
+    MISSING_TAG = 0x05,
+    INVERTER_TAG = 0x06,
+    CURVE_TAG = 0x07,
+    WEATHER_TAG = 0x08,
+    END_TAG = 0x7F
+};
+
+/* What stands before a place: how many units and inverters, how many curves right before it, and the last tag, which
+** is 0 where nothing does.
+*/
+struct before {
+    unsigned units, inverters, curves;
+    uint8_t last;
+};
+
+/* A stick as far as it was fed to the library, and the library's answer. A caller gives its name; and says whether the
+** bytes of a refused field are to be shown, and whether all bytes are to be kept, to be fed again. All else is the
+** feed's, and what it points to is there until the next stick is fed.
+**
+** The head is a file by itself: the fields before the first step, and an end field. It is complete where the stick is,
+** and what a stick says is asked of it. The window is a part of the file from a place on, and has what is known of the
+** refused field. The units, 1 to 64, and the inverters, 0 to 64, are known from the first step on, and of a stick that
+** was asked for as a complete one.
 */
 struct stick {
     const char *name;
-    const uint8_t *bytes;
-    size_t len;
+    int is_shown, is_kept;
+    uint64_t len, place;
     uint32_t number, steps;
-    uint64_t place;
+    struct before before;
+    const uint8_t *head, *window;
+    size_t head_len, window_len;
+    uint64_t window_from;
+    uint8_t *kept;
+    size_t kept_room;
     unsigned units, inverters;
 };
 
@@ -47,13 +82,67 @@ struct limits {
     uint32_t provide, absorb;
 };
 
-/* The run over a complete stick: the result file's bytes, to be freed. */
+/* What a run gives at a time: the records of some steps, the first of which is said, one behind the other; or the end,
+** which is of no steps.
+*/
 struct run {
-    uint8_t *bytes;
+    const uint8_t *bytes;
     size_t len;
     unsigned units, inverters;
-    uint32_t steps;
+    uint32_t first, steps;
 };
+
+/* What is done with it. */
+struct taker {
+    void (*take)(void *to, const struct run *run);
+    void *to;
+};
+
+/* import_feed.c */
+
+/* Open a file to be read, which is standard input where the name is a dash; NULL where it cannot be opened. */
+int is_standard_input(const char *name);
+FILE *open_input(const char *name);
+void close_input(FILE *in);
+
+/* Why reading went wrong just now. */
+const char *reading_fault(void);
+
+/* Feed a file to the library, as much of it as is needed, and hand on what the run gives as it comes; there may be no
+** taker. Gives what came of it; where it FAILED, that is told.
+*/
+int feed_file(struct stick *stick, const struct taker *taker);
+
+/* The same once more for a complete stick that was kept; and free what was kept. */
+int feed_again(const struct stick *stick, const struct taker *taker);
+void free_kept(struct stick *stick);
+
+/* import_fields.c */
+
+/* A big-endian number of that many bytes. */
+uint64_t number_at(const uint8_t *bytes, int width);
+
+/* What is known of the file from the place of a refusal on; and the length that the refused field says, where its
+** header is there.
+*/
+const uint8_t *refused_bytes(const struct stick *stick);
+size_t refused_len(const struct stick *stick);
+unsigned said_length(const struct stick *stick);
+
+/* Ask how many units and inverters there are, of a stick that has a step or is complete. Gives COMPLETE, or FAILED
+** where the answer is a fault, which is told.
+*/
+int ask_site(struct stick *stick);
+
+/* import_progress.c */
+
+/* Show how far a command is, in a text of at most so many bytes: at a terminal alone, and in one line, which goes
+** before anything else is said.
+*/
+enum { PROGRESS = 60 };
+int has_progress(void);
+void show_progress(const char *text);
+void end_progress(void);
 
 /* import_stick.c */
 
@@ -64,18 +153,6 @@ void print_name(FILE *out, const char *name);
 int failed(const char *name, const char *what, const char *why);
 int fault(const char *name);
 
-/* Read and check a file. Gives what came of it; where it FAILED, that is told. */
-int ask(struct stick *stick, const char *name);
-
-/* A big-endian number of that many bytes. */
-uint64_t number_at(const uint8_t *bytes, int width);
-
-/* A field's tag and the two bytes of its length are its header. Give the length that a field says, at a place where
-** its header is there.
-*/
-enum { HEADER = 3 };
-unsigned said_length(const struct stick *stick, uint64_t place);
-
 /* The edition that the fleet names, which is a stick's first field; 0 where there is no fleet, or it is refused. From
 ** the edition of limits on a unit has var limits of its own, and its field ends with them. The edition of the older
 ** model is for plans made with the older storage model: a unit's idle loss is drawn at the grid, and never from its
@@ -84,11 +161,11 @@ unsigned said_length(const struct stick *stick, uint64_t place);
 enum { LIMITS_EDITION = 2, OLDER_MODEL_EDITION = 3 };
 unsigned edition_of(const struct stick *stick);
 
-/* Print a file's line and, of a refused one, what to do about it; and with show the refused field's bytes. */
-void print_answer(const struct stick *stick, int show);
+/* Print a file's line and, of a refused one, what to do; and the refused field's bytes where they are shown. */
+void print_answer(const struct stick *stick);
 
-/* Ask for a complete file; of a refused one print the answer, and on standard error what was not done. */
-int ask_complete(struct stick *stick, const char *name, const char *not_done);
+/* Feed a file that has to be complete; of a refused one print the answer, and on standard error what was not done. */
+int ask_complete(struct stick *stick, const struct taker *taker, const char *not_done);
 
 /* Ask for what a complete stick says: its settings, and the values and the var limits of a unit, counted from 0. Gives
 ** COMPLETE, or FAILED where the library refuses that, which is a fault and is told.
@@ -103,15 +180,20 @@ int ask_limits(struct limits *limits, const struct stick *stick, unsigned which)
 const char *refusal_name(const struct stick *stick);
 void print_advice(const struct stick *stick);
 
-/* import_run.c */
-
-/* Run a complete stick. Gives COMPLETE, or FAILED where there is no memory for the result. */
-int make_run(struct run *run, const struct stick *stick);
-
 /* import_whole.c */
 
-/* Write a file that appears whole under its name or not at all. Gives COMPLETE, or FAILED, which is told. */
-int write_whole(const char *name, const uint8_t *bytes, size_t len);
+/* A file that is written as its bytes come, and appears whole under its name or not at all; there is one at a time.
+** Where something goes wrong nothing more is written, and the end of it tells why and gives FAILED; else the end gives
+** the file its name, and COMPLETE. One that is not to be is dropped.
+*/
+struct whole {
+    const char *name, *last;
+    int to, why;
+};
+void begin_whole(struct whole *whole, const char *name);
+void write_more(struct whole *whole, const uint8_t *bytes, size_t len);
+int end_whole(struct whole *whole);
+void drop_whole(struct whole *whole);
 
 /* The commands, with the words that follow them. */
 int run_command(const char *file, const char *result);

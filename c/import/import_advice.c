@@ -4,23 +4,8 @@
 #include "import.h"
 #include "yesbrulka.h"
 
-/* What is read of a stick here, to name a field: its tag, and the length to get to the next one; and the S of a unit
-** whose limits it bounds.
-*/
-enum {
-    FLEET_TAG = 0x01,
-    UNIT_TAG = 0x02,
-    SETTINGS_TAG = 0x03,
-    POWER_TAG = 0x04,
-    MISSING_TAG = 0x05,
-    INVERTER_TAG = 0x06,
-    CURVE_TAG = 0x07,
-    WEATHER_TAG = 0x08,
-    END_TAG = 0x7F
-};
-
-/* The lengths of a unit without var limits, which is also the one before any fleet, and of one with them; and where its
-** S stands in both.
+/* The lengths of a unit without var limits, which is also the one before any fleet, and of one with them; and where
+** both have their S, which bounds the limits.
 */
 enum { UNIT_BYTES = 49, LIMITED_UNIT_BYTES = 57, UNIT_S = 28, UNIT_S_WIDTH = 4 };
 
@@ -32,7 +17,7 @@ struct words {
     const char *name, *advice;
 };
 
-/* The refusals by their numbers. */
+/* The refusals of a stick by their numbers; what has no number here is a fault of the program. */
 static const struct words refusals[] = {
     {"unknown refusal", "This is a fault of the program. Keep the file and tell the developers."},
     [YB_CUT_SHORT] = {"field cut short",
@@ -62,12 +47,8 @@ static const struct words refusals[] = {
     [YB_AFTER_END] = {"bytes after the end",
         "Something follows the end field: a second file, or what an older one left. Ask the manager for a stick "
         "with this one season on it."},
-    [YB_DOES_NOT_FIT] = {"lists or requests do not fit",
-        "This is about a call of the library and not about the stick. Keep the file and tell the developers."},
-    [YB_ROOM_TOO_SHORT] = {"room too short",
-        "This is about a call of the library and not about the stick. Keep the file and tell the developers."},
     [YB_TOO_MANY] = {"too many bytes or steps",
-        "A stick holds at most 2,097,152 bytes and 65,535 steps. Ask the manager to divide the season, with a stick "
+        "A stick holds at most 65,535 steps. Ask the manager to divide the season, with a stick "
         "for each part."},
 };
 
@@ -108,32 +89,10 @@ static const struct words bad_weather = {"reading not usable",
     "The irradiance or the temperature is no number or is beyond 100,000, or the irradiance is below 0. Ask the "
     "manager for the weather of @, and have it entered again or left out; without it the step has no sun."};
 
-/* What stands before a place: how many units and inverters, how many curves right before it, and the last tag, which
-** is 0 where nothing does.
-*/
-struct before {
-    unsigned units, inverters, curves;
-    uint8_t last;
-};
-
-/* All fields before the place of a refusal are good. */
-static struct before fields_before(const struct stick *stick)
-{
-    struct before before = {0, 0, 0, 0};
-    uint64_t place = stick->place;
-    for (uint64_t at = 0; at < place && place - at >= HEADER; at += HEADER + said_length(stick, at)) {
-        before.last = stick->bytes[at];
-        before.units += before.last == UNIT_TAG;
-        before.inverters += before.last == INVERTER_TAG;
-        before.curves = before.last == CURVE_TAG ? before.curves + 1 : 0;
-    }
-    return before;
-}
-
 /* The tag of the refused field; 0 where its tag and length are not there. */
 static uint8_t refused_tag(const struct stick *stick)
 {
-    return stick->place < stick->len && stick->len - stick->place >= HEADER ? stick->bytes[stick->place] : 0;
+    return refused_len(stick) >= HEADER ? *refused_bytes(stick) : 0;
 }
 
 static int has_steps_before(const struct before *before)
@@ -158,7 +117,7 @@ static unsigned unit_length(const struct stick *stick)
 /* The unit's length is not its own; it may be that of another edition. */
 static const struct words *unit_length_words(const struct stick *stick)
 {
-    unsigned said = said_length(stick, stick->place);
+    unsigned said = said_length(stick);
     if (edition_of(stick) == 0)
         return &no_fleet;
     return said == UNIT_BYTES || said == LIMITED_UNIT_BYTES ? &other_edition : &no_unit_length;
@@ -167,7 +126,7 @@ static const struct words *unit_length_words(const struct stick *stick)
 /* Where the unit has limits, and they are there. */
 static int has_limits(const struct stick *stick)
 {
-    return edition_of(stick) >= LIMITS_EDITION && stick->len - stick->place >= HEADER + LIMITED_UNIT_BYTES;
+    return edition_of(stick) >= LIMITS_EDITION && refused_len(stick) >= HEADER + LIMITED_UNIT_BYTES;
 }
 
 static const struct words *range_words(const struct stick *stick, uint8_t tag)
@@ -186,17 +145,19 @@ static const struct words *range_words(const struct stick *stick, uint8_t tag)
     }
 }
 
-static const struct words *words_of(const struct stick *stick, const struct before *before)
+static const struct words *words_of(const struct stick *stick)
 {
     uint8_t tag = refused_tag(stick);
     uint32_t number = stick->number < sizeof refusals / sizeof refusals[0] ? stick->number : 0;
     if (number == YB_OUT_OF_ORDER)
-        return order_words(tag, before);
+        return order_words(tag, &stick->before);
     if (number == YB_WRONG_LENGTH && tag == UNIT_TAG)
         return unit_length_words(stick);
     if (number == YB_OUT_OF_RANGE)
         return range_words(stick, tag);
-    return number == YB_NOT_USABLE && tag == WEATHER_TAG ? &bad_weather : &refusals[number];
+    if (number == YB_NOT_USABLE && tag == WEATHER_TAG)
+        return &bad_weather;
+    return refusals[number].name != NULL ? &refusals[number] : &refusals[0];
 }
 
 /* The unit or the inverter of a number, counted from the first. */
@@ -318,32 +279,30 @@ static uint64_t marked_number(char mark, const struct stick *stick)
     case '~':
         return edition_of(stick);
     case '%':
-        return said_length(stick, stick->place);
+        return said_length(stick);
     case '&':
         return unit_length(stick);
     default:
-        return number_at(stick->bytes + stick->place + HEADER + UNIT_S, UNIT_S_WIDTH);
+        return number_at(refused_bytes(stick) + HEADER + UNIT_S, UNIT_S_WIDTH);
     }
 }
 
 const char *refusal_name(const struct stick *stick)
 {
-    struct before before = fields_before(stick);
-    return words_of(stick, &before)->name;
+    return words_of(stick)->name;
 }
 
 void print_advice(const struct stick *stick)
 {
-    struct before before = fields_before(stick);
     uint8_t tag = refused_tag(stick);
     printf("    ");
-    for (const char *at = words_of(stick, &before)->advice; *at != '\0'; at++)
+    for (const char *at = words_of(stick)->advice; *at != '\0'; at++)
         switch (*at) {
         case '#':
-            print_field(tag, &before);
+            print_field(tag, &stick->before);
             break;
         case '!':
-            print_due(tag, &before);
+            print_due(tag, &stick->before);
             break;
         case '@':
             print_row(stick->steps);

@@ -1,4 +1,4 @@
-/* A result file as table and summary read it: the run's bytes, once the file was found to be just these. */
+/* A result file as table and summary read it: the run's records, once the file was found to be just these. */
 #ifndef IMPORT_RESULT_H
 #define IMPORT_RESULT_H
 
@@ -50,19 +50,25 @@ struct solar {
     uint64_t dc;
 };
 
+/* import_result.c */
+
 /* The bytes of all records of one step. */
-size_t step_bytes(const struct run *run);
+size_t step_bytes(unsigned units, unsigned inverters);
 
-/* Check a run file, run it, and compare a result file with what that gives. Where it is COMPLETE the run is to be
-** freed; anything else is told, and nothing of the result is to be shown.
-*/
-int open_result(struct stick *stick, struct run *run, const char *file, const char *result);
-
+/* What is said of a step that is among those of a run; and whether all of them can be shown, which always is so. */
 struct record record_at(const struct run *run, uint32_t step, unsigned unit);
 struct solar solar_at(const struct run *run, uint32_t step, unsigned inverter);
+int can_be_shown(const struct run *run);
 
 /* Watts as kW with all of their three decimals, in a text of at most 24 bytes. */
 enum { KW_TEXT = 24 };
 void kw_text(char *text, int64_t watts);
+
+/* import_beside.c */
+
+/* Run a file, and compare a result file with what that gives. Where it is COMPLETE the stick is kept, to be run again
+** for what is to be shown, and is to be freed; anything else is told, and nothing of the result is to be shown.
+*/
+int open_result(struct stick *stick, const char *file, const char *result);
 
 #endif

@@ -26,7 +26,7 @@ static void see_energy(struct roof_line *line, const struct solar *s, uint32_t s
 void see_roof(struct roof_line *lines, const struct run *run, uint32_t seconds)
 {
     struct roof_line *roof = &lines[run->inverters];
-    for (uint32_t step = 0; step < run->steps; step++) {
+    for (uint32_t step = run->first; step < run->first + run->steps; step++) {
         int64_t watts = 0;
         int on = 0;
         for (unsigned i = 0; i < run->inverters; i++) {
@@ -55,15 +55,15 @@ static void line_texts(row cells, const struct roof_line *line)
     energy_texts(cells[7], cells[8], line->unused);
 }
 
-void print_roof(const struct roof_line *lines, const struct run *run)
+void print_roof(const struct roof_line *lines, const struct stick *stick)
 {
     static const char *const heading[ROOF_COLUMNS] = {"inverter", "out_kW", "at_step", "out_J", "out_kWh", "on_s",
         "on_h", "unused_J", "unused_kWh"};
     static row rows[ROWS];
-    begin_rows(rows, heading, ROOF_COLUMNS, run->inverters);
-    for (unsigned i = 0; i <= run->inverters; i++)
+    begin_rows(rows, heading, ROOF_COLUMNS, stick->inverters);
+    for (unsigned i = 0; i <= stick->inverters; i++)
         line_texts(rows[i + 1], &lines[i]);
-    strcpy(rows[run->inverters + 1][0], "roof");
+    strcpy(rows[stick->inverters + 1][0], "roof");
     putchar('\n');
-    print_rows(rows, run->inverters + 2, ROOF_COLUMNS);
+    print_rows(rows, stick->inverters + 2, ROOF_COLUMNS);
 }

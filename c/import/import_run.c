@@ -1,4 +1,4 @@
-/* import run: a stick to its result file. */
+/* import run: a stick to its result file, which is written as the run goes on. */
 #define _XOPEN_SOURCE 700 /* for lstat and realpath */
 #include <errno.h>
 #include <stdlib.h>
@@ -6,31 +6,16 @@
 #include <sys/stat.h>
 #include <unistd.h>
 
-#include "import_result.h"
-#include "yesbrulka.h"
-
-int make_run(struct run *run, const struct stick *stick)
-{
-    run->units = stick->units;
-    run->inverters = stick->inverters;
-    run->steps = stick->steps;
-    uint64_t room = yb_run_room(stick->bytes, stick->len);
-    if (room != (uint64_t)step_bytes(run) * run->steps + RESULT_END_BYTES)
-        return fault(stick->name);
-    run->len = (size_t)room;
-    run->bytes = calloc(1, run->len);
-    if (run->bytes == NULL)
-        return failed(stick->name, "no memory for its result; ", "close other programs and call again");
-    if (yb_run(stick->bytes, stick->len, run->bytes, run->len) != 0) {
-        free(run->bytes);
-        return fault(stick->name);
-    }
-    return COMPLETE;
-}
+#include "import.h"
 
 static int is_same(const struct stat *one, const struct stat *other)
 {
     return one->st_dev == other->st_dev && one->st_ino == other->st_ino;
+}
+
+static int stat_input(const char *name, struct stat *there)
+{
+    return is_standard_input(name) ? fstat(STDIN_FILENO, there) : stat(name, there);
 }
 
 /* Why something that is there cannot be replaced by a result, or NULL. */
@@ -39,7 +24,7 @@ static const char *not_replaceable(const char *file, const char *result, const s
     struct stat other;
     if (S_ISDIR(there->st_mode))
         return "it is a folder; give the name of a file in it";
-    if (stat(file, &other) == 0 && is_same(there, &other))
+    if (stat_input(file, &other) == 0 && is_same(there, &other))
         return "it is FILE itself; give RESULT another name";
     if (!S_ISREG(there->st_mode))
         return "it is a device or a pipe, and cannot be replaced whole; give RESULT the name of a file";
@@ -58,6 +43,8 @@ static const char *no_target(const char *file, const char *result)
     size_t len = strlen(result);
     if (len == 0)
         return "it is no name; give RESULT the name of a file";
+    if (strcmp(result, "-") == 0)
+        return "standard output cannot be replaced whole; give RESULT the name of a file";
     if (stat(result, &there) == 0)
         return not_replaceable(file, result, &there);
     if (lstat(result, &there) == 0 && S_ISLNK(there.st_mode))
@@ -67,35 +54,42 @@ static const char *no_target(const char *file, const char *result)
     return NULL;
 }
 
-/* A link stays, and what it leads to is replaced. */
-static int write_result(const char *result, const struct run *run)
+/* A link stays, and what it leads to is replaced. Gives a name to be freed, or NULL. */
+static char *target_of(const char *result)
 {
     struct stat there;
-    if (lstat(result, &there) != 0 || !S_ISLNK(there.st_mode))
-        return write_whole(result, run->bytes, run->len);
-    char *target = realpath(result, NULL);
-    if (target == NULL)
-        return failed(result, "cannot be written: ", strerror(errno));
-    int outcome = write_whole(target, run->bytes, run->len);
-    free(target);
+    int is_link = lstat(result, &there) == 0 && S_ISLNK(there.st_mode);
+    return is_link ? realpath(result, NULL) : strdup(result);
+}
+
+static void write_records(void *to, const struct run *run)
+{
+    write_more(to, run->bytes, run->len);
+}
+
+/* The line is out before the file gets its name: where it cannot be, RESULT is as it was. */
+static int run_into(const char *file, const char *target)
+{
+    struct stick stick = {.name = file};
+    struct whole whole;
+    struct taker taker = {write_records, &whole};
+    begin_whole(&whole, target);
+    int outcome = ask_complete(&stick, &taker, "no result is written");
+    if (outcome == COMPLETE) {
+        print_answer(&stick);
+        outcome = fflush(stdout) == 0 ? end_whole(&whole) : FAILED;
+    }
+    drop_whole(&whole);
     return outcome;
 }
 
-/* The line is out before anything is written: where it cannot be, RESULT is as it was. */
 int run_command(const char *file, const char *result)
 {
-    struct stick stick;
-    struct run run;
     const char *why = no_target(file, result);
-    if (why != NULL)
-        return failed(result, "cannot be written: ", why);
-    int outcome = ask_complete(&stick, file, "no result is written");
-    if (outcome != COMPLETE)
-        return outcome;
-    if (make_run(&run, &stick) != COMPLETE)
-        return FAILED;
-    print_answer(&stick, 0);
-    outcome = fflush(stdout) == 0 ? write_result(result, &run) : FAILED;
-    free(run.bytes);
+    char *target = why == NULL ? target_of(result) : NULL;
+    if (target == NULL)
+        return failed(result, "cannot be written: ", why != NULL ? why : strerror(errno));
+    int outcome = run_into(file, target);
+    free(target);
     return outcome;
 }

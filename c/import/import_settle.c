@@ -35,7 +35,7 @@ static uint32_t make_study(struct study *study, const struct stick *stick, int64
     /* A budget that 32 bits do not hold is as much outside its range as 0 is. */
     uint32_t passes = budget < 0 || budget > UINT32_MAX ? 0 : (uint32_t)budget;
     study->units = stick->units;
-    return yb_study(stick->bytes, stick->len, load, passes, study->requests, study->units, &study->settled,
+    return yb_study(stick->head, stick->head_len, load, passes, study->requests, study->units, &study->settled,
         &study->passes);
 }
 
@@ -88,14 +88,14 @@ static void print_study(const struct study *study, const char *name, int64_t loa
 
 int settle_command(const char *file, const char *load_word, const char *budget_word)
 {
-    struct stick stick;
+    struct stick stick = {.name = file};
     struct study study;
     int64_t load, budget;
     if (!whole_number(load_word, &load))
         return failed(load_word, "LOAD is no whole number; ", "give it in watts, such as 150000");
     if (!whole_number(budget_word, &budget))
         return failed(budget_word, "BUDGET is no whole number; ", "give the most passes, such as 100");
-    int outcome = ask_complete(&stick, file, "no study is made");
+    int outcome = ask_complete(&stick, NULL, "no study is made");
     if (outcome != COMPLETE)
         return outcome;
     uint32_t number = make_study(&study, &stick, load, budget);

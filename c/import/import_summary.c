@@ -2,7 +2,6 @@
 ** units have var limits, a line of these for each; and a line for each inverter and one for the roof.
 */
 #include <inttypes.h>
-#include <stdlib.h>
 #include <string.h>
 
 #include "import_summary.h"
@@ -58,11 +57,11 @@ static void see_energy(struct line *line, const struct record *r, uint32_t secon
     line->lost += r->loss;
 }
 
-/* The lines of the units and, after them, the fleet's. */
-static void see_run(struct line *lines, const struct run *run, uint32_t seconds)
+/* What a part of the run adds to the lines of the units and, after them, the fleet's. */
+static void see_fleet(struct line *lines, const struct run *run, uint32_t seconds)
 {
     struct line *fleet = &lines[run->units];
-    for (uint32_t step = 0; step < run->steps; step++) {
+    for (uint32_t step = run->first; step < run->first + run->steps; step++) {
         int64_t request = 0, watts = 0;
         uint64_t stored = 0;
         int met = 1;
@@ -104,16 +103,16 @@ static void line_texts(row cells, const struct line *line, uint32_t steps)
     snprintf(cells[12], CELL, "%" PRIu32, line->not_met);
 }
 
-static void print_lines(const struct line *lines, const struct run *run)
+static void print_lines(const struct line *lines, const struct stick *stick)
 {
     static const char *const heading[COLUMNS] = {"unit", "request_W", "out_kW", "in_kW", "out_J", "out_kWh", "in_J",
         "in_kWh", "loss_J", "loss_kWh", "low_J", "at_step", "not_met"};
     static row rows[ROWS];
-    begin_rows(rows, heading, COLUMNS, run->units);
-    for (unsigned i = 0; i <= run->units; i++)
-        line_texts(rows[i + 1], &lines[i], run->steps);
-    strcpy(rows[run->units + 1][0], "fleet");
-    print_rows(rows, run->units + 2, COLUMNS);
+    begin_rows(rows, heading, COLUMNS, stick->units);
+    for (unsigned i = 0; i <= stick->units; i++)
+        line_texts(rows[i + 1], &lines[i], stick->steps);
+    strcpy(rows[stick->units + 1][0], "fleet");
+    print_rows(rows, stick->units + 2, COLUMNS);
 }
 
 /* A plan of the older model is told from others, for its power and energy are not to be read beside theirs. */
@@ -132,35 +131,51 @@ static void print_settings(const struct stick *stick, uint32_t seconds, const st
         (unsigned)settings->factor, edition_of(stick) == OLDER_MODEL_EDITION ? older : "");
 }
 
+/* All lines, and the seconds of a step. */
+struct summary {
+    uint32_t seconds;
+    struct line lines[YB_MOST_UNITS + 1];
+    struct var_line vars[YB_MOST_UNITS];
+    struct roof_line roof[YB_MOST_INVERTERS + 1];
+};
+
+static void see_run(void *to, const struct run *run)
+{
+    struct summary *summary = to;
+    see_fleet(summary->lines, run, summary->seconds);
+    see_vars(summary->vars, run);
+    see_roof(summary->roof, run, summary->seconds);
+}
+
+static void print_summary(const struct summary *summary, const struct stick *stick, const struct settings *settings)
+{
+    print_answer(stick);
+    print_settings(stick, summary->seconds, settings);
+    print_lines(summary->lines, stick);
+    if (edition_of(stick) >= LIMITS_EDITION)
+        print_vars(summary->vars, stick);
+    if (stick->inverters != 0)
+        print_roof(summary->roof, stick);
+}
+
 int summary_command(const char *file, const char *result)
 {
-    static struct line lines[YB_MOST_UNITS + 1];
-    static struct var_line vars[YB_MOST_UNITS];
-    static struct roof_line roof[YB_MOST_INVERTERS + 1];
+    static struct summary summary;
+    struct taker taker = {see_run, &summary};
     struct stick stick;
-    struct run run;
     struct settings settings;
-    int outcome = open_result(&stick, &run, file, result);
+    int outcome = open_result(&stick, file, result);
     if (outcome != COMPLETE)
         return outcome;
-    uint32_t seconds = yb_seconds(stick.bytes, stick.len);
-    int has_limits = edition_of(&stick) >= LIMITS_EDITION;
-    outcome = seconds != 0 ? ask_settings(&settings, &stick) : fault(file);
-    if (outcome == COMPLETE && has_limits)
-        outcome = ask_vars(vars, &stick);
-    take_grid_losses(lines, vars, &stick);
-    see_run(lines, &run, seconds);
-    see_vars(vars, &run);
-    see_roof(roof, &run, seconds);
-    free(run.bytes);
-    if (outcome != COMPLETE)
-        return outcome;
-    print_answer(&stick, 0);
-    print_settings(&stick, seconds, &settings);
-    print_lines(lines, &run);
-    if (has_limits)
-        print_vars(vars, &run);
-    if (run.inverters != 0)
-        print_roof(roof, &run);
-    return COMPLETE;
+    summary.seconds = yb_seconds(stick.head, stick.head_len);
+    outcome = summary.seconds != 0 ? ask_settings(&settings, &stick) : fault(file);
+    if (outcome == COMPLETE && edition_of(&stick) >= LIMITS_EDITION)
+        outcome = ask_vars(summary.vars, &stick);
+    take_grid_losses(summary.lines, summary.vars, &stick);
+    if (outcome == COMPLETE)
+        outcome = feed_again(&stick, &taker);
+    free_kept(&stick);
+    if (outcome == COMPLETE)
+        print_summary(&summary, &stick, &settings);
+    return outcome;
 }

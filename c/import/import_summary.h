@@ -36,10 +36,10 @@ struct var_line {
     int64_t out, in;
 };
 
-/* The lines as the run has them; what the stick says, which gives COMPLETE, or FAILED and is told; and their print. */
-void see_vars(struct var_line *lines, const struct run *run);
+/* What the stick says, which gives COMPLETE, or FAILED and is told; what a part of the run adds; and their print. */
 int ask_vars(struct var_line *lines, const struct stick *stick);
-void print_vars(const struct var_line *lines, const struct run *run);
+void see_vars(struct var_line *lines, const struct run *run);
+void print_vars(const struct var_line *lines, const struct stick *stick);
 
 /* import_roof.c */
 
@@ -53,8 +53,8 @@ struct roof_line {
     uint64_t on;
 };
 
-/* The lines of the inverters and, after them, the roof's; and their print. */
+/* What a part of the run adds to the lines of the inverters and, after them, the roof's; and their print. */
 void see_roof(struct roof_line *lines, const struct run *run, uint32_t seconds);
-void print_roof(const struct roof_line *lines, const struct run *run);
+void print_roof(const struct roof_line *lines, const struct stick *stick);
 
 #endif

@@ -8,7 +8,7 @@ enum { VAR_COLUMNS = 7 };
 
 void see_vars(struct var_line *lines, const struct run *run)
 {
-    for (uint32_t step = 0; step < run->steps; step++)
+    for (uint32_t step = run->first; step < run->first + run->steps; step++)
         for (unsigned unit = 0; unit < run->units; unit++) {
             int64_t vars = record_at(run, step, unit).vars;
             if (vars > lines[unit].out)
@@ -39,14 +39,14 @@ static void line_texts(row cells, const struct var_line *line)
     snprintf(cells[6], CELL, "%" PRId64, line->in);
 }
 
-void print_vars(const struct var_line *lines, const struct run *run)
+void print_vars(const struct var_line *lines, const struct stick *stick)
 {
     static const char *const heading[VAR_COLUMNS] = {"unit", "S_VA", "request_var", "provide_var", "absorb_var",
         "out_var", "in_var"};
     static row rows[ROWS];
-    begin_rows(rows, heading, VAR_COLUMNS, run->units);
-    for (unsigned i = 0; i < run->units; i++)
+    begin_rows(rows, heading, VAR_COLUMNS, stick->units);
+    for (unsigned i = 0; i < stick->units; i++)
         line_texts(rows[i + 1], &lines[i]);
     putchar('\n');
-    print_rows(rows, run->units + 1, VAR_COLUMNS);
+    print_rows(rows, stick->units + 1, VAR_COLUMNS);
 }

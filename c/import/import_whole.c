@@ -1,6 +1,6 @@
-/* Writing a file whole or not at all: the bytes go to an unfinished file in the same folder, and only when the
-** disk has them does that take the name. What had the name before stays until then. On a failure, and where a
-** signal ends the program, the unfinished file is removed.
+/* Writing a file whole or not at all: the bytes go to an unfinished file in the same folder as they come, and only
+** when the disk has all of them does that take the name. What had the name before stays until then. On a failure, and
+** where a signal ends the program, the unfinished file is removed.
 */
 #define _POSIX_C_SOURCE 200809L /* for openat, fsync and sigaction */
 #include <errno.h>
@@ -13,22 +13,23 @@
 
 #include "import.h"
 
-/* The signals that end a program from outside. */
-static const int endings[] = {SIGINT, SIGTERM, SIGHUP, SIGQUIT};
+/* The signals that end a program from outside, one of them where nobody reads its lines any more. */
+static const int endings[] = {SIGINT, SIGTERM, SIGHUP, SIGQUIT, SIGPIPE};
 enum { ENDINGS = sizeof endings / sizeof endings[0] };
 
 /* The unfinished file, for the handler; there is one as long as is_unfinished is not 0. */
 static char unfinished[64];
-static int folder;
+static int folder = -1;
 static volatile sig_atomic_t is_unfinished;
 
 /* Ends the program as the signal would have: its action is the usual one again, and it comes when this returns. */
 static void interrupted(int number)
 {
-    static const char said[] = "import: interrupted; nothing under the name of RESULT has changed\n";
+    static const char said[] = "\rimport: interrupted; nothing under the name of RESULT has changed\n";
     if (is_unfinished) {
         unlinkat(folder, unfinished, 0);
-        ssize_t told = write(STDERR_FILENO, said, sizeof said - 1);
+        int from = has_progress() ? 0 : 1; /* the line is longer than one of progress, and goes over it */
+        ssize_t told = write(STDERR_FILENO, said + from, sizeof said - 1 - (size_t)from);
         (void)told;
     }
     raise(number);
@@ -111,23 +112,12 @@ static int write_all(int to, const uint8_t *bytes, size_t len)
     return 0;
 }
 
-/* The bytes on the disk, in the unfinished file, which is then closed whatever happened. */
-static int fill_unfinished(int to, const char *last, const uint8_t *bytes, size_t len)
-{
-    int done = keep_mode(to, last) == 0 && write_all(to, bytes, len) == 0 && fsync(to) == 0;
-    int why = errno;
-    if (close(to) != 0 && done)
-        return -1;
-    errno = why;
-    return done ? 0 : -1;
-}
-
-/* Gives the unfinished file its name where it was filled, and removes it where it was not. */
-static int finish(int filled, const char *last)
+/* Gives the unfinished file its name if it is good, and else removes it. Gives 0, or -1. */
+static int settle_name(int is_good, const char *last)
 {
     sigset_t before;
     hold_signals(&before);
-    int done = filled == 0 && renameat(folder, unfinished, folder, last) == 0;
+    int done = is_good && renameat(folder, unfinished, folder, last) == 0;
     int why = errno;
     if (!done)
         unlinkat(folder, unfinished, 0);
@@ -137,9 +127,9 @@ static int finish(int filled, const char *last)
     return done ? 0 : -1;
 }
 
-static int unwritten(const char *name)
+static int unwritten(const char *name, int error)
 {
-    const char *why = errno == ENOENT ? "there is no such folder" : strerror(errno);
+    const char *why = error == ENOENT ? "there is no such folder" : strerror(error);
     failed(name, "cannot be written: ", why);
     fprintf(stderr, "    Nothing under that name has changed. Make room or give RESULT another name, and call again.\n");
     return FAILED;
@@ -153,16 +143,56 @@ static int keep_name(const char *name)
     return failed(name, "written, but the disk did not confirm its name; call again: ", strerror(errno));
 }
 
-int write_whole(const char *name, const uint8_t *bytes, size_t len)
+void begin_whole(struct whole *whole, const char *name)
 {
-    const char *last;
+    *whole = (struct whole){.name = name, .to = -1};
+}
+
+void drop_whole(struct whole *whole)
+{
+    if (whole->to >= 0) {
+        close(whole->to);
+        settle_name(0, whole->last);
+    }
+    if (folder >= 0)
+        close(folder);
+    whole->to = folder = -1;
+}
+
+/* What goes wrong is told at the end: only then is it known whether there was to be a file at all. */
+static void give_up(struct whole *whole)
+{
+    whole->why = errno != 0 ? errno : EIO;
+    drop_whole(whole);
+}
+
+static void open_whole(struct whole *whole)
+{
     watch_signals();
-    folder = open_folder(name, &last);
-    if (folder < 0)
-        return unwritten(name);
-    int to = open_unfinished();
-    int written = to >= 0 && finish(fill_unfinished(to, last, bytes, len), last) == 0;
-    int outcome = written ? keep_name(name) : unwritten(name);
+    folder = open_folder(whole->name, &whole->last);
+    whole->to = folder < 0 ? -1 : open_unfinished();
+    if (whole->to < 0 || keep_mode(whole->to, whole->last) != 0)
+        give_up(whole);
+}
+
+void write_more(struct whole *whole, const uint8_t *bytes, size_t len)
+{
+    if (whole->why == 0 && whole->to < 0)
+        open_whole(whole);
+    if (whole->why == 0 && write_all(whole->to, bytes, len) != 0)
+        give_up(whole);
+}
+
+/* The disk has the bytes before they have the name. */
+int end_whole(struct whole *whole)
+{
+    if (whole->why == 0 && fsync(whole->to) != 0)
+        give_up(whole);
+    if (whole->why != 0)
+        return unwritten(whole->name, whole->why);
+    int is_good = close(whole->to) == 0;
+    int outcome = settle_name(is_good, whole->last) == 0 ? keep_name(whole->name) : unwritten(whole->name, errno);
     close(folder);
+    whole->to = folder = -1;
     return outcome;
 }

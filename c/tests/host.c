@@ -123,7 +123,7 @@ enum { FIRST = LISTS, SECOND, THIRD, FOURTH, FIFTH, TWELFTH = FIRST + 11, ALL_LE
 
 static const size_t widths[LISTS] = {8, 8, 8, 4, 2, 4};
 static struct lent lent[ALL_LENT];
-static struct lent lent_file, lent_room;
+static struct lent lent_file, lent_room, lent_state;
 
 /* Memory of a length between guards; what it holds is still to be filled in and then kept. */
 static uint8_t *between_guards(struct lent *lent, size_t length)
@@ -546,6 +546,133 @@ static void call_run(const uint8_t *payload, size_t length)
     }
 }
 
+/* The state that a row of calls begins with: its length u32, a fill u8, the number of its pieces u32, and of each piece
+** its place and its length, u32, and its bytes. What is in no piece is the fill.
+*/
+static void take_state(struct rest *rest)
+{
+    uint64_t length = take_number(rest, 4);
+    int fill = (int)take_number(rest, 1);
+    uint64_t pieces = take_number(rest, 4);
+    if (length > MOST_ROOM)
+        give_up("op E: a state is too long");
+    uint8_t *state = between_guards(&lent_state, length);
+    memset(state, fill, length);
+    while (pieces-- > 0) {
+        uint64_t place = take_number(rest, 4), bytes = take_number(rest, 4);
+        if (place > length || bytes > length - place)
+            give_up("op E: a piece of a state lies outside it");
+        memcpy(state + place, take(rest, bytes), bytes);
+    }
+    keep(&lent_state);
+}
+
+/* A number that stands for bytes, taken eight at a time with 0 past their end: where one eight is another, so is the
+** number.
+*/
+static uint64_t hash_of(const uint8_t *bytes, size_t length)
+{
+    uint64_t hash = length;
+    for (size_t at = 0; at < length; at += 8) {
+        uint64_t eight = 0;
+        if (length - at >= 8)
+            memcpy(&eight, bytes + at, 8);
+        else
+            memcpy(&eight, bytes + at, length - at);
+        hash = (hash ^ eight) * UINT64_C(0x9E3779B97F4A7C15);
+        hash ^= hash >> 29;
+    }
+    return hash;
+}
+
+/* The calls of a fed run, and what is asked beside one: yb_feed_room before it; after it yb_feed_place and
+** yb_feed_steps, the state's hash, and the state.
+*/
+enum { FEED_START, FEED, FEED_END };
+enum { ASK_ROOM = 1, ASK_PLACE = 2, ASK_HASH = 4, ASK_STATE = 8 };
+
+/* Makes the call itself. */
+static uint32_t call_feed_kind(uint8_t kind, uint8_t *room, uint64_t *written)
+{
+    uint8_t *state = lent_state.memory + GUARD;
+    const uint8_t *chunk = lent_file.memory + GUARD;
+    switch (kind) {
+    case FEED_START:
+        return yb_feed_start(state, lent_state.length);
+    case FEED:
+        return yb_feed(state, lent_state.length, chunk, lent_file.length, room, lent_room.length, written);
+    case FEED_END:
+        return yb_feed_end(state, lent_state.length, room, lent_room.length, written);
+    default:
+        give_up("op E: no such call");
+    }
+}
+
+/* 1 if a byte of the room past the first so many, or a guard of it, is other than before the call. */
+static int room_disturbed(size_t used)
+{
+    size_t past = GUARD + used;
+    return disturbed_one(&lent_room, 0)
+        || memcmp(lent_room.memory + past, lent_room.copy + past, lent_room.length - used) != 0;
+}
+
+/* One call over the state that stands, and what it left. What is only asked may change nothing of the state. */
+static void call_feed_once(struct rest *rest)
+{
+    uint8_t kind = (uint8_t)take_number(rest, 1);
+    uint8_t asks = (uint8_t)take_number(rest, 1);
+    uint64_t room_len = take_number(rest, 4);
+    uint8_t fill = (uint8_t)take_number(rest, 1);
+    if (room_len > MOST_ROOM)
+        give_up("op E: a room is too long");
+    const uint8_t *chunk = take_file(rest);
+    uint8_t *room = lend_room(room_len, fill), *state = lent_state.memory + GUARD;
+    uint64_t *written = lend_number(&lent[FIRST], sizeof *written);
+    int changed = 0;
+    if (asks & ASK_ROOM) {
+        keep(&lent_state);
+        put(yb_feed_room(state, lent_state.length, chunk, lent_file.length), 8);
+        changed |= disturbed_one(&lent_state, 1);
+    }
+    uint32_t number = call_feed_kind(kind, room, written);
+    size_t used = number != 0 || kind == FEED_START ? 0 : *written < room_len ? *written : room_len;
+    changed |= disturbed_one(&lent_state, 0) || disturbed_one(&lent_file, 1) || disturbed_one(&lent[FIRST], 0)
+        || room_disturbed(used);
+    put(number, 4);
+    put(*written, 8);
+    if (asks & ASK_PLACE) {
+        keep(&lent_state);
+        put(yb_feed_place(state, lent_state.length), 8);
+        put(yb_feed_steps(state, lent_state.length), 4);
+        changed |= disturbed_one(&lent_state, 1);
+    }
+    if (asks & ASK_HASH)
+        put(hash_of(state, lent_state.length), 8);
+    if (asks & ASK_STATE)
+        put_bytes(state, lent_state.length);
+    put((uint64_t)changed, 1);
+    put(used, 4);
+    put_bytes(room, used);
+}
+
+/* 'E': any number of rows of calls that feed a run. Each is a state, the number of the calls u32, and the calls: which
+** one u8, what is asked u8, the room's length u32, its fill u8, and the chunk, a length u32 and that many bytes; the
+** state of each is what the one before it left. For each row yb_feed_size u64; for each call the room needed u64, if it
+** is asked; the number u32; *written after the call u64; place u64 and steps u32, if they are asked; the hash u64 and
+** the state, if they are asked; 1 if the chunk, a guard, the room behind what was written or, by what was asked, the
+** state was written, u8; the number of bytes written u32, and these.
+*/
+static void call_feed(const uint8_t *payload, size_t length)
+{
+    struct rest rest = {payload, length, "op E: the payload is no row of fed runs"};
+    while (rest.length != 0) {
+        take_state(&rest);
+        put(yb_feed_size(), 8);
+        for (uint64_t calls = take_number(&rest, 4); calls-- > 0;)
+            call_feed_once(&rest);
+    }
+}
+
 static const struct {
     uint8_t op;
     void (*call)(const uint8_t *payload, size_t length);
@@ -562,6 +689,7 @@ static const struct {
     {'U', call_unit},
     {'Y', call_study},
     {'R', call_run},
+    {'E', call_feed},
 };
 
 static void dispatch(uint8_t op, const uint8_t *payload, size_t length)

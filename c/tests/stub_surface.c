@@ -1,16 +1,17 @@
 /* A stand-in for the library, for the one test that builds the import tool with the compiler's sanitizers for
 ** the machine itself, where the archive may be code of another machine. It checks nothing.
 **
-** A file that begins like a run file is complete, with the units and the steps that its fleet and its last four
-** bytes say, and with as many inverters as the highest byte of its seconds says, which is no part of the seconds here;
-** its units are all alike, and its run is a row of numbers. Steps of 0 to 9 seconds are for answers that the library
-** never gives: such a step itself, a room of another size, a run that is refused, a power that is none, settings that
-** are refused, a last unit that is refused, an inverter's power that is none, one above that of its array, var limits
-** of the last unit that are refused, and a draw that is larger than that of any unit.
+** A file that begins like a run file is complete, with the units that its fleet says, with a step for each field of
+** the tags 04 and 05, and with as many inverters as the highest byte of its seconds says, which is no part of the
+** seconds here; its units are all alike, and its run is a row of numbers. Steps of 0 to 13 seconds are for answers that
+** the library never gives: such a step itself, a room of another size, a run that is refused, a power that is none,
+** settings that are refused, a last unit that is refused, an inverter's power that is none, one above that of its
+** array, var limits of the last unit that are refused, a draw that is larger than that of any unit, a room larger than
+** any, more bytes written than there is room for, a place beyond what was fed, and an end of eight bytes.
 **
 ** Any other file is read as seven decimal numbers with blanks between them, and these are the answers, in this
-** order: the check's number, place and steps, the start and the length of the value part, the units, and the inverters.
-** A number that is not there is 0.
+** order: the refusal's number, place and steps, the start and the length of the value part, the units, and the
+** inverters. A number that is not there is 0.
 */
 #include <string.h>
 
@@ -35,21 +36,6 @@ static uint32_t number_at(const uint8_t *bytes)
 static int is_stick(const uint8_t *file, size_t file_len)
 {
     return file_len >= 9 && file[0] == 0x01;
-}
-
-uint32_t yb_check(const uint8_t *file, size_t file_len)
-{
-    return is_stick(file, file_len) ? 0 : (uint32_t)canned(file, file_len, 0);
-}
-
-uint64_t yb_check_place(const uint8_t *file, size_t file_len)
-{
-    return is_stick(file, file_len) ? file_len : canned(file, file_len, 1);
-}
-
-uint32_t yb_check_steps(const uint8_t *file, size_t file_len)
-{
-    return is_stick(file, file_len) ? number_at(file + file_len - 4) : (uint32_t)canned(file, file_len, 2);
 }
 
 uint64_t yb_value_start(const uint8_t *file, size_t file_len, uint64_t place)
@@ -115,12 +101,6 @@ uint32_t yb_var_limits(const uint8_t *file, size_t file_len, uint32_t unit, uint
     return 0;
 }
 
-uint64_t yb_run_room(const uint8_t *file, size_t file_len)
-{
-    uint64_t step = UINT64_C(40) * yb_units(file, file_len) + UINT64_C(29) * yb_inverters(file, file_len);
-    return step * yb_check_steps(file, file_len) + (yb_seconds(file, file_len) == 1 ? 8 : 7);
-}
-
 /* What a unit's record and an inverter's begin with: tag, length, step and number. All other bytes are the step's
 ** number.
 */
@@ -146,34 +126,112 @@ static const char *unit_kw(uint32_t seconds)
 }
 
 /* Records whose kW are 1, and whose energies begin with 0. An inverter is on in every second step, and its array has
-** more power than it gives.
+** more power than it gives. Gives what is behind the step's.
 */
-uint32_t yb_run(const uint8_t *file, size_t file_len, uint8_t *room, size_t room_len)
+static uint8_t *put_step(uint8_t *room, uint32_t seconds, uint32_t units, uint32_t inverters, uint32_t step)
 {
-    uint32_t seconds = yb_seconds(file, file_len), units = yb_units(file, file_len);
-    uint32_t inverters = yb_inverters(file, file_len), steps = yb_check_steps(file, file_len);
+    for (uint32_t unit = 0; unit < units; unit++, room += 40) {
+        put_record(room, 0x11, 40, step, unit);
+        memcpy(room + 12, unit_kw(seconds), 8);
+        memset(room + 24, 0, 3);
+        memset(room + 32, 0, 3);
+    }
+    for (uint32_t inverter = 0; inverter < inverters; inverter++, room += 29) {
+        put_record(room, 0x12, 29, step, inverter);
+        room[8] = step % 2;
+        memcpy(room + 9, seconds == 6 ? no_kw : one_kw, 8);
+        memcpy(room + 21, "\0\0\0\1", 4);
+        if (seconds == 7)
+            memcpy(room + 21, "\0\0\0\0\0\0\x03\xE7", 8);
+    }
+    return room;
+}
+
+/* What was fed is all here, and the state is not looked at. */
+static uint8_t fed[4 << 20];
+static size_t fed_len;
+
+/* The steps among so many of its bytes. */
+static uint32_t fed_steps(size_t len)
+{
+    uint32_t steps = 0;
+    size_t field;
+    for (size_t at = 0; len - at >= 3; at += field) {
+        field = 3 + ((size_t)fed[at + 1] << 8 | fed[at + 2]);
+        if (len - at < field)
+            break;
+        steps += fed[at] == 0x04 || fed[at] == 0x05;
+    }
+    return steps;
+}
+
+uint64_t yb_feed_size(void)
+{
+    return 1;
+}
+
+uint32_t yb_feed_start(uint8_t *state, size_t state_len)
+{
+    (void)state, (void)state_len;
+    fed_len = 0;
+    return 0;
+}
+
+/* A chunk may be looked at before it is fed. */
+uint64_t yb_feed_room(const uint8_t *state, size_t state_len, const uint8_t *chunk, size_t chunk_len)
+{
+    (void)state, (void)state_len;
+    memcpy(fed + fed_len, chunk, chunk_len);
+    if (!is_stick(fed, fed_len + chunk_len))
+        return 0;
+    uint32_t seconds = yb_seconds(fed, fed_len + chunk_len);
+    uint64_t step = UINT64_C(40) * fed[4] + UINT64_C(29) * fed[5];
+    uint64_t room = step * (fed_steps(fed_len + chunk_len) - fed_steps(fed_len));
+    return seconds == 10 ? UINT64_C(1) << 62 : seconds == 1 ? room + 1 : room;
+}
+
+uint32_t yb_feed(uint8_t *state, size_t state_len, const uint8_t *chunk, size_t chunk_len, uint8_t *room,
+    size_t room_len, uint64_t *written)
+{
+    uint8_t *end = room;
+    (void)state, (void)state_len;
+    memcpy(fed + fed_len, chunk, chunk_len);
+    uint32_t step = fed_steps(fed_len), steps = fed_steps(fed_len + chunk_len);
+    fed_len += chunk_len;
+    if (!is_stick(fed, fed_len))
+        return (uint32_t)canned(fed, fed_len, 0);
+    uint32_t seconds = yb_seconds(fed, fed_len);
     if (seconds == 2)
         return 11;
-    for (uint32_t step = 0; step < steps; step++) {
-        for (uint32_t unit = 0; unit < units; unit++, room += 40) {
-            put_record(room, 0x11, 40, step, unit);
-            memcpy(room + 12, unit_kw(seconds), 8);
-            memset(room + 24, 0, 3);
-            memset(room + 32, 0, 3);
-        }
-        for (uint32_t inverter = 0; inverter < inverters; inverter++, room += 29) {
-            put_record(room, 0x12, 29, step, inverter);
-            room[8] = step % 2;
-            memcpy(room + 9, seconds == 6 ? no_kw : one_kw, 8);
-            memcpy(room + 21, "\0\0\0\1", 4);
-            if (seconds == 7)
-                memcpy(room + 21, "\0\0\0\0\0\0\x03\xE7", 8);
-        }
-    }
-    memcpy(room, "\x1F\0\4", 3);
-    memcpy(room + 3, file + file_len - 4, 4);
-    (void)room_len;
+    for (; step < steps; step++)
+        end = put_step(end, seconds, fed[4], fed[5], step);
+    *written = seconds == 11 ? (uint64_t)room_len + 1 : (uint64_t)(end - room);
     return 0;
+}
+
+uint32_t yb_feed_end(uint8_t *state, size_t state_len, uint8_t *room, size_t room_len, uint64_t *written)
+{
+    uint32_t steps = yb_feed_steps(state, state_len);
+    (void)room_len;
+    memcpy(room, "\x1F\0\4\0\0", 5);
+    room[5] = (uint8_t)(steps >> 8);
+    room[6] = (uint8_t)steps;
+    *written = is_stick(fed, fed_len) && yb_seconds(fed, fed_len) == 13 ? 8 : 7;
+    return 0;
+}
+
+uint64_t yb_feed_place(const uint8_t *state, size_t state_len)
+{
+    (void)state, (void)state_len;
+    if (!is_stick(fed, fed_len))
+        return canned(fed, fed_len, 1);
+    return fed_len + (yb_seconds(fed, fed_len) == 12);
+}
+
+uint32_t yb_feed_steps(const uint8_t *state, size_t state_len)
+{
+    (void)state, (void)state_len;
+    return is_stick(fed, fed_len) ? fed_steps(fed_len) : (uint32_t)canned(fed, fed_len, 2);
 }
 
 uint32_t yb_watts(double kw, int32_t *watts)

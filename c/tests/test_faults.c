@@ -1,6 +1,6 @@
-/* Faults for the test of the import tool's writing: linked with the linker's --wrap, these stand between the tool
-** and the system calls that write a result. The variable IMPORT_FAULTS says which of them goes wrong, and how, as a
-** list of CALL:TIME:WHAT parted by blanks: of that call's first, second.. time, counted from 1,
+/* Faults for the test of the import tool's reading and writing: linked with the linker's --wrap, these stand between
+** the tool and the calls that read a stick and write a result. The variable IMPORT_FAULTS says which of them goes
+** wrong, and how, as a list of CALL:TIME:WHAT parted by blanks: of that call's first, second.. time, counted from 1,
 **
 **     a number     it fails with that error
 **     half         it is made for half of the bytes (write)
@@ -15,6 +15,8 @@
 #include <string.h>
 #include <sys/types.h>
 
+size_t __real_fread(void *to, size_t size, size_t count, FILE *from);
+int __real_ferror(FILE *of);
 int __real_openat(int folder, const char *name, int how, ...);
 ssize_t __real_write(int to, const void *bytes, size_t len);
 int __real_fsync(int of);
@@ -46,6 +48,23 @@ static int fails(const char *call, int time)
     if (what > 0)
         errno = what;
     return what > 0;
+}
+
+/* What failed to be read stays so. */
+static FILE *unreadable;
+
+size_t __wrap_fread(void *to, size_t size, size_t count, FILE *from)
+{
+    static int time;
+    if (!fails("fread", ++time))
+        return __real_fread(to, size, count, from);
+    unreadable = from;
+    return 0;
+}
+
+int __wrap_ferror(FILE *of)
+{
+    return of == unreadable || __real_ferror(of);
 }
 
 int __wrap_openat(int folder, const char *name, int how, mode_t mode)

@@ -144,7 +144,7 @@ small_sticks() {
 }
 
 # The suites, each in a part of its own.
-for part in check run faults settle result limits older roof advice canned; do
+for part in check run faults settle result limits older roof advice feed canned; do
     # shellcheck disable=SC1090 # one of the parts beside this
     . "c/tests/test_import_$part.sh" || exit 1
 done
@@ -170,6 +170,11 @@ all_suites() {
     roof_result_suite
     other_roof_suite
     refused_roof_suite
+    feed_suite
+    refused_feed_suite
+    pipe_suite
+    feed_target_suite
+    feed_progress_suite
     rm -rf "${work:?}"/*
 }
 
@@ -178,9 +183,11 @@ small_sticks
 called='' status='' output='' error=''
 # shellcheck disable=SC2086 # YB_STATIC may be no word
 good "$YB_CC" -O2 -Wall -Wextra -Werror -std=c11 $YB_STATIC -Ic -Wl,--wrap=openat,--wrap=write,--wrap=fsync \
-    -Wl,--wrap=close,--wrap=renameat -o build/x86_64/import_faults c/import/*.c c/tests/test_faults.c "$YB_ARCHIVE"
+    -Wl,--wrap=close,--wrap=renameat,--wrap=fread,--wrap=ferror -o build/x86_64/import_faults c/import/*.c \
+    c/tests/test_faults.c "$YB_ARCHIVE"
 fault_suite
 ended_suite
+feed_fault_suite
 largest_suite
 largest_roof_suite
 all_suites
@@ -198,6 +205,7 @@ if yb_compiles gcc $sanitizers; then
     good gcc $flags -o "$import" c/import/*.c c/tests/stub_surface.c
     canned_suite
     canned_run_suite
+    canned_feed_suite
     if [ "$(uname -m)" = x86_64 ]; then
         import=build/sanitized/import
         good gcc $flags -o "$import" c/import/*.c "$YB_ARCHIVE"

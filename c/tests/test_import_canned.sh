@@ -13,10 +13,16 @@ fault="the library's answer is not about this file; keep it and tell the develop
 # What only a stand-in can answer: every number's text, and answers that are not about the file.
 canned_suite() {
     local number
-    for number in 1 2 3 4 5 6 7 8 9 10 11 12 13 4294967295; do
+    for number in 1 2 3 4 5 6 7 8 9 12 13 4294967295; do
         canned "$number" 0 7 3 4
         good like "$status $output" "1 $work/canned: refused $number (*) at byte 0 after 7 steps*"
         good lines 4
+    done
+    # Two are about a call and not about the file.
+    for number in 10 11; do
+        canned "$number" 0 7 3 4
+        good test "$status|$output|$error" = \
+            "2||import: $work/canned: $fault"$'\n''import: 1 of 1 files not checked'
     done
     canned 6 0 0 0 0
     good like "$output" '*the first row of readings,*'
@@ -34,13 +40,19 @@ canned_suite() {
         good test "$status|$output|$error" = \
             "2||import: $work/canned: $fault"$'\n''import: 1 of 1 files not checked'
     done
-    # As many bytes as are read.
-    { printf '5 2097153 7 2097153 0 ' && head -c 3000000 /dev/zero; } >"$work/canned"
+    # As many bytes as are fed at a time, and as many as the longest field can have behind them.
+    { printf '5 65536 7 131074 0 ' && head -c 3000000 /dev/zero; } >"$work/canned"
     call show "$work/canned"
-    good like "$status $output" '1 *: the file ends before it.'
-    { printf '3 0 7 3 2097150 ' && head -c 3000000 /dev/zero; } >"$work/canned"
+    good like "$status $output" '1 *: its length is 0.'
+    { printf '3 0 7 3 65535 ' && head -c 3000000 /dev/zero; } >"$work/canned"
     call show "$work/canned"
-    good test "$status|$(wc -l <"$work/output")" = '1|131075'
+    good test "$status|$(wc -l <"$work/output")" = '1|4099'
+    for answers in '5 65537 7 65537 0 ' '5 65536 7 131075 0 ' '3 0 7 3 65536 '; do
+        { printf '%s' "$answers" && head -c 3000000 /dev/zero; } >"$work/canned"
+        call show "$work/canned"
+        good test "$status|$output|$error" = \
+            "2||import: $work/canned: $fault"$'\n''import: 1 of 1 files not checked'
+    done
     : >"$work/canned"
     check 0 "$work/canned: complete, 0 steps" '' check "$work/canned"
     check 2 '' 'import: examples: cannot be read: it is a folder'$'\n''import: 1 of 1 files not checked' \
@@ -127,9 +139,10 @@ $line" '' summary "$stick" "$result"
         done
     done
     patch "$stick" 3 01
-    # A room of another size, a run that is refused, powers that are none, one above that of its array, and a draw that
-    # is too large.
-    for line in '1 run' '2 run' '3 table' '6 table' '7 table' '9 table' '6 summary' '7 summary' '9 summary'; do
+    # A room of another size, a run that is refused, powers that are none, one above that of its array, a draw that is
+    # too large, a room and a number of bytes that are, a place that is none, and an end that is too long.
+    for line in '1 run' '2 run' '3 table' '6 table' '7 table' '9 table' '6 summary' '7 summary' '9 summary' 'A run' \
+        'B run' 'C run' 'D run'; do
         patch "$stick" 5 "0200000${line% *}"
         echo old >"$work/target"
         if [ "${line#* }" = run ]; then
@@ -139,6 +152,7 @@ $line" '' summary "$stick" "$result"
             call "${line#* }" "$stick" "$result"
         fi
         good test "$status|$output|$error|$(cat "$work/target")" = "2||import: $stick: $fault|old"
+        good test "$(find "$work" -name '.import-unfinished-*')" = ''
     done
     cp examples/season.stick "$stick"
     # Answers that the library never gives.
@@ -178,4 +192,29 @@ $line" '' summary "$stick" "$result"
             good test "$status|$output|$error" = "2||import: $stick: $fault"
         done
     done
+}
+
+# A stick of many chunks over the stand-in.
+canned_feed_suite() {
+    long_stick
+    check 0 "$work/long: complete, 65535 steps" '' run "$work/long" "$work/long.result"
+    good test "$(wc -c <"$work/long.result")" = $((40 * 65535 + 7))
+    call table "$work/long" "$work/long.result"
+    good test "$status|$error|$(wc -l <"$work/output")|$(tail -n 1 "$work/output" | cut -f 1-2)" = \
+        "0||65536|$(printf '65534\t0')"
+    call summary "$work/long" "$work/long.result"
+    good test "$status|$error|$(wc -l <"$work/output")" = '0||5'
+    call check - <"$work/long"
+    good test "$status|$error|$output" = "0||-: complete, 65535 steps$(too_long "$work/long")"
+    # One byte is another, far behind.
+    patch "$work/long.result" 2000000 EE
+    call summary "$work/long" "$work/long.result"
+    good like "$status $output" '1 *: byte 2000000 (step 50000, unit 0, tag) is EE and not 11*'
+    # A field that no chunk holds, which the stand-in takes.
+    { head -c 76 "$work/long" && bytes 09 FFFF && head -c 200000 /dev/zero; } >"$work/stick"
+    check 2 '' "import: $work/stick: $fault"$'\n''import: 1 of 1 files not checked' check "$work/stick"
+    # More before the first step than any stick has.
+    { head -c 76 "$work/long" && repeated '02 0000' 30000; } >"$work/stick"
+    check 2 '' "import: $work/stick: $fault"$'\n''import: 1 of 1 files not checked' check "$work/stick"
+    rm "$work/long" "$work/long.result" "$work/stick"
 }

@@ -3,7 +3,7 @@
 # Sourced by test_import.sh: run, while the calls that write a result fail or are interrupted.
 
 # A program hears the signals that are switched off for the tests, as they are in the background.
-hearing=--default-signal=HUP,INT,QUIT,TERM
+hearing=--default-signal=HUP,INT,QUIT,TERM,PIPE
 
 # faulty FAULTS FILE [SIGNALS]: run a file into the old result while these faults happen. Each is CALL:TIME:WHAT, as
 # c/tests/test_faults.c says; the signals are env's word for how they are to be taken.
@@ -42,7 +42,7 @@ fault_suite() {
 again: Input/output error"
     good written season
     # A signal at each of them. From the last on the result is there.
-    for signal in 1 2 3 15; do
+    for signal in 1 2 3 13 15; do
         for fault in openat:1 write:1 'write:1:half write:2' fsync:1 close:1; do
             faulty "$fault:-$signal" "$stick"
             good test "$status|$error" = "$((128 + signal))|$told"

@@ -1,7 +1,7 @@
 #!/bin/bash
 # The Rattle programs stick_check, stick_run and settle give for standard input what the import tool gives for a
-# file: on every sample stick, on an empty file, at the buffer's size and one byte beyond it. Each failed check is
-# told on standard error; the last line counts them.
+# file: on every sample stick, on an empty file, at the buffer's size and one byte beyond it; stick_run, which is fed,
+# on sticks of any length. Each failed check is told on standard error; the last line counts them.
 set -u
 cd "$(dirname "${BASH_SOURCE[0]}")/../.." || exit 2
 # shellcheck source=tools/env.sh
@@ -62,19 +62,39 @@ too_long() {
     echo "standard input: not $1: longer than the 65536 bytes that this program holds; use import $2"
 }
 
-# run_it FILE: stick_run writes the result that the import tool writes, and nothing of a refused file.
+# run_it FILE: stick_run writes the result that the import tool writes; of a refused file some of its steps at most,
+# and where it did, it says so.
 run_it() {
-    local line
+    local line steps
     line=$(line "$1")
     call "$1" stick_run
-    good test "$error" = "$line"
     if [ "${line#*: complete, }" != "$line" ]; then
+        good test "$error" = "$line"
         rm -f "$work/result"
         build/import run "$1" "$work/result" >/dev/null 2>&1
         good cmp -s "$work/output" "$work/result"
-    else
-        good cmp -s "$work/output" /dev/null
+        return
     fi
+    if [ -s "$work/output" ]; then
+        steps=$(sed 's/.* after \([0-9]*\) steps/\1/' <<<"$line")
+        good test "$error" = "$line"$'\n''standard output: steps of a stick that was refused; throw away what it holds'
+        good early "$work/output" "$steps"
+    else
+        good test "$error" = "$line"
+    fi
+}
+
+# early FILE STEPS: the last whole record is of a step before that one, and of a unit or an inverter.
+early() {
+    local tag step
+    tag=$(tail -c 40 "$1" | head -c 1 | od -An -tx1)
+    if [ "$tag" = ' 11' ]; then
+        step=$((16#$(tail -c 37 "$1" | head -c 4 | od -An -tx1 | tr -d ' ')))
+    else
+        tag=$(tail -c 29 "$1" | head -c 1 | od -An -tx1)
+        step=$((16#$(tail -c 26 "$1" | head -c 4 | od -An -tx1 | tr -d ' ')))
+    fi
+    [[ $tag = ' 11' || $tag = ' 12' ]] && [ "$step" -lt "$2" ]
 }
 
 # settle_it FILE WORD..: settle prints the study that the import tool prints, or its refusal, of a file that is not
@@ -120,7 +140,7 @@ all_of() {
 # none_of FILE: a file that the buffer does not hold.
 none_of() {
     check "$(too_long checked check)" '' "$1" stick_check
-    check '' "$(too_long run run)" "$1" stick_run
+    run_it "$1"
     check '' "$(too_long studied settle)" "$1" settle 1000
 }
 
@@ -155,6 +175,29 @@ check 'standard input: refused 2 (unknown tag) at byte 0 after 0 steps' '' "$wor
 all_of "$work/zeros"
 head -c 65537 /dev/zero >"$work/zeros"
 none_of "$work/zeros"
+
+# Many buffers, and more bytes than a whole-file call takes: a weather and a reading in each of 65,535 steps, in a file
+# and through a pipe; and the same stick cut, and with a byte too many.
+long_stick() {
+    local row
+    row=$(printf '\\x08\\x00\\x10'; printf '\\x00%.0s' {1..16}; printf '\\x04\\x00\\x18'; printf '\\x00%.0s' {1..24})
+    head -c 180 examples/season.stick
+    head -c 65535 /dev/zero | tr '\0' x | sed "s/x/$row/g"
+    printf '\177\0\004\0\0\377\377'
+}
+long_stick >"$work/long"
+good test "$(wc -c <"$work/long")" = 3014797
+run_it "$work/long"
+cp "$work/output" "$work/first"
+called='stick_run through a pipe'
+error=$(cat "$work/long" | "${how[@]}" target/bin/stick_run 2>&1 >"$work/output")
+good test "$error" = 'standard input: complete, 65535 steps'
+good cmp -s "$work/output" "$work/first"
+head -c -1 "$work/long" >"$work/cut"
+run_it "$work/cut"
+good test -s "$work/output"
+{ cat "$work/long"; printf '\0'; } >"$work/more"
+run_it "$work/more"
 
 # A result that cannot be written is told, at the first step and, where there is none, at the end record.
 { head -c 180 examples/season.stick; printf '\177\0\004\0\0\0\0'; } >"$work/none"

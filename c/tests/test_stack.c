@@ -24,7 +24,7 @@ static uint8_t *stack;
 static ucontext_t home, away;
 
 /* What the calls are about, and the answers that were not as expected. */
-static uint8_t file[TOO_LONG], result[ROOF_RESULT_LEN];
+static uint8_t file[TOO_LONG], result[ROOF_RESULT_LEN], state[23163];
 static uint64_t rated[UNITS], reserve[UNITS], stored[UNITS];
 static uint32_t rating[UNITS];
 static uint16_t weight[UNITS];
@@ -423,6 +423,49 @@ static void call_roof_run(void)
     put_file(1);
 }
 
+/* Feeds the first bytes of the file in chunks of a length, each in a room one short first; gives the last number. */
+static uint32_t feed_file(size_t len, size_t chunk_len)
+{
+    uint64_t written;
+    uint32_t number = yb_feed_start(state, sizeof state);
+    for (size_t at = 0; at < len && number == 0; at += chunk_len) {
+        size_t chunk = len - at < chunk_len ? len - at : chunk_len;
+        uint64_t due = yb_feed_room(state, sizeof state, file + at, chunk);
+        if (due != 0)
+            expect(yb_feed(state, sizeof state, file + at, chunk, result, due - 1, &written), 11);
+        number = yb_feed(state, sizeof state, file + at, chunk, result, sizeof result, &written);
+        expect(number != 0 || written == due, 1);
+    }
+    return number != 0 ? number : yb_feed_end(state, sizeof state, result, sizeof result, &written);
+}
+
+/* Complete, cut, refused, and over. */
+static void call_feed(void)
+{
+    uint64_t written;
+    put_edition(3, 1);
+    expect(yb_feed_size(), sizeof state);
+    expect(feed_file(LIMITED_LEN, 65536), 0);
+    expect(yb_feed_place(state, sizeof state), LIMITED_LEN);
+    expect(yb_feed_steps(state, sizeof state), STEPS);
+    expect(yb_feed(state, sizeof state, file, 9, result, sizeof result, &written), 9);
+    expect(feed_file(LIMITED_LEN - 8, 1000000), 1);
+    expect(feed_file(HEAD, 7), 1);
+    put_file(1);
+    expect(feed_file(TOO_LONG, TOO_LONG), 9);
+}
+
+static void call_roof_feed(void)
+{
+    put_roof_file(1);
+    expect(feed_file(ROOF_LEN, 65536), 0);
+    expect(feed_file(ROOF_HEAD, 131), 8);
+    expect(feed_file(ROOF_LEN - 8, 300000), 1);
+    expect(yb_feed_place(state, sizeof state), ROOF_LEN - 34);
+    expect(yb_feed_steps(state, sizeof state), STEPS - 1);
+    put_file(1);
+}
+
 static void call_watts(void)
 {
     static const double powers[] = {0, 1.5, -0.0625, 0x1p-1074, 99999.9999, 1e300, -1e300 * 1e300};
@@ -566,6 +609,8 @@ static const struct {
     {"yb_run in edition 2", call_limited_run},
     {"yb_run in edition 3", call_older_run},
     {"yb_run with 64 inverters", call_roof_run},
+    {"yb_feed and the calls beside it, in edition 3", call_feed},
+    {"yb_feed and the calls beside it, with 64 inverters", call_roof_feed},
     {"yb_watts", call_watts},
     {"yb_pass", call_pass},
     {"yb_settle", call_settle},

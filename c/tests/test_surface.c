@@ -61,8 +61,8 @@ const uint8_t *lend(const uint8_t *file, size_t len, int at_end)
 }
 
 static const struct test *const parts[] = {
-    header_tests, check_tests, value_tests, told_tests, run_tests, watts_tests, pass_tests, settle_tests, study_tests,
-    fleet_tests, step_tests, roof_tests, solar_tests, curve_tests,
+    header_tests, check_tests, value_tests, told_tests, run_tests, feed_tests, watts_tests, pass_tests, settle_tests,
+    study_tests, fleet_tests, step_tests, roof_tests, solar_tests, curve_tests,
 };
 
 int main(void)

@@ -6,6 +6,7 @@
 
 pub mod controller;
 pub mod curve;
+pub mod feed;
 pub mod natural;
 pub mod octets;
 pub mod ranges;
@@ -46,7 +47,7 @@ pub const NO_END: u32 = 8;
 pub const BYTES_AFTER_END: u32 = 9;
 
 /// Lists of unequal length, empty or above 64, or of a curve and not of 2 to 16; a request beyond its rating; requests
-/// of both signs; a unit number outside the fleet.
+/// of both signs; a unit number outside the fleet; a state that is not well formed.
 pub const LISTS_OR_REQUESTS: u32 = 10;
 
 /// A lent room that is shorter than the result.

@@ -96,6 +96,9 @@ pub const EFF_Y: RangeInclusive<i32> = 0..=10_000;
 /// Thousandths of kW/m², after the conversion; beyond its end nothing converts.
 pub const IRRADIANCE: RangeInclusive<i32> = 0..=100_000_000;
 
+/// Thousandths of °C, after the conversion.
+pub const TEMPERATURE: RangeInclusive<i32> = -100_000_000..=100_000_000;
+
 /// A unit's three energies: the rated energy in its range, and reserve and stored from 0 to it.
 pub fn energies_fit(rated: u64, reserve: u64, stored: u64) -> bool {
     RATED.contains(&rated) && reserve <= rated && stored <= rated

@@ -2,11 +2,11 @@
 
 use crate::controller::{self, Fleet, Passed};
 use crate::octets::{put_f64, put_i32, put_u16, put_u32, put_u64, put_u8};
-use crate::reading::kw;
+use crate::reading::{kw, Reading};
 use crate::site::Site;
-use crate::solar::{Produced, DARK};
+use crate::solar::{Produced, Sun, DARK};
 use crate::stick::{self, Answer, Run};
-use crate::storage::{self, Stepped};
+use crate::storage::{self, Stepped, Unit};
 use crate::ROOM_TOO_SHORT;
 
 pub const RECORD: u8 = 0x11;
@@ -49,41 +49,68 @@ pub struct Step {
     pub solar: Vec<SolarRecord>,
 }
 
-/// All steps of a run that an accepted file says. Requests start at zero and inverters start off; each reading is one
-/// pass, or none where it is missing, then one step of every unit, and then one of every inverter in the step's
-/// weather.
+/// What stands between two steps: of each unit its store and its request, and of each inverter whether it is on.
+#[derive(Clone, Debug, PartialEq, Eq)]
+pub struct Standing {
+    pub stored: Vec<u64>,
+    pub requests: Vec<i32>,
+    pub on: Vec<bool>,
+}
+
+impl Standing {
+    /// Before the first step: the stores of the units' fields, requests of zero, and inverters that are off.
+    pub fn at_first(site: &Site) -> Standing {
+        Standing {
+            stored: site.units.iter().map(|unit| unit.stored).collect(),
+            requests: vec![0; site.units.len()],
+            on: vec![false; site.inverters.len()],
+        }
+    }
+}
+
+/// One step of a site from what stands, which becomes what stands after it: the reading is one pass, or none where it is
+/// missing; then comes one step of every unit, and then one of every inverter in the step's sun.
+///
+/// # Panics
+///
+/// If a value is outside its range, which no accepted file's is.
+pub fn step(site: &Site, standing: &mut Standing, step: u32, reading: &Reading, sun: Sun) -> Step {
+    let Standing { stored, requests, on } = standing;
+    let with_store = |(unit, &stored): (&Unit, &u64)| Unit { stored, ..*unit };
+    let units: Vec<Unit> = site.units.iter().zip(&*stored).map(with_store).collect();
+    let measure = reading.measure(site.phase).expect("an accepted reading converts");
+    let passed = measure.map(|measure| {
+        controller::pass(&site.settings, measure, &Fleet::of(&units), requests)
+            .expect("an accepted fleet takes a pass")
+    });
+    let mut records = Vec::new();
+    for (i, unit) in units.iter().enumerate() {
+        let stepped = storage::step_as(site.edition, site.seconds, unit, requests[i])
+            .expect("a pass keeps to the ratings");
+        stored[i] = stepped.stored;
+        records.push(Record { step, unit: i as u8, request: requests[i], stepped });
+    }
+    let mut solar = Vec::new();
+    for (i, inverter) in site.inverters.iter().enumerate() {
+        let produced = inverter.produce(sun, on[i]);
+        on[i] = produced.on;
+        solar.push(SolarRecord { step, inverter: i as u8, produced });
+    }
+    Step { passed, records, solar }
+}
+
+/// All steps of a run that an accepted file says. Requests start at zero and inverters start off.
 ///
 /// # Panics
 ///
 /// If a value is outside its range, which no accepted file's is.
 pub fn steps(run: &Run) -> Vec<Step> {
-    let Site { edition, seconds, units, settings, phase, inverters } = &run.site;
-    let mut units = units.clone();
-    let mut requests = vec![0; units.len()];
-    let mut on = vec![false; inverters.len()];
+    let mut standing = Standing::at_first(&run.site);
     let mut steps = Vec::new();
-    for (step, reading) in run.readings.iter().enumerate() {
-        let measure = reading.measure(*phase).expect("an accepted reading converts");
-        let passed = measure.map(|measure| {
-            controller::pass(settings, measure, &Fleet::of(&units), &mut requests)
-                .expect("an accepted fleet takes a pass")
-        });
-        let mut records = Vec::new();
-        for (i, unit) in units.iter_mut().enumerate() {
-            let stepped =
-                storage::step_as(*edition, *seconds, unit, requests[i]).expect("a pass keeps to the ratings");
-            unit.stored = stepped.stored;
-            records.push(Record { step: step as u32, unit: i as u8, request: requests[i], stepped });
-        }
-        let weather = run.weather_of(step);
+    for (number, reading) in run.readings.iter().enumerate() {
+        let weather = run.weather_of(number);
         let sun = weather.map_or(DARK, |weather| weather.converted().expect("an accepted weather converts"));
-        let mut solar = Vec::new();
-        for (i, inverter) in inverters.iter().enumerate() {
-            let produced = inverter.produce(sun, on[i]);
-            on[i] = produced.on;
-            solar.push(SolarRecord { step: step as u32, inverter: i as u8, produced });
-        }
-        steps.push(Step { passed, records, solar });
+        steps.push(step(&run.site, &mut standing, number as u32, reading, sun));
     }
     steps
 }
@@ -111,16 +138,24 @@ fn put_solar(result: &mut Vec<u8>, record: &SolarRecord) {
     put_u64(result, record.produced.dc);
 }
 
+/// The records of a step, after what is written already.
+pub fn put_step(result: &mut Vec<u8>, step: &Step) {
+    step.records.iter().for_each(|record| put_record(result, record));
+    step.solar.iter().for_each(|record| put_solar(result, record));
+}
+
+/// The end of a result of so many steps.
+pub fn put_last(result: &mut Vec<u8>, steps: u32) {
+    put_u8(result, LAST);
+    put_u16(result, LAST_LENGTH);
+    put_u32(result, steps);
+}
+
 /// The result file of a run's steps.
 pub fn result(steps: &[Step]) -> Vec<u8> {
     let mut result = Vec::new();
-    for step in steps {
-        step.records.iter().for_each(|record| put_record(&mut result, record));
-        step.solar.iter().for_each(|record| put_solar(&mut result, record));
-    }
-    put_u8(&mut result, LAST);
-    put_u16(&mut result, LAST_LENGTH);
-    put_u32(&mut result, steps.len() as u32);
+    steps.iter().for_each(|step| put_step(&mut result, step));
+    put_last(&mut result, steps.len() as u32);
     result
 }
 
@@ -153,13 +188,12 @@ pub fn run(file: &[u8], room: usize) -> Result<Vec<u8>, Answer> {
 mod tests {
     use super::*;
     use crate::octets::{f64_at, i32_at, u16_at, u32_at, u64_at, u8_at};
-    use crate::reading::{Phases, Reading};
+    use crate::reading::Phases;
     use crate::samples::inverters::document_inverter;
     use crate::samples::sticks::{self, whole_case};
     use crate::samples::units::figure_unit;
     use crate::samples::{limits, older, roofs, seasons, Draw};
     use crate::solar::{self, Weather};
-    use crate::storage::Unit;
 
     fn hex(bytes: &[u8]) -> String {
         bytes.iter().map(|byte| format!("{byte:02X}")).collect()

@@ -33,6 +33,7 @@ pub fn shown(file: &[u8]) -> String {
 }
 
 /// The units that a file says it has, by the place of that byte alone; whether it is accepted or not.
+#[allow(dead_code)] // not every test asks for units
 pub fn said_units(file: &[u8]) -> usize {
     file.get(4).copied().unwrap_or(1).into()
 }
