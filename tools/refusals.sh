@@ -15,7 +15,7 @@ failed=0
 # errors LOG: the errors that say something of the facts.
 errors() {
     grep -E ': error: |^fn .*: no proof: .* does not close ' "$1" |
-        grep -vE 'was not admitted|has no `Need-|is not in scope|that can be named from here'
+        grep -vE 'was not admitted|has no `Need-|has no field|is not in scope|that can be named from here'
 }
 
 # refused LOG NAME: a function or a law has an error of its own.
