@@ -126,7 +126,8 @@ pub fn run(units: usize, inverters: usize, steps: usize, draw: &mut Draw) -> Run
 
 /// A run of edition 1 or 2 of a few units, up to two inverters and a few steps, so that its file is small.
 pub fn small_run(draw: &mut Draw) -> Run {
-    let run = draw.one_of(&[sticks::small_run, roofs::small_run])(draw);
+    let makers: [fn(&mut Draw) -> Run; 2] = [sticks::small_run, roofs::small_run];
+    let run = draw.one_of(&makers)(draw);
     either_edition(run, draw)
 }
 

@@ -113,7 +113,8 @@ pub fn older(run: Run, draw: &mut Draw) -> Run {
 
 /// A run of edition 1 in edition 2 or 3, with limits for each of its units.
 pub fn limited(run: Run, draw: &mut Draw) -> Run {
-    draw.one_of(&[limits::limited, older])(run, draw)
+    let editions: [fn(Run, &mut Draw) -> Run; 2] = [limits::limited, older];
+    draw.one_of(&editions)(run, draw)
 }
 
 /// The run as it is, or in edition 3.
