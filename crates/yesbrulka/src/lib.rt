@@ -17,6 +17,7 @@ ghost use Rattle.parts.specs.Parts.{partStart, partSize};
 ghost use Rattle.season.specs.Answers.{roomOf, runAnswer, runLeaves};
 ghost use Rattle.kept.specs.Layout.{stateSize};
 ghost use Rattle.feed.specs.Answers.{startNumber, startLeaves, roomFor, feedNumber, feedLeaves, feedWrites, endNumber, endLeaves, endWrites, placeTold, stepsTold};
+ghost use Rattle.rescue.specs.Answers.{rescueOf, outputRoom, changesTold, rescueAnswer, rescueWrites, rescueLists};
 ghost use Rattle.ask.specs.Says.{unitsSaid, invertersSaid, secondsSaid, fileStudy, fileStudyLeaves, fileStudyCall};
 ghost use Rattle.yesbrulka.specs.Calls.{held, left, fleetLent, settingsOf, PassTold, trialOf, StudyTold, unitOf, StepTold, inverterOf, litLent, LitTold, headSaid, unitSaid};
 use ask::HeadAnswer;
@@ -572,4 +573,39 @@ pub extern "C" fn yb_feed_steps(state: &[u8]) -> u32
     ensures { λ r. ⌜ r ≡ stepsTold (now (state .entry)) ⌝ }
 {
     feed::steps(state)
+}
+
+// The bytes of a rescue's output, 0 for a file that it refuses.
+#[no_mangle]
+pub extern "C" fn yb_rescue_room(file: &[u8]) -> u64
+    ensures { λ r. ⌜ r ≡ outputRoom (now (file .entry)) ⌝ }
+{
+    rescue::survey(file).output as u64
+}
+
+// The changes that a rescue makes, 0 for a file that it refuses.
+#[no_mangle]
+pub extern "C" fn yb_rescue_changes(file: &[u8]) -> u64
+    ensures { λ r. ⌜ r ≡ changesTold (now (file .entry)) ⌝ }
+{
+    rescue::survey(file).changes as u64
+}
+
+// The steps of a rescue's output, 0 for a file that it refuses.
+#[no_mangle]
+pub extern "C" fn yb_rescue_steps(file: &[u8]) -> u32
+    ensures { λ r. ⌜ r ≡ rescueOf (now (file .entry)) .steps ⌝ }
+{
+    rescue::survey(file).steps
+}
+
+// The rescue: 0, the output at the start of its room and the changes at the start of the list; or the
+// check's number of a field due before the steps, 12 or 11.
+#[no_mangle]
+pub extern "C" fn yb_rescue(file: &[u8], out: &mut [u8], list: &mut [u8]) -> u32
+    ensures { λ r. ⌜ r ≡ rescueAnswer (now (file .entry)) (length (now (out .entry))) (length (now (list .entry))) .number ⌝ }
+    ensures { λ _. ⌜ now (out .exit) ≡ rescueWrites (now (file .entry)) (now (out .entry)) (length (now (list .entry))) ⌝ }
+    ensures { λ _. ⌜ now (list .exit) ≡ rescueLists (now (file .entry)) (length (now (out .entry))) (now (list .entry)) ⌝ }
+{
+    rescue::rescue(file, out, list).number as u32
 }

@@ -1,0 +1,4 @@
+-- Rescue of a damaged stick: what is kept of it, and what the calls answer and write.
+pub mod Saved
+pub mod Answers
+pub mod Posts

@@ -1,0 +1,287 @@
+-- The steps of a rescue's output are the file's, in order: what is kept are whole fields, each field that is kept says there what it says in the file, a
+-- reading made missing closes the step with the sun it had, and the end field closes none. Assumes nothing.
+use mathlib.Core.Path.{_≡_, refl, sym, ap, ap₂, _∙_, subst, subst⁻¹}
+use mathlib.Core.Logic.{inl, inr}
+use mathlib.Core.Bool.{Bool, true, false, cond}
+use mathlib.Core.List.{List, [], _∷_, _++_, append-nil}
+use Prim.Native.Nat.{ℕ, _+_, _-_, _≤_, _<_}
+use native.Mathlib.Nat.{zero-add}
+use native.Mathlib.Omega.{arith}
+use lib.Dec.{ltb, eqb, lit≤}
+use lib.ListN.{length, getD, take}
+use lib.Seq.{getD-take, getD-drop, length-slice}
+use borrow.Author.Tests.{eqb-true, eqb-false}
+use Rattle.octets.specs.BigEndian.{be, bytesOf}
+use Rattle.parts.specs.Header.{header, tagAt, lengthAt, past}
+use Rattle.reading.specs.declared.Reading.the-variants.{Missing}
+use Rattle.site.specs.declared.Step.{Step}
+use Rattle.site.specs.Site.{stepWith}
+use Rattle.solar.specs.declared.Sun.{Sun}
+use Rattle.solar.specs.Weather.{dark}
+use Rattle.fields.specs.declared.State.{State}
+use Rattle.fields.specs.declared.Taken.the-variants.{Next}
+use Rattle.fields.specs.Fields.{isReading, kinds, sizeIn, sizeOf}
+use Rattle.fields.proofs.FieldLaws.{after-reading}
+use Rattle.stick.specs.declared.Answer.{Answer}
+use Rattle.stick.specs.Check.{answer, fieldAt, start}
+use Rattle.stick.specs.Site.{placesFrom, readingAt, sunAt, stepsIn, sunIn, stepsFrom, sunFrom, stepsOf}
+use Rattle.stick.proofs.StepLaws.{no-other}
+use Rattle.chunks.proofs.SameLaws.{Same, same-less, tag-same, length-same, reading-same, sun-same}
+use Rattle.chunks.proofs.PlaceChunks.{FieldThere, Whole, whole-end, whole-field, whole-append, accepted-there, steps-over, sun-over, steps-field, sun-field, steps-append}
+use Rattle.chunks.proofs.HeadChunks.{FieldTaken, accepted-field}
+use Rattle.chunks.proofs.HeadFile.{steps-kept}
+use Rattle.rescue.specs.Saved.{Saved, endsAt, keeping, missingField, closedStep, bytesAt, savedOf, due}
+use Rattle.rescue.specs.Answers.{endField, outputBy, outputOf, savedAnswer, rescueOf}
+use Rattle.rescue.proofs.SaveLaws.{Unread, Saving, over, ended, refused, lost, passed, waiting}
+use Rattle.rescued.specs.Holds.{Likes, none, next}
+use Rattle.rescued.proofs.BytesLaws.{saved-file}
+
+-- ---- the steps from a field on, by whether it is a reading and whether it is a weather
+abbrev stepsBy : List ℕ → ℕ → Bool → Bool → Sun → List Step
+stepsBy file at r l s =
+    let next = past file at in
+    cond r (stepWith (readingAt file at) s ∷ stepsFrom file dark next) (cond l (stepsFrom file (sunAt file at) next) (stepsFrom file s next))
+
+-- ---- a field's bytes, by themselves and before others
+module _ (file : List ℕ) (at : ℕ) (f : FieldThere file at) where
+  abbrev cut : List ℕ
+  cut = bytesAt file at
+
+  pub cut-long : length cut ≡ 3 + lengthAt file at
+  cut-long = let all = f .all in let l : length cut ≡ past file at - at = length-slice at (past file at) file all in omega arith
+
+  pub cut-same : Same cut file 0 at (3 + lengthAt file at)
+  cut-same k l =
+      ap (λ (i : ℕ). getD cut i 0) (zero-add k) ∙ getD-drop at (take (past file at) file) k 0 ∙ getD-take (past file at) file (at + k) 0 (omega arith)
+
+  cut-upto : (n : ℕ) → n ≤ 3 + lengthAt file at → Same cut file 0 at n
+  cut-upto n l = same-less cut file 0 at (3 + lengthAt file at) cut-same n l
+
+  cut-tag : tagAt cut 0 ≡ tagAt file at
+  cut-tag = tag-same cut file 0 at (cut-upto 1 (omega arith))
+
+  cut-length : lengthAt cut 0 ≡ lengthAt file at
+  cut-length = length-same cut file 0 at (cut-upto 3 (omega arith))
+
+  pub cut-there : FieldThere cut 0
+  cut-there =
+      let tag = ap (sizeOf start) cut-tag in
+      let long = cut-length in
+      let all = cut-long in
+      let size = f .size in
+      record { size = omega arith; all = omega arith }
+
+  pub cut-past : past cut 0 ≡ length cut
+  cut-past = let long = cut-length in let all = cut-long in omega arith
+
+  pub cut-whole : Whole cut 0
+  cut-whole = whole-field cut-there (whole-end cut-past)
+
+  -- what it says
+  sized : (tag : ℕ) → tagAt file at ≡ tag → sizeOf start tag ≤ lengthAt file at
+  sized tag e = subst (λ (t : ℕ). sizeOf start t ≤ lengthAt file at) e (f .size)
+
+  cut-reading : readingAt cut 0 ≡ readingAt file at
+  unfolding sizeOf kinds sizeIn
+  cut-reading =
+      reading-same cut file 0 at (cut-upto 1 (omega arith))
+      (λ e. let l : 24 ≤ lengthAt file at = sized 4 (sym cut-tag ∙ e) in cut-upto 27 (omega arith))
+
+  cut-sun : tagAt file at ≡ 8 → sunAt cut 0 ≡ sunAt file at
+  unfolding sizeOf kinds sizeIn
+  cut-sun e = let l : 16 ≤ lengthAt file at = sized 8 e in sun-same cut file 0 at (cut-upto 19 (omega arith))
+
+  -- the steps from it on, by its tag, where others are kept behind it
+  module _ (kept : List ℕ) where
+    abbrev pub after : Bool → Bool → Sun → List Step
+    after r l s = cond r (stepWith (readingAt file at) s ∷ stepsFrom kept dark 0) (cond l (stepsFrom kept (sunAt file at) 0) (stepsFrom kept s 0))
+
+    pub cut-steps : (s : Sun) → stepsFrom (cut ++ kept) s 0 ≡ after (isReading (tagAt file at)) (eqb (tagAt file at) 8) s
+    cut-steps s = steps-append cut kept cut-whole s ∙ ap₂ (λ (l : List Step) (u : Sun). l ++ stepsFrom kept u 0) one sun ∙ go (isReading (tagAt file at)) (eqb (tagAt file at) 8)
+      where
+        none-behind : (u : Sun) → stepsFrom cut u (past cut 0) ≡ []
+        none-behind u = steps-over cut u (past cut 0) (let p = cut-past in omega arith)
+
+        sun-behind : (u : Sun) → sunFrom cut u (past cut 0) ≡ u
+        sun-behind u = sun-over cut u (past cut 0) (let p = cut-past in omega arith)
+
+        first : 0 < length cut
+        first = let long = cut-long in omega arith
+
+        one : stepsFrom cut s 0 ≡ cond (isReading (tagAt file at)) (stepWith (readingAt file at) s ∷ []) []
+        one =
+            steps-field cut s 0 first
+            ∙ ap (λ (t : ℕ). stepsBy cut 0 (isReading t) (eqb t 8) s) cut-tag
+            ∙ by (isReading (tagAt file at)) (eqb (tagAt file at) 8)
+          where
+            by : (r l : Bool) → stepsBy cut 0 r l s ≡ cond r (stepWith (readingAt file at) s ∷ []) []
+            by true l = ap₂ (λ r (ss : List Step). stepWith r s ∷ ss) cut-reading (none-behind dark)
+            by false true = none-behind (sunAt cut 0)
+            by false false = none-behind s
+
+        sun : sunFrom cut s 0 ≡ cond (isReading (tagAt file at)) dark (cond (eqb (tagAt file at) 8) (sunAt file at) s)
+        sun =
+            sun-field cut s 0 first
+            ∙ ap (λ (t : ℕ). cond (isReading t) (sunFrom cut dark (past cut 0)) (cond (eqb t 8) (sunFrom cut (sunAt cut 0) (past cut 0)) (sunFrom cut s (past cut 0)))) cut-tag
+            ∙ by (isReading (tagAt file at)) (eqb (tagAt file at) 8) refl
+          where
+            by : (r l : Bool) → eqb (tagAt file at) 8 ≡ l
+                → cond r (sunFrom cut dark (past cut 0)) (cond l (sunFrom cut (sunAt cut 0) (past cut 0)) (sunFrom cut s (past cut 0))) ≡ cond r dark (cond l (sunAt file at) s)
+            by true l e = sun-behind dark
+            by false true e = sun-behind (sunAt cut 0) ∙ cut-sun (eqb-true (tagAt file at) 8 e)
+            by false false e = sun-behind s
+
+        go : (r l : Bool) → cond r (stepWith (readingAt file at) s ∷ []) [] ++ stepsFrom kept (cond r dark (cond l (sunAt file at) s)) 0 ≡ after r l s
+        go true l = refl
+        go false true = refl
+        go false false = refl
+
+-- ---- the field of a missing reading: a step with the sun that it had, and no sun for the next
+pub missing-whole : Whole missingField 0
+unfolding be sizeOf kinds sizeIn
+missing-whole = whole-field (record { size = lit≤ tt; all = lit≤ tt }) (whole-end refl)
+
+missing-one : (s : Sun) → stepsFrom missingField s 0 ≡ stepWith Missing s ∷ []
+unfolding stepsFrom stepsIn placesFrom readingAt be
+missing-one s = refl
+
+missing-sun : (s : Sun) → sunFrom missingField s 0 ≡ dark
+unfolding sunFrom sunIn placesFrom be
+missing-sun s = refl
+
+pub missing-steps : (kept : List ℕ) (s : Sun) → stepsFrom (missingField ++ kept) s 0 ≡ stepWith Missing s ∷ stepsFrom kept dark 0
+missing-steps kept s = steps-append missingField kept missing-whole s ∙ ap₂ (λ (l : List Step) (u : Sun). l ++ stepsFrom kept u 0) (missing-one s) (missing-sun s)
+
+-- ---- the end field closes no step
+pub end-steps : (steps : ℕ) (s : Sun) → stepsFrom (endField steps) s 0 ≡ []
+unfolding stepsFrom stepsIn placesFrom endField bytesOf be
+end-steps steps s = refl
+
+-- ---- a field that is taken counts its step
+counts : (file : List ℕ) (st m : State) (at : ℕ) → FieldTaken file st m at → (b : Bool) → isReading (tagAt file at) ≡ b → m .steps ≡ st .steps + cond b 1 0
+counts file st m at t true r =
+    let n = no-other (tagAt file at) in
+    ap (λ (s : State). s .steps) (sym (t .is))
+    ∙ ap (λ (s : State). s .steps) (sym (after-reading st (tagAt file at) file (at + header) (n 1 r refl) (n 2 r refl) (n 3 r refl) r))
+counts file st m at t false r =
+    let e : m .steps ≡ st .steps = ap (λ (s : State). s .steps) (sym (t .is)) ∙ steps-kept st (tagAt file at) file (at + header) r in
+    omega arith
+
+-- ---- all that is kept from a place on: whole fields, with the file's steps, which the state counts
+pub record Held (file : List ℕ) (st : State) (at : ℕ) (s : Saved) : Type 0 where
+  pub whole : Whole (s .kept) 0
+  pub likes : (sun : Sun) → Likes (stepsFrom (s .kept) sun 0) (stepsFrom file sun at)
+  pub counted : (sun : Sun) → s .state .steps ≡ st .steps + length (stepsFrom (s .kept) sun 0)
+
+likes-so : {xs us ys vs : List Step} → xs ≡ us → ys ≡ vs → Likes us vs → Likes xs ys
+likes-so {xs} {us} {ys} {vs} e f l = subst⁻¹ (λ (x : List Step). Likes x ys) e (subst⁻¹ (Likes us) f l)
+
+module _ (file : List ℕ) where
+  -- nothing is kept
+  held-none : (st : State) (at : ℕ) (n : ℕ) → Held file st at (endsAt n at st)
+  held-none st at n = record {
+    whole = whole-end refl;
+    likes = λ sun. likes-so (steps-over [] sun 0 (omega arith)) refl none;
+    counted = λ sun. let z = ap length (steps-over [] sun 0 (omega arith)) in omega arith;
+  }
+
+  module _ {st : State} {at : ℕ} {s : Saved} (l : at < length file) where
+    -- a reading made missing
+    held-lost : Unread st file at → Held file (closedStep st) (past file at) s → Held file st at (keeping missingField (at ∷ []) s)
+    held-lost u h = record {
+      whole = whole-append missingField (s .kept) missing-whole (h .whole);
+      likes = λ sun. likes-so (missing-steps (s .kept) sun) (here sun) (next (record { sun = refl; reading = inr refl }) (h .likes dark));
+      counted = λ sun. let c = h .counted dark in let n = ap length (missing-steps (s .kept) sun) in omega arith;
+    }
+      where
+        here : (sun : Sun) → stepsFrom file sun at ≡ stepWith (readingAt file at) sun ∷ stepsFrom file dark (past file at)
+        here sun =
+            steps-field file sun at l
+            ∙ ap (λ (t : ℕ). stepsBy file at (isReading t) (eqb t 8) sun) (u .tag)
+
+    -- a field that is kept
+    held-passed : (m : State) → fieldAt st file at ≡ Next m → Held file m (past file at) s → Held file st at (keeping (bytesAt file at) [] s)
+    held-passed m f h = record {
+      whole = whole-append (bytesAt file at) (s .kept) (cut-whole file at there) (h .whole);
+      likes = λ sun. likes-so (cut-steps file at there (s .kept) sun) (steps-field file sun at l) (alike (isReading (tagAt file at)) (eqb (tagAt file at) 8) sun);
+      counted = λ sun. count (isReading (tagAt file at)) (eqb (tagAt file at) 8) sun one (ap length (cut-steps file at there (s .kept) sun));
+    }
+      where
+        there : FieldThere file at
+        there = accepted-there st m file at (omega arith) f
+
+        one : m .steps ≡ st .steps + cond (isReading (tagAt file at)) 1 0
+        one = counts file st m at (accepted-field file st m at (omega arith) f) (isReading (tagAt file at)) refl
+
+        alike : (r o : Bool) (sun : Sun) → Likes (after file at there (s .kept) r o sun) (stepsBy file at r o sun)
+        alike true o sun = next (record { sun = refl; reading = inl refl }) (h .likes dark)
+        alike false true sun = h .likes (sunAt file at)
+        alike false false sun = h .likes sun
+
+        count : (r o : Bool) (sun : Sun) → m .steps ≡ st .steps + cond r 1 0
+            → length (stepsFrom (bytesAt file at ++ s .kept) sun 0) ≡ length (after file at there (s .kept) r o sun)
+            → s .state .steps ≡ st .steps + length (stepsFrom (bytesAt file at ++ s .kept) sun 0)
+        count true o sun c n = let d = h .counted dark in omega arith
+        count false true sun c n = let d = h .counted (sunAt file at) in omega arith
+        count false false sun c n = let d = h .counted sun in omega arith
+
+  pub held : {st : State} {at : ℕ} {s : Saved} → Saving file st at s → Held file st at s
+  held {st} {at} (over e) = held-none st at 0
+  held {st} {at} (ended l e) = held-none st at 9
+  held {st} {at} (refused n l e f u) = held-none st at n
+  held {st} {at} (lost l e f u more) = held-lost l u (held more)
+  held {st} {at} (passed m l e f w g more) = held-passed l m f (held more)
+  held {st} {at} (waiting {s = s} m l e f w g more) = held-none st at (s .number)
+
+-- ---- and the end field behind it
+output-steps : (s : Saved) → Whole (s .kept) 0 → stepsOf (outputBy s) ≡ stepsFrom (s .kept) dark 0
+unfolding stepsOf outputBy
+output-steps s w =
+    steps-append (s .kept) (end (eqb (s .state .stage) 0)) w dark
+    ∙ ap (λ (l : List Step). stepsFrom (s .kept) dark 0 ++ l) (nothing (eqb (s .state .stage) 0))
+    ∙ append-nil (stepsFrom (s .kept) dark 0)
+  where
+    end : Bool → List ℕ
+    end b = cond b [] (endField (s .state .steps))
+
+    nothing : (b : Bool) → stepsFrom (end b) (sunFrom (s .kept) dark 0) 0 ≡ []
+    nothing true = steps-over [] (sunFrom (s .kept) dark 0) 0 (omega arith)
+    nothing false = end-steps (s .state .steps) (sunFrom (s .kept) dark 0)
+
+of-file : (file : List ℕ) → stepsOf file ≡ stepsFrom file dark 0
+unfolding stepsOf
+of-file file = refl
+
+pub steps : (file : List ℕ) → rescueOf file .number ≡ 0 → Likes (stepsOf (outputOf file)) (stepsOf file)
+unfolding outputOf
+steps file z =
+    let h = held file (saved-file file) in
+    likes-so (output-steps (savedOf file) (h .whole)) (of-file file) (h .likes dark)
+
+-- an answer of 0 has the state's steps
+answer-steps : (file : List ℕ) → rescueOf file .number ≡ 0 → rescueOf file .steps ≡ savedOf file .state .steps
+unfolding rescueOf savedAnswer
+answer-steps file =
+    go (ltb 2097152 (length file)) (due (s .state) (tagAt file (s .at))) (ltb 2097152 (length (outputBy s))) (eqb (s .number) 0) refl
+  where
+    s : Saved
+    s = savedOf file
+
+    by : Bool → Bool → Bool → Bool → Answer
+    by large d big zero = cond large (answer 12 0 0) (cond d (answer (cond zero 8 (s .number)) (s .at) 0) (cond big (answer 12 0 0) (answer 0 (length file) (s .state .steps))))
+
+    go : (large d big zero : Bool) → eqb (s .number) 0 ≡ zero → by large d big zero .number ≡ 0 → by large d big zero .steps ≡ s .state .steps
+    go true d big zero e z = absurd (omega arith)
+    go false true big true e z = absurd (omega arith)
+    go false true big false e z = absurd (eqb-false (s .number) 0 e z)
+    go false false true zero e z = absurd (omega arith)
+    go false false false zero e z = refl
+
+pub counted : (file : List ℕ) → rescueOf file .number ≡ 0 → length (stepsOf (outputOf file)) ≡ rescueOf file .steps
+unfolding outputOf
+counted file z =
+    let h = held file (saved-file file) in
+    let c : savedOf file .state .steps ≡ 0 + length (stepsFrom (savedOf file .kept) dark 0) = h .counted dark in
+    let o = ap length (output-steps (savedOf file) (h .whole)) in
+    let a = answer-steps file z in
+    omega arith

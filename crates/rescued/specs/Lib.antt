@@ -1,0 +1,2 @@
+-- What holds of a rescue, whatever the file.
+pub mod Holds

@@ -1,0 +1,1 @@
+// What holds of a rescue: laws, which need no code.
