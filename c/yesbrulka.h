@@ -333,6 +333,45 @@ uint64_t yb_feed_room(const uint8_t *state, size_t state_len, const uint8_t *chu
 uint64_t yb_feed_place(const uint8_t *state, size_t state_len);
 uint32_t yb_feed_steps(const uint8_t *state, size_t state_len);
 
+/* What a rescue did at a place of a damaged file: it made a reading that does not convert a missing one; it put an end
+** field in the place of all that came from there on; it left out the bytes behind the end field.
+*/
+enum { YB_MADE_MISSING = 1, YB_ENDED_HERE = 2, YB_LEFT_OUT = 3 };
+
+/* The bytes of a change in the list of a rescue. */
+enum { YB_CHANGE_BYTES = 17 };
+
+/* Rescue a damaged file: keep of it what can be kept, as a file that yb_check accepts, and list what was changed.
+**
+** The size of the file and its fields up to the first step must be good. From there on a power reading that does not
+** convert becomes a missing one, and its step stays. At any other fault the rescue ends; all bytes from there on are
+** dropped, and an end field with the number of steps before it takes their place. A weather whose reading is lost that
+** way is dropped with it. Bytes behind a good end field are dropped. So a complete file comes back as it is.
+**
+** yb_rescue_room returns the bytes of the rescued file, yb_rescue_changes the number of changes, of which each takes 17
+** bytes of the list, and yb_rescue_steps the steps of the rescued file. All three return 0 for a file that yb_rescue
+** refuses for anything but room.
+**
+** yb_rescue writes the rescued file at the start of out and the changes at the start of list; the bytes past them stay
+** as they are. The changes are in the order of their places. Each has its place in the damaged file (eight bytes), its
+** kind (one) and how many bytes were dropped (eight); the numbers are big-endian. For a reading made missing these are
+** 24 at its field; where an end field was put in they may be 0.
+**
+** Returns 0, or the first of these that holds:
+**    12  the file is longer than 2,097,152 bytes; the place is 0, and so are the steps
+**     the number of yb_check, whose place and steps are the check's, if that is for a field due before the steps: at a
+**     fleet, unit or settings, at a curve that an inverter waits for, at whatever stands there instead of these, and
+**     before any weather or reading also at a further inverter or a curve
+**    12  the rescued file would be longer than 2,097,152 bytes; the place is 0, and so are the steps
+**    11  out is shorter than the rescued file, or list shorter than the changes; the place is then the file's length,
+**        and the steps are those of yb_rescue_steps
+** out and list are written only when 0 is returned.
+*/
+uint64_t yb_rescue_room(const uint8_t *file, size_t file_len);
+uint64_t yb_rescue_changes(const uint8_t *file, size_t file_len);
+uint32_t yb_rescue_steps(const uint8_t *file, size_t file_len);
+uint32_t yb_rescue(const uint8_t *file, size_t file_len, uint8_t *out, size_t out_len, uint8_t *list, size_t list_len);
+
 #ifdef __cplusplus
 }
 #endif

@@ -1,5 +1,5 @@
-/* import: checks the run files of sticks, in bulk, and shows what is wrong with one; runs a season into a result
-** file, and shows what came out; studies where a fleet settles.
+/* import: checks the run files of sticks, in bulk, and shows what is wrong with one; keeps what can be kept of a
+** damaged one; runs a season into a result file, and shows what came out; studies where a fleet settles.
 **
 ** The file's bytes are fed to the library; this program only reads, asks, writes and prints. Exit status 0 if
 ** all files are complete and what was asked for is done, 1 if something was refused, 2 for a wrong call, a file
@@ -18,6 +18,7 @@ static const char usage[] =
     "usage: import check FILE..               check run files, a line for each\n"
     "       import show FILE                  check one, and show the value bytes of the field that was refused\n"
     "       import run FILE RESULT            check one and run it; RESULT is written whole or not at all\n"
+    "       import rescue FILE OUT            keep what can be kept of a damaged one, as a complete one in OUT\n"
     "       import settle FILE LOAD [BUDGET]  study where the file's fleet settles over a fixed load of LOAD watts\n"
     "       import table FILE RESULT          show a result as a table, a line for each step and unit or inverter\n"
     "       import summary FILE RESULT        show a result as a planner reads it, a line for each unit and inverter\n"
@@ -30,7 +31,7 @@ static const char meanings[] =
     "unit 0. Power is positive when a unit or an inverter gives and negative when a unit takes.\n"
     "\n"
     "FILE may come through a pipe; - is standard input. It is read piece by piece, however long it is, and at a\n"
-    "terminal a line says how far that is where FILE has more than 2097152 bytes.\n"
+    "terminal a line says how far that is where FILE has more than 2097152 bytes. rescue takes no more than these.\n"
     "\n"
     "A FILE of edition 3 is a plan made with the older storage model: a unit draws its idle loss at the grid, in\n"
     "every step. Its power is then that at the grid: what its own inverter gives less the idle loss, and negative if\n"
@@ -38,6 +39,11 @@ static const char meanings[] =
     "\n"
     "run      replaces a RESULT that is there. If it is killed (kill -9, a power cut) a file whose name begins with\n"
     "         .import-unfinished may be left beside RESULT; delete it.\n"
+    "rescue   says what check says of FILE, then a line for each change. The fields before the steps must be good.\n"
+    "         From there on a reading that cannot be used becomes a missing one; at anything else that is wrong the\n"
+    "         stick ends, with a new end field that counts the steps before it. What is kept is as it was, byte for\n"
+    "         byte. OUT is written whole or not at all, as RESULT is; a complete FILE is written as it is. A rescued\n"
+    "         stick has lost data: keep the damaged one.\n"
     "settle   LOAD is 0 to 100000000, BUDGET the most passes, 1 to 10000; without it 10000. Target, band and factor\n"
     "         are the file's, and the mode is 1 (PeakShave). The reading left is the load less all requests.\n"
     "table    columns parted by tabs: step, unit, request, delivered power, vars, stored energy, loss. If FILE has\n"
@@ -66,8 +72,8 @@ static const char meanings[] =
     "         In the roof's line power is the sum over the inverters of a step; the energies are the sums of the\n"
     "         lines above; on_s counts a step once, in which any inverter was on.\n"
     "\n"
-    "Exit status: 0 all files are complete, 1 a file or a value was refused, or RESULT is not the result of FILE,\n"
-    "2 a wrong call, or a file that cannot be read or written.\n";
+    "Exit status: 0 all files are complete or, with rescue, OUT is written, 1 a file or a value was refused, or\n"
+    "RESULT is not the result of FILE, 2 a wrong call, or a file that cannot be read or written.\n";
 
 /* The progress line comes after each file's lines and goes before the next ones. */
 static void files_progress(int done, int all)
@@ -134,6 +140,12 @@ static int run_words(int count, char **words)
     return run_command(words[0], words[1]);
 }
 
+static int rescue_words(int count, char **words)
+{
+    (void)count;
+    return rescue_command(words[0], words[1]);
+}
+
 static int settle_words(int count, char **words)
 {
     return settle_command(words[0], words[1], count > 2 ? words[2] : "10000");
@@ -167,6 +179,7 @@ static const struct {
     {"check", 1, -1, check_command, "check needs a FILE or several"},
     {"show", 1, 1, show_command, "show needs one FILE"},
     {"run", 2, 2, run_words, "run needs a FILE and a RESULT"},
+    {"rescue", 2, 2, rescue_words, "rescue needs a FILE and an OUT"},
     {"settle", 2, 3, settle_words, "settle needs a FILE, a LOAD and perhaps a BUDGET"},
     {"table", 2, 2, table_words, "table needs a FILE and its RESULT"},
     {"summary", 2, 2, summary_words, "summary needs a FILE and its RESULT"},

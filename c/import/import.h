@@ -1,8 +1,9 @@
 /* What the parts of the import tool share; each part says at its start what it does.
 **
 ** What a stick says is asked of the library, and nothing here reads a stick's values by itself, but for two that no
-** call tells: the edition, and the S of a unit that was refused. The library's answers are proved, but nothing here
-** trusts them with memory: a place or a size that cannot be about the file is a fault, is told, and ends the command.
+** call tells: the edition, and the S of a unit that was refused; and in what a rescue gives the count of the end. The
+** library's answers are proved, but nothing here trusts them with memory: a place or a size that cannot be about the
+** file is a fault, is told, and ends the command.
 */
 #ifndef IMPORT_H
 #define IMPORT_H
@@ -113,7 +114,10 @@ const char *reading_fault(void);
 */
 int feed_file(struct stick *stick, const struct taker *taker);
 
-/* The same once more for a complete stick that was kept; and free what was kept. */
+/* The same for a file that is in memory, under the stick's name, without a taker. */
+int feed_bytes(struct stick *stick, uint8_t *bytes, size_t len);
+
+/* Feed once more a complete stick that was kept, and hand on what its run gives; and free what was kept. */
 int feed_again(const struct stick *stick, const struct taker *taker);
 void free_kept(struct stick *stick);
 
@@ -121,6 +125,9 @@ void free_kept(struct stick *stick);
 
 /* A big-endian number of that many bytes. */
 uint64_t number_at(const uint8_t *bytes, int width);
+
+/* The bytes of a field, of which tag and length are there. */
+size_t field_len(const uint8_t *field);
 
 /* What is known of the file from the place of a refusal on; and the length that the refused field says, where its
 ** header is there.
@@ -148,6 +155,9 @@ void end_progress(void);
 
 /* Print a name as a part of one line. */
 void print_name(FILE *out, const char *name);
+
+/* Print a number, its thousands parted by commas. */
+void print_commas(uint64_t number);
 
 /* Say on standard error what is the matter with a file; give FAILED. */
 int failed(const char *name, const char *what, const char *why);
@@ -180,23 +190,34 @@ int ask_limits(struct limits *limits, const struct stick *stick, unsigned which)
 const char *refusal_name(const struct stick *stick);
 void print_advice(const struct stick *stick);
 
+/* Print which of something it is, counted from 1 as people do: "the 2nd unit". */
+void print_counted(unsigned number, const char *what);
+
+/* import_target.c */
+
+/* Where a file of a name is to be written, which is given for a word of the command: a link stays, and what it leads to
+** is replaced. Gives a name to be freed, or NULL where nothing can be written there, which is told.
+*/
+char *target_of(const char *file, const char *name, const char *word);
+
 /* import_whole.c */
 
 /* A file that is written as its bytes come, and appears whole under its name or not at all; there is one at a time.
-** Where something goes wrong nothing more is written, and the end of it tells why and gives FAILED; else the end gives
-** the file its name, and COMPLETE. One that is not to be is dropped.
+** Where something goes wrong nothing more is written, and the end of it tells why, with the command's word for the
+** file, and gives FAILED; else the end gives the file its name, and COMPLETE. One that is not to be is dropped.
 */
 struct whole {
-    const char *name, *last;
+    const char *name, *word, *last;
     int to, why;
 };
-void begin_whole(struct whole *whole, const char *name);
+void begin_whole(struct whole *whole, const char *name, const char *word);
 void write_more(struct whole *whole, const uint8_t *bytes, size_t len);
 int end_whole(struct whole *whole);
 void drop_whole(struct whole *whole);
 
 /* The commands, with the words that follow them. */
 int run_command(const char *file, const char *result);
+int rescue_command(const char *file, const char *out);
 int settle_command(const char *file, const char *load, const char *budget);
 int table_command(const char *file, const char *result);
 int summary_command(const char *file, const char *result);

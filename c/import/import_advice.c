@@ -52,6 +52,11 @@ static const struct words refusals[] = {
         "for each part."},
 };
 
+/* A file that is too long to be lent as a whole is refused at its first byte, and one of too many steps never is. */
+static const struct words too_long = {"too many bytes or steps",
+    "The file has more than the 2,097,152 bytes that are taken as a whole. Check it with import check, which takes any "
+    "length: if it is complete it needs no rescue; else copy the stick again or ask the manager for a new one."};
+
 /* What more is known where a refusal is about the edition or about a unit, whose length and limits go by it. */
 static const struct words bad_fleet = {"value out of range",
     "The edition of # is not 1, 2 or 3, or its units are not 1 to 64, or its seconds are not 1 to 86,400. Ask the "
@@ -157,14 +162,17 @@ static const struct words *words_of(const struct stick *stick)
         return range_words(stick, tag);
     if (number == YB_NOT_USABLE && tag == WEATHER_TAG)
         return &bad_weather;
+    if (number == YB_TOO_MANY && stick->place == 0)
+        return &too_long;
     return refusals[number].name != NULL ? &refusals[number] : &refusals[0];
 }
 
-/* The unit or the inverter of a number, counted from the first. */
-static void print_counted(unsigned number, const char *what)
+void print_counted(unsigned number, const char *what)
 {
     static const char *const ends[] = {"th", "st", "nd", "rd"};
-    printf("the %u%s %s", number, number % 10 > 3 || number / 10 % 10 == 1 ? "th" : ends[number % 10], what);
+    printf("the ");
+    print_commas(number);
+    printf("%s %s", number % 10 > 3 || number / 10 % 10 == 1 ? "th" : ends[number % 10], what);
 }
 
 /* The curve that stands, or should stand, behind what stands before. */

@@ -6,7 +6,7 @@
 ** and those of a chunk of readings with weather, for three of each, 300 KB. A stick that is kept, because it is fed
 ** again, is kept as far as the library has taken it, which today is 3 MB at most.
 */
-#define _POSIX_C_SOURCE 200809L /* for fileno and fstat */
+#define _POSIX_C_SOURCE 200809L /* for fileno, fstat and fmemopen */
 #include <errno.h>
 #include <inttypes.h>
 #include <stdlib.h>
@@ -204,9 +204,9 @@ static int feed_all(struct stick *stick, const struct taker *taker, FILE *in)
     return outcome == COMPLETE ? feed_end(stick, taker) : outcome;
 }
 
-int feed_file(struct stick *stick, const struct taker *taker)
+/* Feeds what was opened, and closes it. */
+static int feed_input(struct stick *stick, const struct taker *taker, FILE *in)
 {
-    FILE *in = open_input(stick->name);
     if (in == NULL)
         return failed(stick->name, "cannot be read: ", reading_fault());
     begin_fields(stick);
@@ -218,6 +218,16 @@ int feed_file(struct stick *stick, const struct taker *taker)
     if (outcome != COMPLETE)
         free_kept(stick);
     return outcome;
+}
+
+int feed_file(struct stick *stick, const struct taker *taker)
+{
+    return feed_input(stick, taker, open_input(stick->name));
+}
+
+int feed_bytes(struct stick *stick, uint8_t *bytes, size_t len)
+{
+    return feed_input(stick, NULL, fmemopen(bytes, len, "rb"));
 }
 
 int feed_again(const struct stick *stick, const struct taker *taker)

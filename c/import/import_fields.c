@@ -25,6 +25,11 @@ uint64_t number_at(const uint8_t *bytes, int width)
     return number;
 }
 
+size_t field_len(const uint8_t *field)
+{
+    return HEADER + (size_t)number_at(field + 1, 2);
+}
+
 const uint8_t *refused_bytes(const struct stick *stick)
 {
     return stick->window + (stick->place - stick->window_from);
@@ -82,7 +87,7 @@ static int count_fields(struct stick *stick, size_t end, size_t *past)
     struct before *before = &stick->before;
     for (*past = 0; end - *past >= HEADER;) {
         const uint8_t *field = window + *past;
-        size_t len = HEADER + (size_t)number_at(field + 1, 2);
+        size_t len = field_len(field);
         if (end - *past < len)
             break;
         if (!is_of_steps(field[0]) && put_aside(stick, field, len) != COMPLETE)

@@ -12,6 +12,16 @@ void print_name(FILE *out, const char *name)
         putc((unsigned char)*name < ' ' || *name == 0x7F ? '?' : *name, out);
 }
 
+void print_commas(uint64_t number)
+{
+    if (number >= 1000) {
+        print_commas(number / 1000);
+        printf(",%03u", (unsigned)(number % 1000));
+    } else {
+        printf("%u", (unsigned)number);
+    }
+}
+
 int failed(const char *name, const char *what, const char *why)
 {
     end_progress();

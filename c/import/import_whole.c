@@ -17,19 +17,19 @@
 static const int endings[] = {SIGINT, SIGTERM, SIGHUP, SIGQUIT, SIGPIPE};
 enum { ENDINGS = sizeof endings / sizeof endings[0] };
 
-/* The unfinished file, for the handler; there is one as long as is_unfinished is not 0. */
-static char unfinished[64];
+/* The unfinished file, for the handler, and what that says; there is one as long as is_unfinished is not 0. */
+static char unfinished[64], said[100];
+static size_t said_len;
 static int folder = -1;
 static volatile sig_atomic_t is_unfinished;
 
 /* Ends the program as the signal would have: its action is the usual one again, and it comes when this returns. */
 static void interrupted(int number)
 {
-    static const char said[] = "\rimport: interrupted; nothing under the name of RESULT has changed\n";
     if (is_unfinished) {
         unlinkat(folder, unfinished, 0);
-        int from = has_progress() ? 0 : 1; /* the line is longer than one of progress, and goes over it */
-        ssize_t told = write(STDERR_FILENO, said + from, sizeof said - 1 - (size_t)from);
+        size_t from = has_progress() ? 0 : 1; /* the line is longer than one of progress, and goes over it */
+        ssize_t told = write(STDERR_FILENO, said + from, said_len - from);
         (void)told;
     }
     raise(number);
@@ -127,11 +127,12 @@ static int settle_name(int is_good, const char *last)
     return done ? 0 : -1;
 }
 
-static int unwritten(const char *name, int error)
+static int unwritten(const struct whole *whole, int error)
 {
     const char *why = error == ENOENT ? "there is no such folder" : strerror(error);
-    failed(name, "cannot be written: ", why);
-    fprintf(stderr, "    Nothing under that name has changed. Make room or give RESULT another name, and call again.\n");
+    failed(whole->name, "cannot be written: ", why);
+    fprintf(stderr, "    Nothing under that name has changed. Make room or give %s another name, and call again.\n",
+        whole->word);
     return FAILED;
 }
 
@@ -143,9 +144,9 @@ static int keep_name(const char *name)
     return failed(name, "written, but the disk did not confirm its name; call again: ", strerror(errno));
 }
 
-void begin_whole(struct whole *whole, const char *name)
+void begin_whole(struct whole *whole, const char *name, const char *word)
 {
-    *whole = (struct whole){.name = name, .to = -1};
+    *whole = (struct whole){.name = name, .word = word, .to = -1};
 }
 
 void drop_whole(struct whole *whole)
@@ -168,6 +169,8 @@ static void give_up(struct whole *whole)
 
 static void open_whole(struct whole *whole)
 {
+    said_len = (size_t)snprintf(said, sizeof said, "\rimport: interrupted; nothing under the name of %s has changed\n",
+        whole->word);
     watch_signals();
     folder = open_folder(whole->name, &whole->last);
     whole->to = folder < 0 ? -1 : open_unfinished();
@@ -189,9 +192,9 @@ int end_whole(struct whole *whole)
     if (whole->why == 0 && fsync(whole->to) != 0)
         give_up(whole);
     if (whole->why != 0)
-        return unwritten(whole->name, whole->why);
+        return unwritten(whole, whole->why);
     int is_good = close(whole->to) == 0;
-    int outcome = settle_name(is_good, whole->last) == 0 ? keep_name(whole->name) : unwritten(whole->name, errno);
+    int outcome = settle_name(is_good, whole->last) == 0 ? keep_name(whole->name) : unwritten(whole, errno);
     close(folder);
     whole->to = folder = -1;
     return outcome;

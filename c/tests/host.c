@@ -123,7 +123,7 @@ enum { FIRST = LISTS, SECOND, THIRD, FOURTH, FIFTH, TWELFTH = FIRST + 11, ALL_LE
 
 static const size_t widths[LISTS] = {8, 8, 8, 4, 2, 4};
 static struct lent lent[ALL_LENT];
-static struct lent lent_file, lent_room, lent_state;
+static struct lent lent_file, lent_room, lent_list, lent_state;
 
 /* Memory of a length between guards; what it holds is still to be filled in and then kept. */
 static uint8_t *between_guards(struct lent *lent, size_t length)
@@ -159,15 +159,19 @@ static void *lend(struct lent *lent, const uint8_t *bytes, size_t length)
     return keep(lent);
 }
 
-/* A room whose bytes before the call are the fill, that and 7, that and 14, and so on: no byte is like the
-** next, so that a shifted copy is seen as well.
+/* A room of a call, its length u32 and its fill u8, lent. Its bytes before the call are the fill, that and 7, that and
+** 14, and so on: no byte is like the next, so that a shifted copy is seen as well.
 */
-static void *lend_room(size_t length, uint8_t fill)
+static uint8_t *take_room(struct rest *rest, struct lent *lent, const char *too_long)
 {
-    uint8_t *room = between_guards(&lent_room, length);
+    uint64_t length = take_number(rest, 4);
+    uint8_t fill = (uint8_t)take_number(rest, 1);
+    if (length > MOST_ROOM)
+        give_up(too_long);
+    uint8_t *room = between_guards(lent, length);
     for (size_t i = 0; i < length; i++)
         room[i] = (uint8_t)(fill + 7 * i);
-    return keep(&lent_room);
+    return keep(lent);
 }
 
 static void *lend_number(struct lent *lent, size_t width)
@@ -533,16 +537,12 @@ static void call_run(const uint8_t *payload, size_t length)
 {
     struct rest rest = {payload, length, "op R: the payload is no row of rooms and files"};
     while (rest.length != 0) {
-        uint64_t room_len = take_number(&rest, 4);
-        uint8_t fill = (uint8_t)take_number(&rest, 1);
-        if (room_len > MOST_ROOM)
-            give_up("op R: a room is too long");
+        uint8_t *room = take_room(&rest, &lent_room, "op R: a room is too long");
         const uint8_t *file = take_file(&rest);
-        uint8_t *room = lend_room(room_len, fill);
         put(yb_run_room(file, lent_file.length), 8);
-        put(yb_run(file, lent_file.length, room, room_len), 4);
+        put(yb_run(file, lent_file.length, room, lent_room.length), 4);
         put((uint64_t)(disturbed_one(&lent_file, 1) || disturbed_one(&lent_room, 0)), 1);
-        put_bytes(room, room_len);
+        put_bytes(room, lent_room.length);
     }
 }
 
@@ -621,12 +621,8 @@ static void call_feed_once(struct rest *rest)
 {
     uint8_t kind = (uint8_t)take_number(rest, 1);
     uint8_t asks = (uint8_t)take_number(rest, 1);
-    uint64_t room_len = take_number(rest, 4);
-    uint8_t fill = (uint8_t)take_number(rest, 1);
-    if (room_len > MOST_ROOM)
-        give_up("op E: a room is too long");
+    uint8_t *room = take_room(rest, &lent_room, "op E: a room is too long"), *state = lent_state.memory + GUARD;
     const uint8_t *chunk = take_file(rest);
-    uint8_t *room = lend_room(room_len, fill), *state = lent_state.memory + GUARD;
     uint64_t *written = lend_number(&lent[FIRST], sizeof *written);
     int changed = 0;
     if (asks & ASK_ROOM) {
@@ -635,7 +631,7 @@ static void call_feed_once(struct rest *rest)
         changed |= disturbed_one(&lent_state, 1);
     }
     uint32_t number = call_feed_kind(kind, room, written);
-    size_t used = number != 0 || kind == FEED_START ? 0 : *written < room_len ? *written : room_len;
+    size_t used = number != 0 || kind == FEED_START ? 0 : *written < lent_room.length ? *written : lent_room.length;
     changed |= disturbed_one(&lent_state, 0) || disturbed_one(&lent_file, 1) || disturbed_one(&lent[FIRST], 0)
         || room_disturbed(used);
     put(number, 4);
@@ -673,6 +669,29 @@ static void call_feed(const uint8_t *payload, size_t length)
     }
 }
 
+/* 'H': any number of rescues. Each is the room for the output and the room for the list, of both the length u32 and the
+** fill u8, and the file; for each yb_rescue_room and yb_rescue_changes u64, yb_rescue_steps u32; the rescue's number
+** u32; 1 if the file or a guard was written, u8; and all bytes of both rooms.
+*/
+static void call_rescue(const uint8_t *payload, size_t length)
+{
+    struct rest rest = {payload, length, "op H: the payload is no row of rooms and files"};
+    while (rest.length != 0) {
+        uint8_t *out = take_room(&rest, &lent_room, "op H: a room is too long");
+        uint8_t *list = take_room(&rest, &lent_list, "op H: a list is too long");
+        const uint8_t *file = take_file(&rest);
+        size_t n = lent_file.length;
+        put(yb_rescue_room(file, n), 8);
+        put(yb_rescue_changes(file, n), 8);
+        put(yb_rescue_steps(file, n), 4);
+        put(yb_rescue(file, n, out, lent_room.length, list, lent_list.length), 4);
+        put((uint64_t)(disturbed_one(&lent_file, 1) || disturbed_one(&lent_room, 0) || disturbed_one(&lent_list, 0)),
+            1);
+        put_bytes(out, lent_room.length);
+        put_bytes(list, lent_list.length);
+    }
+}
+
 static const struct {
     uint8_t op;
     void (*call)(const uint8_t *payload, size_t length);
@@ -690,6 +709,7 @@ static const struct {
     {'Y', call_study},
     {'R', call_run},
     {'E', call_feed},
+    {'H', call_rescue},
 };
 
 static void dispatch(uint8_t op, const uint8_t *payload, size_t length)

@@ -12,7 +12,14 @@
 ** Any other file is read as seven decimal numbers with blanks between them, and these are the answers, in this
 ** order: the refusal's number, place and steps, the start and the length of the value part, the units, and the
 ** inverters. A number that is not there is 0.
+**
+** Where the variable CANNED_CHECK is set it has number, place and steps of each file that is fed, in turn, in decimal
+** numbers with blanks between them; a number of 0 is for an answer as above. A rescue gives a file back as it is, or
+** where the variable CANNED_RESCUE is set answers with its numbers: the refusal's, or 0, the room, how many changes,
+** the steps, and for each change place, kind and bytes dropped. What it writes is then the file with these changes, as
+** far as there are room and bytes. With CANNED_SPOILED set, the byte at that place of what it writes is another.
 */
+#include <stdlib.h>
 #include <string.h>
 
 #include "yesbrulka.h"
@@ -31,6 +38,23 @@ static uint64_t canned(const uint8_t *file, size_t file_len, int which)
 static uint32_t number_at(const uint8_t *bytes)
 {
     return (uint32_t)bytes[0] << 24 | (uint32_t)bytes[1] << 16 | (uint32_t)bytes[2] << 8 | bytes[3];
+}
+
+/* A number of the row in a variable, counted from 0. */
+static uint64_t told(const char *variable, uint64_t which)
+{
+    const char *row = getenv(variable);
+    uint64_t number = 0;
+    if (row == NULL)
+        return 0;
+    for (uint64_t i = 0; i <= which && *row != '\0'; i++) {
+        char *rest;
+        number = strtoull(row, &rest, 10);
+        if (i == which)
+            return number;
+        row = rest;
+    }
+    return 0;
 }
 
 static int is_stick(const uint8_t *file, size_t file_len)
@@ -147,22 +171,34 @@ static uint8_t *put_step(uint8_t *room, uint32_t seconds, uint32_t units, uint32
     return room;
 }
 
-/* What was fed is all here, and the state is not looked at. */
-static uint8_t fed[4 << 20];
-static size_t fed_len;
-
-/* The steps among so many of its bytes. */
-static uint32_t fed_steps(size_t len)
+/* The steps among so many bytes. */
+static uint32_t steps_in(const uint8_t *file, size_t len)
 {
     uint32_t steps = 0;
     size_t field;
     for (size_t at = 0; len - at >= 3; at += field) {
-        field = 3 + ((size_t)fed[at + 1] << 8 | fed[at + 2]);
+        field = 3 + ((size_t)file[at + 1] << 8 | file[at + 2]);
         if (len - at < field)
             break;
-        steps += fed[at] == 0x04 || fed[at] == 0x05;
+        steps += file[at] == 0x04 || file[at] == 0x05;
     }
     return steps;
+}
+
+/* What was fed is all here, and the state is not looked at; how many files were fed before it. */
+static uint8_t fed[4 << 20];
+static size_t fed_len, fed_before;
+static int is_fed;
+
+static uint32_t fed_steps(size_t len)
+{
+    return steps_in(fed, len);
+}
+
+/* Number, place or steps of the file that is fed. */
+static uint64_t checked(int which)
+{
+    return told("CANNED_CHECK", 3 * fed_before + (uint64_t)which);
 }
 
 uint64_t yb_feed_size(void)
@@ -173,6 +209,8 @@ uint64_t yb_feed_size(void)
 uint32_t yb_feed_start(uint8_t *state, size_t state_len)
 {
     (void)state, (void)state_len;
+    fed_before += is_fed;
+    is_fed = 1;
     fed_len = 0;
     return 0;
 }
@@ -198,6 +236,8 @@ uint32_t yb_feed(uint8_t *state, size_t state_len, const uint8_t *chunk, size_t 
     memcpy(fed + fed_len, chunk, chunk_len);
     uint32_t step = fed_steps(fed_len), steps = fed_steps(fed_len + chunk_len);
     fed_len += chunk_len;
+    if (checked(0) != 0)
+        return (uint32_t)checked(0);
     if (!is_stick(fed, fed_len))
         return (uint32_t)canned(fed, fed_len, 0);
     uint32_t seconds = yb_seconds(fed, fed_len);
@@ -223,6 +263,8 @@ uint32_t yb_feed_end(uint8_t *state, size_t state_len, uint8_t *room, size_t roo
 uint64_t yb_feed_place(const uint8_t *state, size_t state_len)
 {
     (void)state, (void)state_len;
+    if (checked(0) != 0)
+        return checked(1);
     if (!is_stick(fed, fed_len))
         return canned(fed, fed_len, 1);
     return fed_len + (yb_seconds(fed, fed_len) == 12);
@@ -231,7 +273,87 @@ uint64_t yb_feed_place(const uint8_t *state, size_t state_len)
 uint32_t yb_feed_steps(const uint8_t *state, size_t state_len)
 {
     (void)state, (void)state_len;
+    if (checked(0) != 0)
+        return (uint32_t)checked(2);
     return is_stick(fed, fed_len) ? fed_steps(fed_len) : (uint32_t)canned(fed, fed_len, 2);
+}
+
+/* A rescue's answers. */
+static const char rescue[] = "CANNED_RESCUE";
+
+uint64_t yb_rescue_room(const uint8_t *file, size_t file_len)
+{
+    (void)file;
+    return getenv(rescue) == NULL ? file_len : told(rescue, 1);
+}
+
+uint64_t yb_rescue_changes(const uint8_t *file, size_t file_len)
+{
+    (void)file, (void)file_len;
+    return told(rescue, 2);
+}
+
+uint32_t yb_rescue_steps(const uint8_t *file, size_t file_len)
+{
+    return getenv(rescue) == NULL ? steps_in(file, file_len) : (uint32_t)told(rescue, 3);
+}
+
+/* A room, and how much of it is written. */
+struct room {
+    uint8_t *at;
+    size_t len, used;
+};
+
+static void put_bytes(struct room *room, const uint8_t *bytes, size_t len)
+{
+    len = len < room->len - room->used ? len : room->len - room->used;
+    if (len != 0)
+        memcpy(room->at + room->used, bytes, len);
+    room->used += len;
+}
+
+static void put_number(struct room *room, uint64_t number, int width)
+{
+    while (width-- > 0)
+        put_bytes(room, (const uint8_t[]){(uint8_t)(number >> 8 * width)}, 1);
+}
+
+/* The file up to a place, if there is one that is not behind it. */
+static size_t put_up_to(struct room *out, const uint8_t *file, size_t file_len, size_t from, uint64_t place)
+{
+    size_t to = place < from ? from : place > file_len ? file_len : (size_t)place;
+    put_bytes(out, file + from, to - from);
+    return to;
+}
+
+uint32_t yb_rescue(const uint8_t *file, size_t file_len, uint8_t *out, size_t out_len, uint8_t *list, size_t list_len)
+{
+    struct room kept = {out, out_len, 0}, changes = {list, list_len, 0};
+    size_t from = 0;
+    if (told(rescue, 0) != 0)
+        return (uint32_t)told(rescue, 0);
+    /* All that is lent can be written. */
+    if (out_len != 0)
+        memset(out, 0, out_len);
+    if (list_len != 0)
+        memset(list, 0, list_len);
+    for (uint64_t i = 4; i < 4 + 3 * told(rescue, 2) && changes.used < list_len; i += 3) {
+        uint64_t place = told(rescue, i), kind = told(rescue, i + 1), dropped = told(rescue, i + 2);
+        put_number(&changes, place, 8);
+        put_number(&changes, kind, 1);
+        put_number(&changes, dropped, 8);
+        from = put_up_to(&kept, file, file_len, from, place);
+        if (kind == YB_MADE_MISSING)
+            put_number(&kept, 0x050000, 3);
+        if (kind == YB_ENDED_HERE)
+            put_number(&kept, UINT64_C(0x7F000400000000) + told(rescue, 3), 7);
+        size_t past = (size_t)dropped + (kind == YB_MADE_MISSING ? 3 : 0);
+        from = past < file_len - from ? from + past : file_len;
+    }
+    put_up_to(&kept, file, file_len, from, file_len);
+    if (getenv("CANNED_SPOILED") != NULL && told("CANNED_SPOILED", 0) < out_len)
+        out[told("CANNED_SPOILED", 0)] ^= 1;
+    return 0;
 }
 
 uint32_t yb_watts(double kw, int32_t *watts)

@@ -144,7 +144,7 @@ small_sticks() {
 }
 
 # The suites, each in a part of its own.
-for part in check run faults settle result limits older roof advice feed canned; do
+for part in check run faults settle result limits older roof advice feed rescue rescue_out canned rescue_canned; do
     # shellcheck disable=SC1090 # one of the parts beside this
     . "c/tests/test_import_$part.sh" || exit 1
 done
@@ -175,6 +175,12 @@ all_suites() {
     pipe_suite
     feed_target_suite
     feed_progress_suite
+    rescue_examples_suite
+    rescue_damage_suite
+    rescue_large_suite
+    rescue_files_suite
+    rescue_target_suite
+    rescue_full_suite
     rm -rf "${work:?}"/*
 }
 
@@ -188,6 +194,7 @@ good "$YB_CC" -O2 -Wall -Wextra -Werror -std=c11 $YB_STATIC -Ic -Wl,--wrap=opena
 fault_suite
 ended_suite
 feed_fault_suite
+rescue_fault_suite
 largest_suite
 largest_roof_suite
 all_suites
@@ -206,6 +213,7 @@ if yb_compiles gcc $sanitizers; then
     canned_suite
     canned_run_suite
     canned_feed_suite
+    canned_rescue_suite
     if [ "$(uname -m)" = x86_64 ]; then
         import=build/sanitized/import
         good gcc $flags -o "$import" c/import/*.c "$YB_ARCHIVE"

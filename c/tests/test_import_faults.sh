@@ -5,14 +5,14 @@
 # A program hears the signals that are switched off for the tests, as they are in the background.
 hearing=--default-signal=HUP,INT,QUIT,TERM,PIPE
 
-# faulty FAULTS FILE [SIGNALS]: run a file into the old result while these faults happen. Each is CALL:TIME:WHAT, as
-# c/tests/test_faults.c says; the signals are env's word for how they are to be taken.
+# faulty FAULTS FILE [SIGNALS [COMMAND]]: run a file, or rescue it, into the old result while these faults happen. Each
+# is CALL:TIME:WHAT, as c/tests/test_faults.c says; the signals are env's word for how they are to be taken.
 faulty() {
-    called="run $2, with the faults $1"
+    called="${4:-run} $2, with the faults $1"
     old
     # shellcheck disable=SC2086 # YB_EMULATOR may be no word
     error=$(ulimit -c 0 && env "${3:-$hearing}" IMPORT_FAULTS="$1" $YB_EMULATOR build/x86_64/import_faults \
-        run "$2" "$work/out/result" 2>&1 >"$work/output")
+        "${4:-run}" "$2" "$work/out/result" 2>&1 >"$work/output")
     status=$?
     output=$(cat "$work/output")
     # The emulator has a line of its own about some signals.

@@ -18,13 +18,15 @@ enum { UNITS = 64, STEPS = 8760, HEAD = 9 + 52 * UNITS + 15, FILE_LEN = HEAD + 2
 enum { INVERTERS = 64, INVERTER = 22 + 132 + 132, ROOF_HEAD = HEAD + INVERTER * INVERTERS };
 enum { ROOF_LEN = ROOF_HEAD + (19 + 27) * STEPS + 7, TOO_LONG = 2097153 };
 enum { LIMITS = 8, LIMITED_LEN = FILE_LEN + LIMITS * UNITS };
+enum { BAD_LEN = HEAD + 27 * (YB_MOST_STEPS + 1), KEPT_LEN = HEAD + 3 * YB_MOST_STEPS + 7 };
+enum { ROOF_CUT = ROOF_LEN - 7 - 27, ROOF_KEPT = ROOF_HEAD + (19 + 3) * (STEPS - 1) + 7 };
 enum { RESULT_LEN = 40 * UNITS * STEPS + 7, ROOF_RESULT_LEN = (40 * UNITS + 29 * INVERTERS) * STEPS + 7 };
 
 static uint8_t *stack;
 static ucontext_t home, away;
 
 /* What the calls are about, and the answers that were not as expected. */
-static uint8_t file[TOO_LONG], result[ROOF_RESULT_LEN], state[23163];
+static uint8_t file[TOO_LONG], result[ROOF_RESULT_LEN], state[23163], list[YB_CHANGE_BYTES * (YB_MOST_STEPS + 1)];
 static uint64_t rated[UNITS], reserve[UNITS], stored[UNITS];
 static uint32_t rating[UNITS];
 static uint16_t weight[UNITS];
@@ -207,6 +209,28 @@ static void put_roof_file(uint8_t mode)
         put_reading(file + ROOF_HEAD + 46 * step + 19, step);
     }
     put_end(file + ROOF_LEN - 7);
+}
+
+static void spoil_reading(uint8_t *field)
+{
+    put(field + 3, UINT64_C(0x7FF8000000000000), 8);
+}
+
+/* Readings that do not convert, one more than there can be. */
+static void put_bad_file(void)
+{
+    uint8_t *at = put_head(1, 1);
+    for (unsigned step = 0; step <= YB_MOST_STEPS; step++, at += 27) {
+        put_reading(at, step);
+        spoil_reading(at);
+    }
+}
+
+static void put_bad_roof_file(void)
+{
+    put_roof_file(1);
+    for (unsigned step = 0; step < STEPS; step++)
+        spoil_reading(file + ROOF_HEAD + 46 * step + 19);
 }
 
 static void put_fleet(int32_t request)
@@ -466,6 +490,64 @@ static void call_roof_feed(void)
     put_file(1);
 }
 
+/* A file of as many changes as there can be, a complete one, and refused ones. */
+static void call_rescue_room(void)
+{
+    put_bad_file();
+    expect(yb_rescue_room(file, BAD_LEN), KEPT_LEN);
+    expect(yb_rescue_room(file, HEAD - 1), 0);
+    put_file(1);
+    expect(yb_rescue_room(file, FILE_LEN), FILE_LEN);
+    expect(yb_rescue_room(file, TOO_LONG), 0);
+}
+
+static void call_rescue_changes(void)
+{
+    put_bad_file();
+    expect(yb_rescue_changes(file, BAD_LEN), YB_MOST_STEPS + 1);
+    expect(yb_rescue_changes(file, HEAD - 1), 0);
+    put_file(1);
+    expect(yb_rescue_changes(file, FILE_LEN - 8), 1);
+    expect(yb_rescue_changes(file, TOO_LONG), 0);
+}
+
+static void call_rescue_steps(void)
+{
+    put_bad_file();
+    expect(yb_rescue_steps(file, BAD_LEN), YB_MOST_STEPS);
+    expect(yb_rescue_steps(file, HEAD - 1), 0);
+    put_file(1);
+    expect(yb_rescue_steps(file, FILE_LEN - 8), STEPS - 1);
+    expect(yb_rescue_steps(file, TOO_LONG), 0);
+}
+
+static void call_rescue(void)
+{
+    put_bad_file();
+    expect(yb_rescue(file, BAD_LEN, result, KEPT_LEN, list, sizeof list), 0);
+    expect(yb_check(result, KEPT_LEN), 0);
+    expect(yb_rescue(file, BAD_LEN, result, KEPT_LEN - 1, list, sizeof list), 11);
+    expect(yb_rescue(file, BAD_LEN, result, KEPT_LEN, list, sizeof list - 1), 11);
+    expect(yb_rescue(file, HEAD - 1, result, KEPT_LEN, list, sizeof list), 1);
+    put_file(1);
+    expect(yb_rescue(file, FILE_LEN, result, FILE_LEN, list, 0), 0);
+    expect(yb_rescue(file, TOO_LONG, result, TOO_LONG, list, sizeof list), 12);
+}
+
+/* The same behind 64 inverters, broken off behind the last weather, and cut in a curve. */
+static void call_roof_rescue(void)
+{
+    put_bad_roof_file();
+    expect(yb_rescue_room(file, ROOF_CUT), ROOF_KEPT);
+    expect(yb_rescue_changes(file, ROOF_CUT), STEPS);
+    expect(yb_rescue_steps(file, ROOF_CUT), STEPS - 1);
+    expect(yb_rescue(file, ROOF_CUT, result, ROOF_KEPT, list, sizeof list), 0);
+    expect(yb_check(result, ROOF_KEPT), 0);
+    expect(yb_rescue(file, ROOF_CUT, result, ROOF_KEPT, list, YB_CHANGE_BYTES * STEPS - 1), 11);
+    expect(yb_rescue(file, ROOF_HEAD - 1, result, ROOF_KEPT, list, sizeof list), 1);
+    put_file(1);
+}
+
 static void call_watts(void)
 {
     static const double powers[] = {0, 1.5, -0.0625, 0x1p-1074, 99999.9999, 1e300, -1e300 * 1e300};
@@ -611,6 +693,11 @@ static const struct {
     {"yb_run with 64 inverters", call_roof_run},
     {"yb_feed and the calls beside it, in edition 3", call_feed},
     {"yb_feed and the calls beside it, with 64 inverters", call_roof_feed},
+    {"yb_rescue_room", call_rescue_room},
+    {"yb_rescue_changes", call_rescue_changes},
+    {"yb_rescue_steps", call_rescue_steps},
+    {"yb_rescue", call_rescue},
+    {"yb_rescue and the calls beside it, with 64 inverters", call_roof_rescue},
     {"yb_watts", call_watts},
     {"yb_pass", call_pass},
     {"yb_settle", call_settle},

@@ -60,9 +60,32 @@ const uint8_t *lend(const uint8_t *file, size_t len, int at_end)
     return at;
 }
 
+uint8_t *open_bytes(struct pages *pages, size_t len, uint8_t fill, int at_end)
+{
+    if (pages->all == NULL)
+        pages->all = open_pages();
+    pages->len = len;
+    pages->whole = (len + EDGE - 1) / EDGE * EDGE;
+    pages->open = at_end ? pages->all + ROOM - pages->whole : pages->all;
+    pages->lent = at_end ? pages->all + ROOM - len : pages->all;
+    if (mprotect(pages->all, ROOM, PROT_NONE) != 0
+        || mprotect(pages->open, pages->whole, PROT_READ | PROT_WRITE) != 0)
+        give_up("memory to lend");
+    memset(pages->open, fill, pages->whole);
+    return pages->lent;
+}
+
+int spilled(const struct pages *pages, size_t used, uint8_t fill)
+{
+    for (const uint8_t *at = pages->open; at < pages->open + pages->whole; at++)
+        if ((at < pages->lent || at >= pages->lent + used) && *at != fill)
+            return 1;
+    return 0;
+}
+
 static const struct test *const parts[] = {
-    header_tests, check_tests, value_tests, told_tests, run_tests, feed_tests, watts_tests, pass_tests, settle_tests,
-    study_tests, fleet_tests, step_tests, roof_tests, solar_tests, curve_tests,
+    header_tests, check_tests, value_tests, told_tests, run_tests, feed_tests, rescue_tests, watts_tests, pass_tests,
+    settle_tests, study_tests, fleet_tests, step_tests, roof_tests, solar_tests, curve_tests,
 };
 
 int main(void)

@@ -14,8 +14,8 @@ struct test {
 
 /* The tests of the parts, each list up to one without a name. */
 extern const struct test header_tests[], check_tests[], value_tests[], told_tests[], run_tests[], feed_tests[],
-    watts_tests[], pass_tests[], settle_tests[], study_tests[], fleet_tests[], step_tests[], roof_tests[],
-    solar_tests[], curve_tests[];
+    rescue_tests[], watts_tests[], pass_tests[], settle_tests[], study_tests[], fleet_tests[], step_tests[],
+    roof_tests[], solar_tests[], curve_tests[];
 
 /* Wrong checks of the test that is running. */
 extern unsigned long wrong;
@@ -39,5 +39,17 @@ uint8_t *open_pages(void);
 ** nothing in it can be written. A program that does either dies. It is there until the next one is lent.
 */
 const uint8_t *lend(const uint8_t *file, size_t len, int at_end);
+
+/* Pages to lend a room from, of which only those are open that its bytes lie in. */
+struct pages {
+    uint8_t *all, *open, *lent;
+    size_t len, whole;
+};
+
+/* Open bytes at the start or the end of their pages, to be written; all bytes of these have the fill. */
+uint8_t *open_bytes(struct pages *pages, size_t len, uint8_t fill, int at_end);
+
+/* 1 if a byte of the open pages, but for the first so many that are lent, has lost its fill. */
+int spilled(const struct pages *pages, size_t used, uint8_t fill);
 
 #endif

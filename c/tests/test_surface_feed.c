@@ -23,43 +23,12 @@ enum { STATE = 23163, STAGE = 13, LAST = 7, MOST_RESULT = 400 };
 static uint8_t kept[STATE];
 static int at_end;
 
-/* Pages to lend from, of which only those are open that the lent bytes lie in. */
-struct pages {
-    uint8_t *all, *open, *lent;
-    size_t len, whole;
-};
-
 static struct pages of_state, of_room;
-
-/* Opens bytes at the start or the end of their pages; all bytes of these have the fill. */
-static uint8_t *open_bytes(struct pages *pages, size_t len, uint8_t fill)
-{
-    if (pages->all == NULL)
-        pages->all = open_pages();
-    pages->len = len;
-    pages->whole = (len + EDGE - 1) / EDGE * EDGE;
-    pages->open = at_end ? pages->all + ROOM - pages->whole : pages->all;
-    pages->lent = at_end ? pages->all + ROOM - len : pages->all;
-    if (mprotect(pages->all, ROOM, PROT_NONE) != 0
-        || mprotect(pages->open, pages->whole, PROT_READ | PROT_WRITE) != 0)
-        give_up("memory to lend");
-    memset(pages->open, fill, pages->whole);
-    return pages->lent;
-}
-
-/* 1 if a byte that is in the open pages, and not in a part of the lent bytes, has lost its fill. */
-static int spilled(const struct pages *pages, size_t from, size_t to, uint8_t fill)
-{
-    for (const uint8_t *at = pages->open; at < pages->open + pages->whole; at++)
-        if ((at < pages->lent + from || at >= pages->lent + to) && *at != fill)
-            return 1;
-    return 0;
-}
 
 /* The state, which can only be read. */
 static const uint8_t *readable(size_t len)
 {
-    uint8_t *state = open_bytes(&of_state, len, 0xC3);
+    uint8_t *state = open_bytes(&of_state, len, 0xC3, at_end);
     if (len != 0)
         memcpy(state, kept, len < STATE ? len : STATE);
     if (mprotect(of_state.open, of_state.whole, PROT_READ) != 0)
@@ -86,9 +55,9 @@ static void check_at(uint64_t place, uint32_t steps)
 static void start_over(uint8_t fill)
 {
     at_end = !at_end;
-    uint8_t *state = open_bytes(&of_state, STATE, fill);
+    uint8_t *state = open_bytes(&of_state, STATE, fill, at_end);
     tell("yb_feed_start", yb_feed_start(state, STATE), 0);
-    tell("yb_feed_start, bytes before or behind the state", (uint64_t)spilled(&of_state, 0, STATE, fill), 0);
+    tell("yb_feed_start, bytes before or behind the state", (uint64_t)spilled(&of_state, STATE, fill), 0);
     memcpy(kept, state, STATE);
 }
 
@@ -107,12 +76,13 @@ static void check_call(struct call call, uint32_t number, const uint8_t *result,
     uint64_t written = LEFT_ALONE;
     size_t used = number == 0 ? result_len : 0;
     at_end = !at_end;
-    uint8_t *state = open_bytes(&of_state, STATE, 0xC3), *room = open_bytes(&of_room, call.room_len, room_fill);
+    uint8_t *state = open_bytes(&of_state, STATE, 0xC3, at_end);
+    uint8_t *room = open_bytes(&of_room, call.room_len, room_fill, at_end);
     memcpy(state, kept, STATE);
     uint32_t got = call.chunk == NULL
         ? yb_feed_end(state, STATE, room, call.room_len, &written)
         : yb_feed(state, STATE, lend(call.chunk, call.len, at_end), call.len, room, call.room_len, &written);
-    int bad = spilled(&of_room, 0, used, room_fill) || spilled(&of_state, 0, STATE, 0xC3)
+    int bad = spilled(&of_room, used, room_fill) || spilled(&of_state, STATE, 0xC3)
         || (used != 0 && memcmp(room, result, used) != 0) || written != (number == 0 ? result_len : LEFT_ALONE)
         || ((number == YB_DOES_NOT_FIT || number == YB_ROOM_TOO_SHORT) && memcmp(state, kept, STATE) != 0);
     if (got != number || bad) {
@@ -212,9 +182,9 @@ static void test_start(void)
         }
     for (size_t i = 0; i < sizeof lengths / sizeof lengths[0]; i++) {
         at_end = !at_end;
-        uint8_t *state = open_bytes(&of_state, lengths[i], 0x77);
+        uint8_t *state = open_bytes(&of_state, lengths[i], 0x77, at_end);
         tell("yb_feed_start, a wrong length", yb_feed_start(state, lengths[i]), 10);
-        tell("yb_feed_start, a wrong length, and writes", (uint64_t)spilled(&of_state, 0, 0, 0x77), 0);
+        tell("yb_feed_start, a wrong length, and writes", (uint64_t)spilled(&of_state, 0, 0x77), 0);
     }
     tell("yb_feed_start, no address", yb_feed_start(NULL, 0), 10);
 }

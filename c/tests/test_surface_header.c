@@ -34,7 +34,7 @@ static void test_choices(void)
     check_names((const struct name[]){NAME(YB_PEAK_SHAVE, 1), NAME(YB_SUPPORT, 2), NAME(YB_PEAK_SHAVE_LOW, 3),
         NAME(YB_PHASE_SUM, 0), NAME(YB_PHASE_1, 1), NAME(YB_PHASE_2, 2), NAME(YB_PHASE_3, 3),
         NAME(YB_PHASE_LARGEST, 4), NAME(YB_PHASE_SMALLEST, 5), NAME(YB_WATTS_FIRST, 0), NAME(YB_VARS_FIRST, 1),
-        {NULL, 0, 0}});
+        NAME(YB_MADE_MISSING, 1), NAME(YB_ENDED_HERE, 2), NAME(YB_LEFT_OUT, 3), {NULL, 0, 0}});
 }
 
 static void test_limits(void)
@@ -44,13 +44,13 @@ static void test_limits(void)
         NAME(YB_MOST_FILE_BYTES, 2097152), NAME(YB_MOST_SECONDS, 86400), NAME(YB_MOST_POWER, 100000000),
         NAME(YB_MOST_IDLE_LOSS, 10000000), NAME(YB_MOST_WEIGHT, 10000), NAME(YB_LEAST_EFFICIENCY, 1000),
         NAME(YB_MOST_EFFICIENCY, 10000), NAME(YB_MOST_BAND, 200000000), NAME(YB_MOST_FACTOR, 1000),
-        NAME(YB_MOST_MEASURE, 300000000), NAME(YB_MOST_BUDGET, 10000),
+        NAME(YB_MOST_MEASURE, 300000000), NAME(YB_MOST_BUDGET, 10000), NAME(YB_CHANGE_BYTES, 17),
         NAME(YB_MOST_RATED, UINT64_C(10000000000000)), {NULL, 0, 0}});
 }
 
 const struct test header_tests[] = {
     {"the header's refusals", test_refusals},
-    {"the header's modes, phases and priorities", test_choices},
+    {"the header's modes, phases, priorities and changes", test_choices},
     {"the header's limits", test_limits},
     {NULL, NULL},
 };

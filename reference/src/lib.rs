@@ -11,6 +11,7 @@ pub mod natural;
 pub mod octets;
 pub mod ranges;
 pub mod reading;
+pub mod rescue;
 pub mod samples;
 pub mod season;
 pub mod site;

@@ -10,6 +10,7 @@ pub mod roofs;
 pub mod seasons;
 pub mod sticks;
 pub mod units;
+pub mod wrecks;
 
 /// The splitmix64 generator: the same numbers from the same seed on every machine.
 pub struct Draw(u64);

@@ -5,11 +5,12 @@ mod fed;
 mod frames;
 mod host;
 
-use fed::{Comparison, Room, Row};
+use fed::{Comparison, Row};
+use frames::Room;
 use host::{refuses_cut_rows, Host};
 use yesbrulka_reference::feed::{self, Going, Stage, State, FLAGS, SITE, SIZE, STAGES, UNITS};
 use yesbrulka_reference::reading::Reading;
-use yesbrulka_reference::samples::{inverters, limits, older, roofs, seasons, sticks, Draw};
+use yesbrulka_reference::samples::{inverters, older, roofs, seasons, sticks, Draw};
 use yesbrulka_reference::season::Standing;
 use yesbrulka_reference::solar::{Sun, Weather};
 use yesbrulka_reference::stick::{self, Answer, Run, MISSING};
@@ -26,15 +27,7 @@ fn state_after(bytes: &[u8]) -> Vec<u8> {
 /// A run of an edition without inverters, with weather or not.
 fn plain(edition: u8, units: usize, steps: usize, draw: &mut Draw) -> Run {
     let run = roofs::run(units, 0, steps, draw);
-    in_edition(edition, run, draw)
-}
-
-fn in_edition(edition: u8, run: Run, draw: &mut Draw) -> Run {
-    match edition {
-        1 => run,
-        2 => limits::limited(run, draw),
-        _ => older::older(run, draw),
-    }
+    older::in_edition(edition, run, draw)
 }
 
 /// A small file of any edition that is to be refused, or is not for all that was done to it.
@@ -112,10 +105,10 @@ fn every_cut_in_two() {
         }
         for steps in [0, 1, 2, 3, 4] {
             let run = roofs::run(1, 1, steps, &mut draw);
-            files.push(sticks::file(&in_edition(edition, run, &mut draw)));
+            files.push(sticks::file(&older::in_edition(edition, run, &mut draw)));
         }
         let run = roofs::run(2, 2, 3, &mut draw);
-        files.push(sticks::file(&in_edition(edition, run, &mut draw)));
+        files.push(sticks::file(&older::in_edition(edition, run, &mut draw)));
     }
     files.extend((0..100).map(|_| damaged(&mut draw)));
     for file in &files {
@@ -161,7 +154,7 @@ fn one_byte_at_a_time() {
         let file = match round % 9 {
             0 => {
                 let run = roofs::run(1, 1, 3, &mut draw);
-                sticks::file(&in_edition(1 + round as u8 / 9 % 3, run, &mut draw))
+                sticks::file(&older::in_edition(1 + round as u8 / 9 % 3, run, &mut draw))
             }
             1..=3 => damaged(&mut draw),
             _ => sticks::file(&plain(1 + round as u8 % 3, 1, 3, &mut draw)),
@@ -330,7 +323,7 @@ fn large_sites() {
             _ => (1 + draw.below(64) as usize, draw.below(20) as usize),
         };
         let run = roofs::run(units, inverters, 3, &mut draw);
-        let file = sticks::file(&in_edition(1 + round % 3, run, &mut draw));
+        let file = sticks::file(&older::in_edition(1 + round % 3, run, &mut draw));
         let count = draw.below(5) as usize;
         runs.cut(&file, &cuts(count, &file, &mut draw), &mut draw);
         let mut row = Row::start(&mut draw);
@@ -511,7 +504,7 @@ fn large_states_with_bytes_changed() {
     let mut draw = Draw::from_seed(1_113);
     let mut runs = Comparison::start();
     let run = roofs::run(64, 64, 2, &mut draw);
-    let file = sticks::file(&in_edition(3, run, &mut draw));
+    let file = sticks::file(&older::in_edition(3, run, &mut draw));
     let states = [file.len() - 1, file.len() - 9, 22_100].map(|length| state_after(&file[..length]));
     for round in 0..1_200 {
         let state = &states[round % 3];
@@ -542,7 +535,7 @@ fn states_with_numbers_at_their_ends_or_beside_them() {
             run.weather = vec![Some(Weather { irradiance: 0.25, temperature: 10.0 }); 4];
             run.readings.fill(Reading::Missing);
         });
-        let run = in_edition(1 + round as u8 % 3, run, &mut draw);
+        let run = older::in_edition(1 + round as u8 % 3, run, &mut draw);
         let file = sticks::file(&run);
         let first = file.len() - 7 - 4 * 22;
         // Before the steps, after a weather, between steps with a tail, between steps, ended.

@@ -4,8 +4,8 @@
 mod host;
 mod runs;
 
-use host::{refuses_cut_rows, Host};
-use runs::{lent_room, Comparison, Room, ANSWER};
+use host::{lent_room, refuses_cut_rows, Host};
+use runs::{Comparison, Room, ANSWER};
 use yesbrulka_reference::ranges::MOST_BYTES;
 use yesbrulka_reference::reading::{Phases, Reading};
 use yesbrulka_reference::samples::{seasons, sticks, units, Draw};

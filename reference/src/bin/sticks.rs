@@ -1,7 +1,8 @@
 //! Writes the sample sticks: `sticks FOLDER`.
 //!
 //! `season.stick`, `harvest.stick`, `roof.stick`, `vineyard.stick` and `mill.stick` are complete; each of the others is
-//! one of these, or one like it, after one thing that happens to sticks. The same files come out every time, so that
+//! one of these, or one like it, after one thing that happens to sticks; `refused-06-three-faults.stick` after three of
+//! them, and `rescued-three-faults.stick` is what a rescue leaves of it. The same files come out every time, so that
 //! the gate can compare them with the stored ones.
 
 use std::path::PathBuf;
@@ -11,6 +12,7 @@ use std::{env, fs};
 use yesbrulka_reference::controller::Settings;
 use yesbrulka_reference::curve::Curve;
 use yesbrulka_reference::reading::{Phases, Reading};
+use yesbrulka_reference::rescue;
 use yesbrulka_reference::samples::sticks::{self, Field};
 use yesbrulka_reference::samples::{curves, roofs};
 use yesbrulka_reference::site::Site;
@@ -210,6 +212,18 @@ fn harvest_reading(step: usize) -> Reading {
     let noise = ((step * 61 + day * 29) % 97) as i32 - 40;
     let kw = |part: i32| f64::from((load + noise) * part / 10) / 100.0;
     Reading::Power(Phases { first: kw(38), second: kw(35), third: kw(27) })
+}
+
+/// What a meter sends that has no number to send, and one that has too large a number, by their bits.
+const NO_NUMBER: u64 = 0x7FF8_0000_0000_0000;
+const INFINITE: u64 = 0x7FF0_0000_0000_0000;
+
+/// Sets the second phase of a power reading by its bits.
+fn set_second(run: &mut Run, step: usize, bits: u64) {
+    match &mut run.readings[step] {
+        Reading::Power(phases) => phases.second = f64::from_bits(bits),
+        Reading::Missing => panic!("step {step} has no powers"),
+    }
 }
 
 /// The file of these fields after a change.
@@ -629,6 +643,27 @@ fn mill_reading(step: usize) -> Reading {
     quarter(&meter, step, (step * 47 % 43) as i64 - 21, [38, 32, 30])
 }
 
+/// The steps of the roof's day whose readings cannot be used: one without a weather, and one with it.
+const LOST: [usize; 2] = [40, 61];
+
+/// The step in which the stick is pulled out.
+const PULLED: usize = 83;
+
+/// A stick of the roof's day, and what a rescue leaves of it. The meter sent no number, and later an infinite power. In
+/// the evening the stick was pulled out while a reading was written, behind its weather.
+fn rescue_examples() -> Vec<(&'static str, u32, Vec<u8>)> {
+    let run = sticks::with(&roof(), |run| {
+        set_second(run, LOST[0], NO_NUMBER);
+        set_second(run, LOST[1], INFINITE);
+    });
+    let before = sticks::file(&sticks::with(&run, |run| run.readings.truncate(PULLED))).len() - 7;
+    let mut damaged = sticks::file(&run);
+    // The 19 bytes of the weather, and 11 of the reading.
+    damaged.truncate(before + 30);
+    let rescued = rescue::rescue(&damaged).expect("all that is due before the steps is good").output;
+    vec![("refused-06-three-faults.stick", 6, damaged), ("rescued-three-faults.stick", 0, rescued)]
+}
+
 /// The name of each stick, the number that its check gives, and its bytes.
 fn examples() -> Vec<(&'static str, u32, Vec<u8>)> {
     let run = season();
@@ -662,11 +697,7 @@ fn examples() -> Vec<(&'static str, u32, Vec<u8>)> {
         (
             "refused-06-reading-not-usable.stick",
             6,
-            sticks::file(&sticks::with(&run, |run| {
-                if let Reading::Power(phases) = &mut run.readings[211] {
-                    phases.second = f64::from_bits(0x7FF8_0000_0000_0000);
-                }
-            })),
+            sticks::file(&sticks::with(&run, |run| set_second(run, 211, NO_NUMBER))),
         ),
         // A row was lost, and the count was not.
         ("refused-07-wrong-count.stick", 7, changed(&|fields| drop(fields.remove(READINGS + 100)))),
@@ -679,6 +710,7 @@ fn examples() -> Vec<(&'static str, u32, Vec<u8>)> {
     all.extend(roof_examples());
     all.extend(vineyard_examples());
     all.push(("mill.stick", 0, sticks::file(&mill())));
+    all.extend(rescue_examples());
     all
 }
 
@@ -702,8 +734,9 @@ fn main() -> ExitCode {
 #[cfg(test)]
 mod tests {
     use super::*;
+    use yesbrulka_reference::rescue::{Kind, Rescued};
     use yesbrulka_reference::season::{self, Step};
-    use yesbrulka_reference::stick::{self, CURVE, END, INVERTER, WEATHER};
+    use yesbrulka_reference::stick::{self, Answer, CURVE, END, INVERTER, POWER, WEATHER};
 
     #[test]
     fn each_stick_is_refused_for_what_its_name_says() {
@@ -716,7 +749,10 @@ mod tests {
     #[test]
     fn every_number_that_a_file_can_have_is_there() {
         let numbers: Vec<u32> = examples().iter().map(|&(_, number, _)| number).collect();
-        assert_eq!(numbers, [0, 0, 1, 2, 3, 4, 5, 6, 7, 8, 9, 12, 0, 4, 4, 4, 5, 5, 6, 6, 0, 3, 5, 5, 0]);
+        assert_eq!(
+            numbers,
+            [0, 0, 1, 2, 3, 4, 5, 6, 7, 8, 9, 12, 0, 4, 4, 4, 5, 5, 6, 6, 0, 3, 5, 5, 0, 6, 0]
+        );
     }
 
     /// The place of what is wrong with each of the vineyard's sticks: its second unit, its third, and the fleet.
@@ -737,6 +773,34 @@ mod tests {
             .map(|(_, _, bytes)| bytes[stick::check(bytes).place as usize])
             .collect();
         assert_eq!(tags, [INVERTER, INVERTER, END, CURVE, INVERTER, WEATHER, WEATHER]);
+    }
+
+    /// The stick with three faults: two readings that cannot be used, and one that is cut short behind its weather. Its
+    /// rescue is the roof's day up to that weather, with the two readings missing.
+    #[test]
+    fn the_stick_with_three_faults_and_its_rescue() {
+        let [damaged, rescued] = [0, 1].map(|at: usize| rescue_examples()[at].2.clone());
+        let left = sticks::with(&roof(), |run| {
+            LOST.iter().for_each(|&step| run.readings[step] = Reading::Missing);
+            run.readings.truncate(PULLED);
+        });
+        assert!(rescued == sticks::file(&left));
+        assert_eq!(stick::check(&rescued), Answer { number: 0, place: rescued.len() as u64, steps: 83 });
+        let Rescued { output, steps, changes } = rescue::rescue(&damaged).unwrap();
+        assert_eq!((output == rescued, steps), (true, 83));
+        let listed = changes.iter().map(|change| (change.kind, change.dropped)).collect::<Vec<_>>();
+        assert_eq!(listed, [(Kind::MadeMissing, 24), (Kind::MadeMissing, 24), (Kind::EndedHere, 30)]);
+        assert!(roof().weather_of(LOST[0]).is_none() && roof().weather_of(LOST[1]).is_some());
+        let tags = changes.iter().map(|change| damaged[change.place as usize]).collect::<Vec<_>>();
+        assert_eq!(tags, [POWER, POWER, WEATHER]);
+        // The weather that goes is a good one; its reading has lost bytes.
+        let last = changes[2].place as usize;
+        assert_eq!(damaged[last + 19..last + 22], [POWER, 0, 24]);
+        assert_eq!(damaged.len(), last + 30);
+        let first = Answer { number: 6, place: changes[0].place, steps: LOST[0] as u32 };
+        assert_eq!(stick::check(&damaged), first);
+        // And what is left of what is left is all of it.
+        assert_eq!(rescue::rescue(&rescued), Ok(Rescued { output, steps, changes: Vec::new() }));
     }
 
     #[test]

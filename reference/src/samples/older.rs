@@ -111,6 +111,15 @@ pub fn older(run: Run, draw: &mut Draw) -> Run {
     run
 }
 
+/// A run of edition 1 in an edition, with limits for each of its units where there are any.
+pub fn in_edition(edition: u8, run: Run, draw: &mut Draw) -> Run {
+    match edition {
+        1 => run,
+        2 => limits::limited(run, draw),
+        _ => older(run, draw),
+    }
+}
+
 /// A run of edition 1 in edition 2 or 3, with limits for each of its units.
 pub fn limited(run: Run, draw: &mut Draw) -> Run {
     let editions: [fn(Run, &mut Draw) -> Run; 2] = [limits::limited, older];

@@ -453,6 +453,39 @@ pub fn shuffled_file(draw: &mut Draw) -> Vec<u8> {
     bytes(&fields)
 }
 
+/// The file with each of the 255 other values at every place.
+pub fn other_bytes(file: &[u8]) -> impl Iterator<Item = Vec<u8>> + '_ {
+    (0..file.len()).flat_map(move |place| {
+        (1..=255).map(move |other| {
+            let mut file = file.to_vec();
+            file[place] ^= other;
+            file
+        })
+    })
+}
+
+/// The files of these fields with each left out, repeated and exchanged with the first ones, and with each kind put in
+/// at each place: for the field there, before it, and as the last.
+pub fn orders(fields: &[Field], first: usize, kinds: &[Field]) -> Vec<Vec<u8>> {
+    let mut files = Vec::new();
+    for at in 0..fields.len() {
+        let (before, after) = fields.split_at(at);
+        files.push(bytes(&[before, &after[1..]].concat()));
+        files.push(bytes(&[before, &after[..1], after].concat()));
+        for other in 0..first {
+            let mut fields = fields.to_vec();
+            fields.swap(at, other);
+            files.push(bytes(&fields));
+        }
+        for kind in kinds.chunks(1) {
+            files.push(bytes(&[before, kind, &after[1..]].concat()));
+            files.push(bytes(&[before, kind, after].concat()));
+            files.push(bytes(&[before, kind].concat()));
+        }
+    }
+    files
+}
+
 /// Bytes of no meaning: any, or mostly such as tags and lengths are made of.
 pub fn noise(most: u64, draw: &mut Draw) -> Vec<u8> {
     let length = draw.below(most + 1);

@@ -80,20 +80,8 @@ impl Comparison {
 
     /// Checks each field left out, repeated and exchanged with the first ones, and each kind put in at each place.
     pub fn check_orders(&mut self, fields: &[Field], first: usize, kinds: &[Field]) {
-        for at in 0..fields.len() {
-            let (before, after) = fields.split_at(at);
-            self.check(sticks::bytes(&[before, &after[1..]].concat()));
-            self.check(sticks::bytes(&[before, &after[..1], after].concat()));
-            for other in 0..first {
-                let mut fields = fields.to_vec();
-                fields.swap(at, other);
-                self.check(sticks::bytes(&fields));
-            }
-            for kind in kinds.chunks(1) {
-                self.check(sticks::bytes(&[before, kind, &after[1..]].concat()));
-                self.check(sticks::bytes(&[before, kind, after].concat()));
-                self.check(sticks::bytes(&[before, kind].concat()));
-            }
+        for file in sticks::orders(fields, first, kinds) {
+            self.check(file);
         }
     }
 
@@ -107,12 +95,8 @@ impl Comparison {
 
     /// Checks a file with each of the 255 other values at every place.
     pub fn check_bytes(&mut self, file: &[u8]) {
-        for place in 0..file.len() {
-            for other in 1..=255 {
-                let mut file = file.to_vec();
-                file[place] ^= other;
-                self.check(file);
-            }
+        for file in sticks::other_bytes(file) {
+            self.check(file);
         }
     }
 

@@ -3,7 +3,7 @@
 
 use std::fmt;
 
-use crate::frames::{put_file, shown, Met, Rest, FRAME};
+use crate::frames::{put_file, shown, Met, Rest, Room, FRAME};
 use crate::host::{Host, LEFT_ALONE};
 use yesbrulka_reference::feed::{self, SIZE};
 use yesbrulka_reference::samples::Draw;
@@ -23,39 +23,6 @@ const ASK_ROOM: u8 = 1;
 const ASK_PLACE: u8 = 2;
 const ASK_HASH: u8 = 4;
 const ASK_STATE: u8 = 8;
-
-/// A room's length beside what a call writes.
-#[derive(Clone, Copy)]
-pub enum Room {
-    Exact,
-    OneShort,
-    Longer(usize),
-    Of(usize),
-}
-
-impl Room {
-    /// Mostly exact, so that there is a result.
-    pub fn any(draw: &mut Draw) -> Room {
-        let more = draw.below(60) as usize;
-        draw.one_of(&[
-            Room::Exact,
-            Room::Exact,
-            Room::Exact,
-            Room::Longer(more),
-            Room::OneShort,
-            Room::Of(more),
-        ])
-    }
-
-    fn length(self, needed: usize) -> usize {
-        match self {
-            Room::Exact => needed,
-            Room::OneShort => needed.saturating_sub(1),
-            Room::Longer(more) => needed + more,
-            Room::Of(length) => length,
-        }
-    }
-}
 
 /// One call as it goes over.
 #[derive(Clone)]
@@ -445,16 +412,9 @@ fn take_left(rest: &mut Rest, size: u64, call: &Call, state: usize) -> (Left, Ve
     let place = (call.asks & ASK_PLACE != 0)
         .then(|| (u64::from_le_bytes(rest.take()), u32::from_le_bytes(rest.take())));
     let hash = (call.asks & ASK_HASH != 0).then(|| u64::from_le_bytes(rest.take()));
-    let state = take_bytes(rest, state);
+    let state = rest.bytes(state).to_vec();
     let [disturbed] = rest.take();
     let used = u32::from_le_bytes(rest.take()) as usize;
-    let results = take_bytes(rest, used);
+    let results = rest.bytes(used).to_vec();
     (Left { size, needed, number, written, place, hash, disturbed: disturbed != 0, results }, state)
-}
-
-fn take_bytes(rest: &mut Rest, length: usize) -> Vec<u8> {
-    assert!(rest.0.len() >= length, "the answer is cut short");
-    let (taken, after) = rest.0.split_at(length);
-    rest.0 = after;
-    taken.to_vec()
 }

@@ -1,7 +1,9 @@
-//! What the tests share that lend files: the frames of files that grow, what comes back, and a tally of what was
+//! What the tests share that lend files: the frames of files that grow, what comes back, rooms, and a tally of what was
 //! met.
 
 use std::collections::BTreeMap;
+
+use yesbrulka_reference::samples::Draw;
 
 /// Files go over in frames of about this many bytes.
 pub const FRAME: usize = 1 << 20;
@@ -14,12 +16,17 @@ pub fn put_file(payload: &mut Vec<u8>, file: &[u8]) {
 /// What is left of an answer.
 pub struct Rest<'a>(pub &'a [u8]);
 
-impl Rest<'_> {
+impl<'a> Rest<'a> {
     pub fn take<const N: usize>(&mut self) -> [u8; N] {
-        assert!(self.0.len() >= N, "the answer is cut short");
-        let (taken, rest) = self.0.split_at(N);
+        self.bytes(N).try_into().expect("as many bytes as were taken")
+    }
+
+    /// So many bytes.
+    pub fn bytes(&mut self, length: usize) -> &'a [u8] {
+        assert!(self.0.len() >= length, "the answer is cut short");
+        let (taken, rest) = self.0.split_at(length);
         self.0 = rest;
-        taken.try_into().expect("as many bytes as were taken")
+        taken
     }
 }
 
@@ -36,6 +43,41 @@ pub fn shown(file: &[u8]) -> String {
 #[allow(dead_code)] // not every test asks for units
 pub fn said_units(file: &[u8]) -> usize {
     file.get(4).copied().unwrap_or(1).into()
+}
+
+/// A room's length beside what a call writes.
+#[derive(Clone, Copy)]
+#[allow(dead_code)] // not every test lends rooms
+pub enum Room {
+    Exact,
+    OneShort,
+    Longer(usize),
+    Of(usize),
+}
+
+#[allow(dead_code)] // not every test lends rooms
+impl Room {
+    /// Mostly exact, so that there is a result.
+    pub fn any(draw: &mut Draw) -> Room {
+        let more = draw.below(60) as usize;
+        draw.one_of(&[
+            Room::Exact,
+            Room::Exact,
+            Room::Exact,
+            Room::Longer(more),
+            Room::OneShort,
+            Room::Of(more),
+        ])
+    }
+
+    pub fn length(self, needed: usize) -> usize {
+        match self {
+            Room::Exact => needed,
+            Room::OneShort => needed.saturating_sub(1),
+            Room::Longer(more) => needed + more,
+            Room::Of(length) => length,
+        }
+    }
 }
 
 /// What was met, and how often. A test says what it must have met, so that it cannot go on passing over inputs

@@ -8,6 +8,12 @@ use std::process::{Child, ChildStdin, ChildStdout, Command, ExitStatus, Stdio};
 #[allow(dead_code)] // there are calls without out-numbers
 pub const LEFT_ALONE: i32 = 0x5A5A_5A5A;
 
+/// What a lent room of the program holds before a call.
+#[allow(dead_code)] // there are calls without a room
+pub fn lent_room(length: usize, fill: u8) -> Vec<u8> {
+    (0..length).map(|i| fill.wrapping_add((7 * i) as u8)).collect()
+}
+
 pub struct Host {
     child: Child,
     calls: Option<ChildStdin>,

@@ -3,7 +3,7 @@
 
 use std::collections::BTreeMap;
 
-use crate::host::Host;
+use crate::host::{lent_room, Host};
 use yesbrulka_reference::reading::Reading;
 use yesbrulka_reference::samples::{sticks, Draw};
 use yesbrulka_reference::season::{self, Record, SolarRecord, Step};
@@ -189,11 +189,6 @@ impl Met {
         self.note_if(watts < 0 && stepped.watts < request, "drew more than it was asked");
         self.note_if(watts == 0 && stepped.vars == unit.limited_vars(), "idle with all its vars");
     }
-}
-
-/// What the lent room of a run holds before the call.
-pub fn lent_room(length: usize, fill: u8) -> Vec<u8> {
-    (0..length).map(|i| fill.wrapping_add((7 * i) as u8)).collect()
 }
 
 /// What a run must leave: its number, the room needed, and the room's bytes.
