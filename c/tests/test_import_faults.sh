@@ -19,6 +19,20 @@ faulty() {
     error=$(grep -v '^qemu: uncaught target signal' <<<"$error")
 }
 
+# unheard COMMAND FILE: a command into the old result, with nobody to read its lines.
+unheard() {
+    old
+    mkfifo "$work/fifo"
+    : <"$work/fifo" &
+    exec 9>"$work/fifo"
+    wait $!
+    # shellcheck disable=SC2086 # YB_EMULATOR may be no word
+    error=$(env "$hearing" $YB_EMULATOR build/x86_64/import_faults "$1" "$2" "$work/out/result" 2>&1 >&9)
+    status=$? output='' called="$1, with nobody to read its lines"
+    exec 9>&-
+    rm "$work/fifo"
+}
+
 # Every call that makes a result fails, is cut short or is interrupted, one after the other.
 fault_suite() {
     local stick=examples/season.stick fault signal told

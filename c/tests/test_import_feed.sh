@@ -366,17 +366,8 @@ feed_fault_suite() {
     faulty fread:47:-9 "$long"
     good test "$status|$(cat "$work/out/result")|$(unfinished)" = '137|old|1'
     # Nobody reads the line, which comes when all is written and nothing has the name.
-    old
-    mkfifo "$work/fifo"
-    : <"$work/fifo" &
-    exec 9>"$work/fifo"
-    wait $!
-    # shellcheck disable=SC2086 # YB_EMULATOR may be no word
-    error=$(env "$hearing" $YB_EMULATOR build/x86_64/import_faults run "$long" "$work/out/result" 2>&1 >&9)
-    status=$? output='' called='run, with nobody to read its line'
-    exec 9>&-
+    unheard run "$long"
     good like "$status|$error" '141|import: interrupted; nothing under the name of RESULT has changed*'
     good kept
-    rm "$work/fifo"
     rm "$long" "$long.result"
 }

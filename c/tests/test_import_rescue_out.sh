@@ -53,22 +53,8 @@ rescue_target_suite() {
     failed_rescue "$work/no/folder/out" 'there is no such folder'
     call rescue "$wreck" "$wreck/out"
     failed_rescue "$wreck/out" 'Not a directory'
-    old
     cp "$wreck" "$work/a.stick"
-    chmod 644 "$work/a.stick"
-    chmod 555 "$work/out"
-    chmod 666 "$work/out/result"
-    if as_other rescue "$work/a.stick" "$work/out/result"; then
-        failed_rescue "$work/out/result" 'Permission denied'
-        good kept
-    fi
-    chmod 777 "$work/out"
-    chmod 444 "$work/out/result"
-    if as_other rescue "$work/a.stick" "$work/out/result"; then
-        good test "$status|$output|$error" = "2||import: $work/out/result: cannot be written: it is protected against \
-writing; give OUT another name"
-        good kept
-    fi
+    unwritable rescue "$work/a.stick" OUT failed_rescue "$work/out/result" 'Permission denied'
     # A link stays, and what it leads to is replaced and keeps its permissions; a new file is as the mask says.
     old
     chmod 640 "$work/out/result"
@@ -169,16 +155,7 @@ again: Input/output error"
     faulty fsync:2:-9 "$wreck" "$hearing" rescue
     good saved
     # Nobody reads the lines, which come before anything is written.
-    old
-    mkfifo "$work/fifo"
-    : <"$work/fifo" &
-    exec 9>"$work/fifo"
-    wait $!
-    # shellcheck disable=SC2086 # YB_EMULATOR may be no word
-    error=$(env "$hearing" $YB_EMULATOR build/x86_64/import_faults rescue "$wreck" "$work/out/result" 2>&1 >&9)
-    status=$? output='' called='rescue, with nobody to read its lines'
-    exec 9>&-
+    unheard rescue "$wreck"
     good test "$status|$(grep -v '^qemu: uncaught target signal' <<<"$error")" = '141|'
     good kept
-    rm "$work/fifo"
 }

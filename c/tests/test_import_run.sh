@@ -120,6 +120,29 @@ failed_write() {
         "2|${3:-examples/season.stick}: complete, 336 steps|import: $1: cannot be written: $2"$'\n'"$advice"
 }
 
+# unwritable COMMAND FILE WORD DENIED..: a folder and then a file that another user may not write; DENIED is the check of
+# what is said of the first.
+unwritable() {
+    local command=$1 file=$2 word=$3
+    shift 3
+    old
+    chmod 644 "$file"
+    chmod 555 "$work/out"
+    chmod 666 "$work/out/result"
+    if as_other "$command" "$file" "$work/out/result"; then
+        "$@"
+        good kept
+    fi
+    chmod 777 "$work/out"
+    chmod 444 "$work/out/result"
+    if as_other "$command" "$file" "$work/out/result"; then
+        good test "$status|$output|$error" = "2||import: $work/out/result: cannot be written: it is protected against \
+writing; give $word another name"
+        good kept
+    fi
+    chmod 755 "$work/out"
+}
+
 target_suite() {
     local stick=examples/season.stick name
     # The stick's own file, by any name.
@@ -162,23 +185,9 @@ target_suite() {
     name=$work/$(printf '%0300d' 1)
     call run "$stick" "$name"
     failed_write "$name" 'File name too long'
-    old
     cp "$stick" "$work/season.stick"
-    chmod 555 "$work/out"
-    chmod 666 "$work/out/result"
-    chmod 644 "$work/season.stick"
-    if as_other run "$work/season.stick" "$work/out/result"; then
+    unwritable run "$work/season.stick" RESULT \
         failed_write "$work/out/result" 'Permission denied' "$work/season.stick"
-        good kept
-    fi
-    chmod 777 "$work/out"
-    chmod 444 "$work/out/result"
-    if as_other run "$work/season.stick" "$work/out/result"; then
-        good test "$status|$output|$error" = "2||import: $work/out/result: cannot be written: it is protected against \
-writing; give RESULT another name"
-        good kept
-    fi
-    chmod 755 "$work/out"
 
     # Files that cannot be read, and lines that cannot be written, leave the result as it was.
     old

@@ -31,7 +31,8 @@ use Rattle.stick.proofs.SaidLaws.{bytes-follow, One, one, Waited, waited}
 use Rattle.stick.proofs.RoofLaws.{RoofThere}
 use Rattle.stick.proofs.SiteProved.{fleet-has, long, fleet-field, unit-fields, roof-fields, many, next-is, roofs-there}
 use Rattle.chunks.proofs.SameLaws.{NoTag, by-tag}
-use Rattle.chunks.proofs.ReachChunks.{Went, there, passing, went-reach, went-append, went-take, moved, reach-shift, far, far-gone, far-all}
+use Rattle.chunks.specs.Holds.{moved}
+use Rattle.chunks.proofs.ReachChunks.{Went, there, passing, went-reach, went-append, went-take, reach-shift, far, far-gone, far-all}
 use Rattle.chunks.proofs.PlaceChunks.{steps-field}
 use Rattle.chunks.proofs.HeadChunks.{headEnd, headFrom-field, Placed, fleet, units, settings, inverters, warm, efficiency, FieldTaken, accepted-field, placed-on, head-most}
 

@@ -7,3 +7,4 @@ pub mod HeadChunks
 pub mod HeadFile
 pub mod SiteChunks
 pub mod StepChunks
+pub mod CutProved

@@ -19,6 +19,7 @@ use Rattle.stick.specs.declared.Reached.{Reached}
 use Rattle.stick.specs.Check.{fieldAt, reached, onward, reachOf}
 use Rattle.stick.proofs.ReachLaws.{never-zero}
 use Rattle.stick.proofs.WalkLaws.{field-stops, field-goes, field-cases}
+use Rattle.chunks.specs.Holds.{moved}
 use Rattle.chunks.proofs.FieldChunks.{refused-not-one, headOf-shift, field-shift, past-shift, past-append, field-append, field-cut, head-cut-short}
 
 -- ---- a field is not both accepted and refused, and is refused by one number
@@ -131,9 +132,6 @@ field-one st file at e = go (eqb (headOf st file at) 0) refl
     go false z = same-number (sym (field-stops st file at (headOf st file at) refl z)) e
 
 -- ---- behind other bytes the fields go as far as by themselves
-abbrev pub moved : ℕ → Reached → Reached
-moved n r = reached (r .number) (n + r .at) (r .state)
-
 module _ (a b : List ℕ) where
   pub over-shift : (i : ℕ) → leb (length (a ++ b)) (length a + i) ≡ leb (length b) i
   over-shift i = go (leb (length b) i) refl

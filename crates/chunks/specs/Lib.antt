@@ -1,1 +1,2 @@
--- A run file in chunks: no definitions of its own.
+-- A run file in chunks: what holds of bytes behind other bytes.
+pub mod Holds

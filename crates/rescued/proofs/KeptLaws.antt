@@ -16,7 +16,8 @@ use Rattle.fields.specs.declared.Taken.the-variants.{Next, Stop}
 use Rattle.fields.specs.Fields.{closes, kinds, sizeIn, sizeOf, standsIn, allowed, headOf, valueOf, refusedBy, stateAfter, takenBy}
 use Rattle.stick.specs.declared.Reached.{Reached}
 use Rattle.stick.specs.Check.{fieldAt, reached, reachOf, start}
-use Rattle.chunks.proofs.ReachChunks.{reach-over, reach-fuel, reach-shift, moved, Went, there, passing, went-upto, went-reach, went-take}
+use Rattle.chunks.specs.Holds.{moved}
+use Rattle.chunks.proofs.ReachChunks.{reach-over, reach-fuel, reach-shift, Went, there, passing, went-upto, went-reach, went-take}
 use Rattle.chunks.proofs.StepChunks.{reach-most}
 use Rattle.taking.specs.Posts.{Leads}
 use Rattle.taking.proofs.LedLaws.{leads-so, leads-none, leads-append}

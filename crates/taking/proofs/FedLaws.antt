@@ -9,7 +9,8 @@ use lib.Seq.{length-take-le, take-append-add, drop-append-add}
 use Rattle.fields.specs.declared.State.{State}
 use Rattle.stick.specs.declared.Reached.{Reached}
 use Rattle.stick.specs.Check.{reachOf}
-use Rattle.chunks.proofs.ReachChunks.{moved, far-upto, reach-stays, reach-append}
+use Rattle.chunks.specs.Holds.{moved}
+use Rattle.chunks.proofs.ReachChunks.{far-upto, reach-stays, reach-append}
 use Rattle.kept.specs.Kept.{Kept}
 use Rattle.taking.specs.Chunk.{goneBy, siteAfter, standsFirst, onFirst, stepsBy, absorbed, resultsBy, withTail, fedBy, resultsFor}
 use Rattle.taking.specs.Posts.{Leads}

@@ -8,7 +8,8 @@ use lib.Seq.{length-take-le, drop-length}
 use Rattle.fields.specs.declared.State.{State}
 use Rattle.stick.specs.declared.Reached.{Reached}
 use Rattle.stick.specs.Check.{reached, reachOf}
-use Rattle.chunks.proofs.ReachChunks.{reach-over, Went, went-reach, went-take, moved, far, far-gone, far-upto, reach-take, reach-append}
+use Rattle.chunks.specs.Holds.{moved}
+use Rattle.chunks.proofs.ReachChunks.{reach-over, Went, went-reach, went-take, far, far-gone, far-upto, reach-take, reach-append}
 use Rattle.taking.specs.Posts.{Leads}
 
 module _ {st next : State} {w : List ℕ} where
