@@ -1,5 +1,5 @@
 -- A field of a list of bytes that is a part of a longer list: behind other bytes a field is as it is by itself, and before other bytes it is as it is by itself
--- unless its own bytes are not all there. No field has more than 132 bytes. Assumes nothing.
+-- unless its own bytes are not all there. No field has more than `largest` bytes. Assumes nothing.
 use mathlib.Core.Path.{_≡_, refl, sym, ap, ap₂, _∙_, subst⁻¹}
 use mathlib.Core.Bool.{Bool, true, false, not, cond, _&&_}
 use mathlib.Core.List.{List, _++_}
@@ -32,6 +32,7 @@ use Rattle.fields.specs.Fields.{kinds, sizeIn, sizeOf, headOf, allowed, fleetIn
 use Rattle.fields.proofs.FieldLaws.{size-else}
 use Rattle.stick.specs.Check.{fieldAt}
 use Rattle.stick.proofs.WalkLaws.{field-stops, field-goes, Headed, headed}
+use Rattle.chunks.specs.Sizes.{largest}
 use Rattle.chunks.proofs.SameLaws.{Same, same-from, same-less, tag-same, length-same, by-tag, taken-same}
 
 -- ---- the bytes of a list behind another, and before another
@@ -41,16 +42,19 @@ same-behind a b i n k l = rw (add-assoc (length a) i k, getD-append-add a b (i +
 pub same-before : (a b : List ℕ) (i n : ℕ) → i + n ≤ length a → Same a (a ++ b) i i n
 same-before a b i n h k l = sym (List·getD-append a b 0 (i + k) (omega arith))
 
--- ---- no value has more than 129 bytes
-pub size-most : (st : State) (tag : ℕ) → (sizeOf st tag ≤ 129) ⊎ (sizeOf st tag ≡ 65536)
+-- ---- no value has more bytes than the largest field has behind its header
+abbrev most : ℕ
+most = largest - header
+
+pub size-most : (st : State) (tag : ℕ) → (sizeOf st tag ≤ most) ⊎ (sizeOf st tag ≡ 65536)
 unfolding sizeOf kinds sizeIn
 size-most st tag =
-    by-tag (λ (t : ℕ). (sizeOf st t ≤ 129) ⊎ (sizeOf st t ≡ 65536)) tag
-    (inl (lit≤ tt)) (inl (by-test (λ (n : ℕ). n ≤ 129) (leb 2 (st .edition)) 57 49 (λ t. lit≤ tt) (λ t. lit≤ tt)))
+    by-tag (λ (t : ℕ). (sizeOf st t ≤ most) ⊎ (sizeOf st t ≡ 65536)) tag
+    (inl (lit≤ tt)) (inl (by-test (λ (n : ℕ). n ≤ most) (leb 2 (st .edition)) 57 49 (λ t. lit≤ tt) (λ t. lit≤ tt)))
     (inl (lit≤ tt)) (inl (lit≤ tt)) (inl (lit≤ tt)) (inl (lit≤ tt)) (inl (lit≤ tt)) (inl (lit≤ tt))
-    (λ n. subst⁻¹ (λ (k : ℕ). (k ≤ 129) ⊎ (k ≡ 65536)) (size-else st tag (n .n₁) (n .n₂) (n .n₃) (n .n₄) (n .n₅) (n .n₆) (n .n₇) (n .n₈)) (last (eqb tag 127)))
+    (λ n. subst⁻¹ (λ (k : ℕ). (k ≤ most) ⊎ (k ≡ 65536)) (size-else st tag (n .n₁) (n .n₂) (n .n₃) (n .n₄) (n .n₅) (n .n₆) (n .n₇) (n .n₈)) (last (eqb tag 127)))
   where
-    last : (b : Bool) → (cond b 4 65536 ≤ 129) ⊎ (_≡_ {A = ℕ} (cond b 4 65536) 65536)
+    last : (b : Bool) → (cond b 4 65536 ≤ most) ⊎ (_≡_ {A = ℕ} (cond b 4 65536) 65536)
     last true = inl (lit≤ tt)
     last false = inr refl
 
@@ -228,17 +232,17 @@ module _ (st : State) (a b : List ℕ) (i : ℕ) where
       not-cut (inl l) = omega arith
       not-cut (inr c) = let l = c .1 .1 in omega (arith, length-at-append a b i (omega arith))
 
--- ---- a field that is cut has fewer than 132 bytes
-pub head-cut-short : (st : State) (a : List ℕ) (i : ℕ) → headOf st a i ≡ 1 → length a < i + 132
+-- ---- a field that is cut has fewer bytes than the largest field
+pub head-cut-short : (st : State) (a : List ℕ) (i : ℕ) → headOf st a i ≡ 1 → length a < i + largest
 head-cut-short st a i e = go (test-cut (sizeOf st (tagAt a i)) (lengthAt a i) (length a - i) (sym (head-by st a i) ∙ e)) (size-most st (tagAt a i))
   where
     go : Cut (length a - i) (sizeOf st (tagAt a i)) (lengthAt a i)
-        → (sizeOf st (tagAt a i) ≤ 129) ⊎ (sizeOf st (tagAt a i) ≡ 65536) → length a < i + 132
+        → (sizeOf st (tagAt a i) ≤ most) ⊎ (sizeOf st (tagAt a i) ≡ 65536) → length a < i + largest
     go (inl l) m = omega arith
     go (inr c) (inl m) = let s = c .1 .0 in let l = c .1 .1 in omega arith
     go (inr c) (inr m) = absurd (c .0 m)
 
-pub field-take : (st : State) (b : List ℕ) (i n : ℕ) → i + 132 ≤ n → fieldAt st (take n b) i ≡ fieldAt st b i
+pub field-take : (st : State) (b : List ℕ) (i n : ℕ) → i + largest ≤ n → fieldAt st (take n b) i ≡ fieldAt st b i
 field-take st b i n h = go (leb (length b) n) refl
   where
     go : (t : Bool) → leb (length b) n ≡ t → fieldAt st (take n b) i ≡ fieldAt st b i

@@ -1,5 +1,5 @@
 -- Where the fields before the steps end, where a list of bytes that ends between two fields is followed by another; and how far that can be: the fields
--- before the steps have at most 22,168 bytes. Assumes nothing.
+-- before the steps have at most `headMost` bytes. Assumes nothing.
 use mathlib.Core.Path.{_≡_, refl, sym, ap, ap₂, _∙_, subst, subst⁻¹}
 use mathlib.Core.Bool.{Bool, true, false, cond, _&&_}
 use mathlib.Core.List.{List, _++_}
@@ -23,6 +23,7 @@ use Rattle.stick.specs.Check.{fieldAt, reachOf, start}
 use Rattle.stick.specs.Site.{ofSteps, headFrom}
 use Rattle.stick.proofs.WalkLaws.{Headed, field-cases}
 use Rattle.stick.proofs.SaidLaws.{free-parts, accepted-test}
+use Rattle.chunks.specs.Sizes.{headMost}
 use Rattle.chunks.proofs.SameLaws.{NoTag, by-tag}
 use Rattle.chunks.proofs.FieldChunks.{tag-shift, past-shift}
 use Rattle.chunks.proofs.ReachChunks.{over-shift, Went, there, passing, far, far-gone, far-all}
@@ -123,11 +124,11 @@ pub data Placed : State → ℕ → Type 0 where
   fleet : {st : State} {i : ℕ} → st .stage ≡ atFleet → i ≡ 0 → Placed st i
   units : {st : State} {i : ℕ} → st .stage ≡ atUnits → 1 ≤ st .left → i + 60 * st .left ≤ 3849 → Placed st i
   settings : {st : State} {i : ℕ} → st .stage ≡ atSettings → i ≤ 3849 → Placed st i
-  inverters : {st : State} {i : ℕ} → st .stage ≡ atInverters → i + 286 * st .left ≤ 22168 → Placed st i
-  warm : {st : State} {i : ℕ} → st .stage ≡ atTemperature → i + 286 * st .left + 264 ≤ 22168 → Placed st i
-  efficiency : {st : State} {i : ℕ} → st .stage ≡ atEfficiency → i + 286 * st .left + 132 ≤ 22168 → Placed st i
+  inverters : {st : State} {i : ℕ} → st .stage ≡ atInverters → i + 286 * st .left ≤ headMost → Placed st i
+  warm : {st : State} {i : ℕ} → st .stage ≡ atTemperature → i + 286 * st .left + 264 ≤ headMost → Placed st i
+  efficiency : {st : State} {i : ℕ} → st .stage ≡ atEfficiency → i + 286 * st .left + 132 ≤ headMost → Placed st i
 
-placed-most : {st : State} {i : ℕ} → Placed st i → i ≤ 22168
+placed-most : {st : State} {i : ℕ} → Placed st i → i ≤ headMost
 placed-most (fleet e z) = omega arith
 placed-most (units e l h) = omega arith
 placed-most (settings e h) = omega arith
@@ -226,30 +227,30 @@ module _ (file : List ℕ) (st m : State) (i : ℕ) (upto : i ≤ length file) (
       subst (λ (s : State). Placed s (past file i)) (a .is) (placed-next file st i (a .head) (a .allows) (a .value) o p)
 
 -- ---- so far the fields go, or the head ends there
-went-short : (file : List ℕ) {s st : State} {j i : ℕ} → Went file s j st i → Placed st i → (headEnd file i ≤ 22168) ⊎ (j ≤ 22168)
+went-short : (file : List ℕ) {s st : State} {j i : ℕ} → Went file s j st i → Placed st i → (headEnd file i ≤ headMost) ⊎ (j ≤ headMost)
 went-short file (there e f) p = let m = placed-most p in inr (omega arith)
 went-short file {s} {st} {j} {i} (passing m l e f w more) p = go (ofSteps (tagAt file i)) refl (went-short file more)
   where
-    go : (b : Bool) → ofSteps (tagAt file i) ≡ b → (Placed m (past file i) → (headEnd file (past file i) ≤ 22168) ⊎ (j ≤ 22168)) → (headEnd file i ≤ 22168) ⊎ (j ≤ 22168)
+    go : (b : Bool) → ofSteps (tagAt file i) ≡ b → (Placed m (past file i) → (headEnd file (past file i) ≤ headMost) ⊎ (j ≤ headMost)) → (headEnd file i ≤ headMost) ⊎ (j ≤ headMost)
     go true o further =
         let here : headEnd file i ≡ i = headFrom-field file i l ∙ ap (λ (b : Bool). cond b i (headEnd file (past file i))) o in
         let most = placed-most p in
         inl (omega arith)
     go false o further =
         let on : headEnd file i ≡ headEnd file (past file i) = headFrom-field file i l ∙ ap (λ (b : Bool). cond b i (headEnd file (past file i))) o in
-        subst⁻¹ (λ (n : ℕ). (n ≤ 22168) ⊎ (j ≤ 22168)) on (further (placed-on file st m i (omega arith) f o p))
+        subst⁻¹ (λ (n : ℕ). (n ≤ headMost) ⊎ (j ≤ headMost)) on (further (placed-on file st m i (omega arith) f o p))
 
 -- of the bytes that the fields go over from the start on, the head has at most 9 + 60 * 64 + 15 + 286 * 64
-pub head-most : (s : List ℕ) → headFrom (length s) s 0 ≤ reachOf (length s) start s 0 .at → headFrom (length s) s 0 ≤ 22168
+pub head-most : (s : List ℕ) → headFrom (length s) s 0 ≤ reachOf (length s) start s 0 .at → headFrom (length s) s 0 ≤ headMost
 head-most s h = go (went-short s (far-gone s start 0 (omega arith) .went) (fleet refl refl))
   where
-    go : (headFrom (length s) s 0 ≤ 22168) ⊎ (reachOf (length s) start s 0 .at ≤ 22168) → headFrom (length s) s 0 ≤ 22168
+    go : (headFrom (length s) s 0 ≤ headMost) ⊎ (reachOf (length s) start s 0 .at ≤ headMost) → headFrom (length s) s 0 ≤ headMost
     go (inl l) = l
     go (inr l) = omega arith
 
-pub head-short : (s : List ℕ) → reachOf (length s) start s 0 .number ≡ 0 → headFrom (length s) s 0 ≡ length s → length s ≤ 22168
+pub head-short : (s : List ℕ) → reachOf (length s) start s 0 .number ≡ 0 → headFrom (length s) s 0 ≡ length s → length s ≤ headMost
 head-short s z h =
     let first : 0 ≤ length s = omega arith in
     let e : far s start 0 first .at ≡ length s = far-all s start 0 first z in
-    let m : headFrom (length s) s 0 ≤ 22168 = head-most s (omega arith) in
+    let m : headFrom (length s) s 0 ≤ headMost = head-most s (omega arith) in
     omega arith

@@ -31,6 +31,7 @@ use Rattle.stick.proofs.SaidLaws.{bytes-follow, One, one, Waited, waited}
 use Rattle.stick.proofs.RoofLaws.{RoofThere}
 use Rattle.stick.proofs.SiteProved.{fleet-has, long, fleet-field, unit-fields, roof-fields, many, next-is, roofs-there}
 use Rattle.chunks.proofs.SameLaws.{NoTag, by-tag}
+use Rattle.chunks.specs.Sizes.{headMost}
 use Rattle.chunks.specs.Holds.{moved}
 use Rattle.chunks.proofs.ReachChunks.{Went, there, passing, went-reach, went-append, went-take, reach-shift, far, far-gone, far-all}
 use Rattle.chunks.proofs.PlaceChunks.{steps-field}
@@ -318,7 +319,7 @@ module _ (file : List ℕ) (ok : whole file .number ≡ 0) where
       let e = to-end in
       went-head file (far-gone file start 0 first .went) (fleet refl refl) refl (omega arith)
 
-  pub head-few : h ≤ 22168
+  pub head-few : h ≤ headMost
   head-few = let l = head-within file ok in let e = to-end in head-most file (omega arith)
 
   pub head-long : length (take h file) ≡ h

@@ -19,6 +19,7 @@ use Rattle.stick.specs.declared.Reached.{Reached}
 use Rattle.stick.specs.Check.{fieldAt, reached, onward, reachOf}
 use Rattle.stick.proofs.ReachLaws.{never-zero}
 use Rattle.stick.proofs.WalkLaws.{field-stops, field-goes, field-cases}
+use Rattle.chunks.specs.Sizes.{largest}
 use Rattle.chunks.specs.Holds.{moved}
 use Rattle.chunks.proofs.FieldChunks.{refused-not-one, headOf-shift, field-shift, past-shift, past-append, field-append, field-cut, head-cut-short}
 
@@ -202,7 +203,7 @@ module _ (p : List ℕ) (st : State) (i : ℕ) (upto : i ≤ length p) where
     pub head : headOf (r .state) (drop (r .at) p) 0 ≡ 1
     pub going : eqb (r .state .stage) 0 ≡ false
     pub bytes : r .at < length p
-    pub short : length p < r .at + 132
+    pub short : length p < r .at + largest
 
   pub far-cut : far .number ≡ 1 → CutField far
   far-cut z = go far (far-gone .ending) z

@@ -28,6 +28,7 @@ use Rattle.stick.proofs.WalkLaws.{whole}
 use Rattle.stick.proofs.SaidLaws.{every}
 use Rattle.stick.proofs.RoofLaws.{RoofThere}
 use Rattle.stick.proofs.SiteProved.{walk-accepted, fleets-picked, units-picked, settings-picked, roofs-picked, many, many-is, roofs-there}
+use Rattle.chunks.specs.Sizes.{headMost}
 use Rattle.chunks.proofs.SameLaws.{Same, be-front, unit-same, head-same, roof-same}
 use Rattle.chunks.proofs.FieldChunks.{same-before}
 use Rattle.chunks.proofs.PlaceChunks.{Whole, went-whole, steps-shift}
@@ -225,7 +226,7 @@ module _ (file : List ℕ) (ok : whole file .number ≡ 0) where
 pub record HeadSays (file : List ℕ) : Type 0 where
   pub place : headFrom (length file) file 0 ≡ stepsPlace file
   pub within : headFrom (length file) file 0 < length file
-  pub few : headFrom (length file) file 0 ≤ 22168
+  pub few : headFrom (length file) file 0 ≤ headMost
   pub accepted : Accepted (headFile file)
   pub head-end : headFrom (length (headFile file)) (headFile file) 0 ≡ headFrom (length file) file 0
   pub site : siteOf (headFile file) ≡ siteOf file

@@ -15,7 +15,7 @@ use Rattle.stick.specs.declared.Reached.{Reached}
 use Rattle.records.specs.Records.{endOf}
 use Rattle.kept.specs.declared.Mark.{Mark}
 use Rattle.kept.specs.Kept.{Kept, atStart}
-use Rattle.kept.specs.Layout.{stateSize, heldPlace, sitePlace, filled, numberIn, markIn, keptIn, markOf, topOf, standsOf, bytesFor, stoppedBytes}
+use Rattle.kept.specs.Layout.{stateSize, heldPlace, sitePlace, siteMost, filled, numberIn, markIn, keptIn, markOf, topOf, standsOf, bytesFor, stoppedBytes}
 use Rattle.kept.specs.Formed.{wellFormed, isOpen}
 use Rattle.taking.specs.Chunk.{goneBy, resultsFor}
 use Rattle.taking.proofs.FedLaws.{gone-leads}
@@ -247,7 +247,7 @@ none-filled n = ap (λ (k : ℕ). replicate k 0) less
     less : n ≡ n - 0
     less = omega arith
 
-started-so : (s zeros : List ℕ) → length s ≡ stateSize → length zeros ≡ 22175 → zeros ≡ filled 22175 [] → (t u v : List ℕ)
+started-so : (s zeros : List ℕ) → length s ≡ stateSize → length zeros ≡ siteMost → zeros ≡ filled siteMost [] → (t u v : List ℕ)
     → t ≡ laid s sitePlace zeros → u ≡ laid t heldPlace (standsOf [] [] []) → v ≡ laid u 0 (topOf (markOf atStart) [])
     → v ≡ bytesFor atStart
 unfolding bytesFor
@@ -257,8 +257,8 @@ started-so s zeros long l z t u v a b d =
     ∙ ap (λ (r : List ℕ). topOf (markOf atStart) [] ++ standsOf [] [] [] ++ r) (laid-last s zeros sitePlace (omega arith) t a ∙ z)
 
 pub started : (s : List ℕ) → length s ≡ stateSize → (t u v : List ℕ)
-    → t ≡ laid s sitePlace (replicate 22175 0) → u ≡ laid t heldPlace (standsOf [] [] []) → v ≡ laid u 0 (topOf (markOf atStart) [])
+    → t ≡ laid s sitePlace (replicate siteMost 0) → u ≡ laid t heldPlace (standsOf [] [] []) → v ≡ laid u 0 (topOf (markOf atStart) [])
     → (0 ≡ startNumber s) × (v ≡ startLeaves s)
 started s long t u v a b d =
     let e = start-by s true (eq-eqb (length s) stateSize long) in
-    (e .0, started-so s (replicate 22175 0) long (length-replicate {A = ℕ} 22175 0) (none-filled 22175) t u v a b d ∙ e .1)
+    (e .0, started-so s (replicate siteMost 0) long (length-replicate {A = ℕ} siteMost 0) (none-filled siteMost) t u v a b d ∙ e .1)

@@ -8,7 +8,7 @@ use native.Mathlib.Omega.{arith}
 use lib.ListN.{length, take, drop, replicate, length-append, length-replicate, length-take, length-drop, take-append-drop}
 use lib.Seq.{slice, length-take-le, take-at, drop-at, take-append-le, drop-append-le, take-append-add, drop-append-add, drop-drop, take-take}
 use Rattle.octets.specs.BigEndian.{laid}
-use Rattle.kept.specs.Layout.{sitePlace, filled}
+use Rattle.kept.specs.Layout.{sitePlace, siteMost, stateSize, filled}
 use Rattle.kept.proofs.NumberLaws.{take-drop}
 
 -- ---- a part that is filled up with 0, with bytes laid behind those that are there
@@ -48,12 +48,12 @@ module _ (s : List ℕ) (at k : ℕ) (b : List ℕ) (fits : at + k + length b �
       cut = sym (take-drop k at s)
 
 -- ---- so the site part grows
-module _ (s site more : List ℕ) (long : length s ≡ 23163) (part : drop sitePlace s ≡ filled 22175 site) (room : length site + length more ≤ 22175) where
+module _ (s site more : List ℕ) (long : length s ≡ stateSize) (part : drop sitePlace s ≡ filled siteMost site) (room : length site + length more ≤ siteMost) where
   pub grown-front : take sitePlace (laid s (sitePlace + length site) more) ≡ take sitePlace s
   grown-front = front-stays s sitePlace (length site) more (omega arith)
 
-  pub grown-part : drop sitePlace (laid s (sitePlace + length site) more) ≡ filled 22175 (site ++ more)
+  pub grown-part : drop sitePlace (laid s (sitePlace + length site) more) ≡ filled siteMost (site ++ more)
   grown-part =
       behind-laid s sitePlace (length site) more (omega arith)
       ∙ ap (λ (x : List ℕ). take (length site) x ++ more ++ drop (length site + length more) x) part
-      ∙ filled-more 22175 site more room
+      ∙ filled-more siteMost site more room

@@ -15,11 +15,12 @@ use Rattle.fields.specs.declared.Taken.the-variants.{Next, Stop}
 use Rattle.fields.specs.Fields.{headOf}
 use Rattle.stick.specs.declared.Reached.{Reached}
 use Rattle.stick.specs.Check.{fieldAt, reached, reachOf}
+use Rattle.chunks.specs.Sizes.{largest}
 use Rattle.chunks.proofs.ReachChunks.{reach-fuel, reach-shift, there, passing, far-all, far-cut}
 use Rattle.chunks.proofs.PlaceChunks.{accepted-there}
 use Rattle.kept.specs.declared.Mark.{Mark}
 use Rattle.kept.specs.Kept.{Kept}
-use Rattle.kept.specs.Layout.{stateIn, keptIn}
+use Rattle.kept.specs.Layout.{tailMost, stateIn, keptIn}
 use Rattle.kept.proofs.NumberLaws.{take-drop}
 use Rattle.taking.specs.Chunk.{goneBy, absorbed, resultsBy, withTail, fedBy, resultsFor}
 use Rattle.taking.specs.Posts.{Leads}
@@ -32,7 +33,7 @@ use Rattle.intake.proofs.JointLaws.{no-bytes, take-most, stops-first, t
 use Rattle.intake.proofs.MarkLaws.{mark-state, mark-tail}
 
 -- ---- the bytes behind the whole fields are fewer than the largest field has
-pub gone-short : (k : Kept) (chunk : List ℕ) → goneBy k chunk .number ≤ 1 → length (k .tail ++ chunk) ≤ goneBy k chunk .at + 131
+pub gone-short : (k : Kept) (chunk : List ℕ) → goneBy k chunk .number ≤ 1 → length (k .tail ++ chunk) ≤ goneBy k chunk .at + tailMost
 unfolding goneBy
 gone-short k chunk h = go (eqb (r .number) 0) refl
   where
@@ -45,7 +46,7 @@ gone-short k chunk h = go (eqb (r .number) 0) refl
     one : (n : ℕ) → n ≤ 1 → (n ≡ 0 → ⊥) → n ≡ 1
     one n l z = omega (arith, z)
 
-    go : (b : Bool) → eqb (r .number) 0 ≡ b → length (k .tail ++ chunk) ≤ r .at + 131
+    go : (b : Bool) → eqb (r .number) 0 ≡ b → length (k .tail ++ chunk) ≤ r .at + tailMost
     go true e = omega (arith, far-all (k .tail ++ chunk) (k .state) 0 first (eqb-true (r .number) 0 e))
     go false e = omega (arith, far-cut (k .tail ++ chunk) (k .state) 0 first (one (r .number) h (eqb-false (r .number) 0 e)) .short)
 
@@ -56,7 +57,7 @@ pub record Fits (k : Kept) (chunk joint : List ℕ) (mid : State) (tail at : ℕ
   pub beyond-tail : tail ≤ past joint 0
   pub others-behind : past joint 0 ≤ at
   pub within : at ≤ tail + length chunk
-  pub short : tail + length chunk ≤ at + 131
+  pub short : tail + length chunk ≤ at + tailMost
   pub first-leads : Leads (k .state) (firstOf joint) mid
   pub others-lead : Leads mid (othersOf joint tail at chunk) next
   pub results-are : bothResults k (firstOf joint) mid (othersOf joint tail at chunk) next ≡ resultsFor k chunk
@@ -73,7 +74,7 @@ module _ (k : Kept) (chunk : List ℕ) (some : 0 < length (k .tail)) (goes : eqb
   both = tail ++ chunk
 
   abbrev joint : List ℕ
-  joint = take 132 both
+  joint = take largest both
 
   both-long : length both ≡ length tail + length chunk
   both-long = length-append tail chunk
@@ -144,7 +145,7 @@ module _ (k : Kept) (chunk : List ℕ) (some : 0 < length (k .tail)) (goes : eqb
     first-is : firstOf joint ≡ tail ++ take q chunk
     first-is =
         let p : past joint 0 ≡ length tail + q = omega (arith, beyond-tail) in
-        take-take (past joint 0) 132 both (omega (arith, first-there, take-most 132 both))
+        take-take (past joint 0) largest both (omega (arith, first-there, take-most largest both))
         ∙ ap (λ (n : ℕ). take n both) p
         ∙ take-append-add tail chunk q
 
@@ -189,9 +190,9 @@ module _ (k : Kept) (chunk : List ℕ) (some : 0 < length (k .tail)) (goes : eqb
     stop-is = stops-first st tail chunk some goes cut n e
 
     all-joint : joint ≡ both
-    all-joint = take-all 132 both (omega (arith, gone-short k chunk fair, ap (λ (r : Reached). r .at) stop-is))
+    all-joint = take-all largest both (omega (arith, gone-short k chunk fair, ap (λ (r : Reached). r .at) stop-is))
 
-    stops-short : length joint ≤ 131
+    stops-short : length joint ≤ tailMost
     stops-short = omega (arith, ap length all-joint, gone-short k chunk fair, ap (λ (r : Reached). r .at) stop-is)
 
     stops-results : resultsBy k [] st ≡ resultsFor k chunk
@@ -204,7 +205,7 @@ module _ (k : Kept) (chunk : List ℕ) (some : 0 < length (k .tail)) (goes : eqb
 
 -- ---- in a state's bytes, by its mark
 pub record Stays (s chunk joint : List ℕ) (st : State) : Type 0 where
-  pub short : length joint ≤ 131
+  pub short : length joint ≤ tailMost
   pub leads : Leads (stateIn s) [] st
   pub results-are : resultsBy (keptIn s) [] st ≡ resultsFor (keptIn s) chunk
   pub kept-is : withTail (absorbed (keptIn s) [] st) joint ≡ fedBy (keptIn s) chunk
@@ -221,10 +222,10 @@ module _ (s chunk : List ℕ) (m : Mark) (r : Reached) (g : Gone s m chunk r) wh
     unfolding keptIn
     waited = open-waits s (g .is-open) (omega (arith, tail-some, open-tail s (g .is-open)))
 
-    module _ (j : List ℕ) (is : j ≡ take 132 (keptIn s .tail ++ chunk)) where
+    module _ (j : List ℕ) (is : j ≡ take largest (keptIn s .tail ++ chunk)) where
       pub joint-fits : (mid : State) → fieldAt (m .state) j 0 ≡ Next mid → Fits (keptIn s) chunk j mid (m .tail) (r .at) (r .state)
       joint-fits mid e =
-          let f : fieldAt (keptIn s .state) (take 132 (keptIn s .tail ++ chunk)) 0 ≡ Next mid =
+          let f : fieldAt (keptIn s .state) (take largest (keptIn s .tail ++ chunk)) 0 ≡ Next mid =
           sym (ap₂ (λ (st : State) (l : List ℕ). fieldAt st l 0) (mark-state s m (g .mark-is)) is) ∙ e in
           let fit = fits-there (keptIn s) chunk tail-some (waited .0) (waited .1) fair-is mid f in
           subst (λ (x : Reached). Fits (keptIn s) chunk j mid (m .tail) (x .at) (x .state)) (sym (g .gone-is))
@@ -235,7 +236,7 @@ module _ (s chunk : List ℕ) (m : Mark) (r : Reached) (g : Gone s m chunk r) wh
       unfolding keptIn
       joint-stays n e =
           let k = keptIn s in
-          let f : fieldAt (keptIn s .state) (take 132 (keptIn s .tail ++ chunk)) 0 ≡ Stop n =
+          let f : fieldAt (keptIn s .state) (take largest (keptIn s .tail ++ chunk)) 0 ≡ Stop n =
           sym (ap₂ (λ (st : State) (l : List ℕ). fieldAt st l 0) (mark-state s m (g .mark-is)) is) ∙ e in
           subst (Stays s chunk j) (sym (mark-state s m (g .mark-is)))
           (subst (λ (l : List ℕ). Stays s chunk l (keptIn s .state)) (sym is)
@@ -257,7 +258,7 @@ module _ (s chunk : List ℕ) (m : Mark) (r : Reached) (g : Gone s m chunk r) wh
     pub chunk-within : r .at ≤ length chunk
     chunk-within = omega (arith, gone-upto (keptIn s) chunk, ap length all-chunk, ap (λ (x : Reached). x .at) (g .gone-is))
 
-    pub chunk-short : length chunk ≤ r .at + 131
+    pub chunk-short : length chunk ≤ r .at + tailMost
     chunk-short = omega (arith, gone-short (keptIn s) chunk fair-is, ap length all-chunk, ap (λ (x : Reached). x .at) (g .gone-is))
 
     over-chunk : take (goneBy (keptIn s) chunk .at) (keptIn s .tail ++ chunk) ≡ take (r .at) chunk

@@ -11,7 +11,7 @@ use Rattle.octets.specs.BigEndian.{laid}
 use Rattle.records.proofs.LayLaws.{behind}
 use Rattle.fields.specs.declared.State.{State}
 use Rattle.kept.specs.Kept.{Kept, begun}
-use Rattle.kept.specs.Layout.{sitePlace, siteBytes, sitePart, stateIn, filled, keptIn}
+use Rattle.kept.specs.Layout.{sitePlace, siteMost, siteBytes, sitePart, stateIn, filled, keptIn}
 use Rattle.kept.specs.Posts.{WellKept}
 use Rattle.kept.proofs.BackLaws.{site-kept}
 use Rattle.kept.proofs.FormedLaws.{site-long}
@@ -34,7 +34,7 @@ module _ (s : List ℕ) (o : Open s) (w : List ℕ) (next : State) (l : Leads (s
   abbrev pub after : List ℕ
   after = siteAfter (keptIn s) w next
 
-  pub after-short : length after ≤ 22175
+  pub after-short : length after ≤ siteMost
   after-short = site-well (keptIn s) (open-well s o) w next leads-kept .site-short
 
   pub head-upto : headIn w ≤ length w
@@ -43,7 +43,7 @@ module _ (s : List ℕ) (o : Open s) (w : List ℕ) (next : State) (l : Leads (s
   long : length (sitePart s) ≡ siteBytes s
   long = site-long s (open-formed s o) (open-number s o)
 
-  part-now : drop sitePlace s ≡ filled 22175 (sitePart s)
+  part-now : drop sitePlace s ≡ filled siteMost (sitePart s)
   part-now = site-kept s (open-formed s o) (open-number s o)
 
   after-by : (x y : Bool) → begun (stateIn s) ≡ x → begun next ≡ y → after ≡ siteBy x y (sitePart s) (take (headIn w) w)
@@ -56,7 +56,7 @@ module _ (s : List ℕ) (o : Open s) (w : List ℕ) (next : State) (l : Leads (s
       let is : after ≡ sitePart s = after-by true (begun next) e refl in
       record {
         front = refl;
-        part = part-now ∙ ap (filled 22175) (sym is);
+        part = part-now ∙ ap (filled siteMost) (sym is);
         sized = sym (ap length is ∙ long);
         fits = open-sized s o .site-fits;
       }
@@ -69,11 +69,11 @@ module _ (s : List ℕ) (o : Open s) (w : List ℕ) (next : State) (l : Leads (s
     -- what is laid behind the site part, all of it
     grown-by : (more u : List ℕ) (n : ℕ) → after ≡ sitePart s ++ more → length more ≡ n → u ≡ laid s (sitePlace + siteBytes s) more → Grown s u w next (siteBytes s + n)
     grown-by more u n is m d =
-        let room : length (sitePart s) + length more ≤ 22175 = omega (arith, after-short, ap length is, length-append (sitePart s) more) in
+        let room : length (sitePart s) + length more ≤ siteMost = omega (arith, after-short, ap length is, length-append (sitePart s) more) in
         let at : laid s (sitePlace + siteBytes s) more ≡ laid s (sitePlace + length (sitePart s)) more = ap (λ (k : ℕ). laid s (sitePlace + k) more) (sym long) in
         record {
           front = ap (take sitePlace) (d ∙ at) ∙ grown-front s (sitePart s) more (open-sized s o .long) part-now room;
-          part = ap (drop sitePlace) (d ∙ at) ∙ grown-part s (sitePart s) more (open-sized s o .long) part-now room ∙ ap (filled 22175) (sym is);
+          part = ap (drop sitePlace) (d ∙ at) ∙ grown-part s (sitePart s) more (open-sized s o .long) part-now room ∙ ap (filled siteMost) (sym is);
           sized = omega (arith, ap length is, length-append (sitePart s) more, long, m);
           fits = omega (arith, room, long, m);
         }
@@ -91,7 +91,7 @@ module _ (s : List ℕ) (o : Open s) (w : List ℕ) (next : State) (l : Leads (s
       closed-long : length (take (headIn w) w ++ closing) ≡ headIn w + 7
       closed-long = length-append (take (headIn w) w) closing ∙ ap (λ (k : ℕ). k + 7) head-long
 
-      pub closing-room : siteBytes s + headIn w + 7 ≤ 22175
+      pub closing-room : siteBytes s + headIn w + 7 ≤ siteMost
       closing-room = omega (arith, after-short, ap length closed-is, length-append (sitePart s) (take (headIn w) w ++ closing), closed-long, long)
 
       module _ (t u : List ℕ) (first : t ≡ laid s (sitePlace + siteBytes s) (slice 0 (headIn w) w)) (second : u ≡ laid t (sitePlace + (siteBytes s + headIn w)) closing) where
@@ -104,10 +104,10 @@ module _ (s : List ℕ) (o : Open s) (w : List ℕ) (next : State) (l : Leads (s
             (grown-by (take (headIn w) w ++ closing) u (headIn w + 7) closed-is closed-long both)
 
     -- there is room for the head in either case
-    pub head-room : siteBytes s + headIn w ≤ 22175
+    pub head-room : siteBytes s + headIn w ≤ siteMost
     head-room = go (begun next) refl
       where
-        go : (y : Bool) → begun next ≡ y → siteBytes s + headIn w ≤ 22175
+        go : (y : Bool) → begun next ≡ y → siteBytes s + headIn w ≤ siteMost
         go true f = omega (arith, closing-room f)
         go false f =
             omega (arith, after-short, ap length (after-by false false e f ∙ append-nil (sitePart s ++ take (headIn w) w)), length-append (sitePart s) (take (headIn w) w), head-long, long)

@@ -16,10 +16,12 @@ use Rattle.fields.specs.declared.Taken.the-variants.{Next, Stop}
 use Rattle.fields.specs.Fields.{headOf}
 use Rattle.stick.specs.Check.{fieldAt, reached, reachOf}
 use Rattle.stick.proofs.WalkLaws.{field-stops}
+use Rattle.chunks.specs.Sizes.{largest}
 use Rattle.chunks.proofs.FieldChunks.{past-append, field-cut, field-take}
 use Rattle.chunks.proofs.ReachChunks.{reach-fuel, reach-step, apart, reach-shift}
 use Rattle.chunks.proofs.PlaceChunks.{accepted-there}
 use Rattle.records.proofs.LayLaws.{behind}
+use Rattle.kept.specs.Layout.{tailMost}
 use Rattle.intake.specs.Posts.{moved}
 
 -- no bytes are the empty list
@@ -43,20 +45,20 @@ module _ (chunk : List ℕ) (left : ℕ) where
           (omega arith, (omega arith, ap (λ (k : ℕ). take k chunk) e ∙ take-length chunk ∙ sym (take-all left chunk (omega arith))))
       go false t e = let l : left ≤ length chunk = ltb-false (length chunk) left t in (omega arith, (omega arith, ap (λ (k : ℕ). take k chunk) e))
 
-module _ (tail chunk : List ℕ) (n : ℕ) (short : length tail ≤ 131) (is : n ≡ cond (ltb (length chunk) (132 - length tail)) (length chunk) (132 - length tail)) where
-  pub joint-is : tail ++ take n chunk ≡ take 132 (tail ++ chunk)
+module _ (tail chunk : List ℕ) (n : ℕ) (short : length tail ≤ tailMost) (is : n ≡ cond (ltb (length chunk) (largest - length tail)) (length chunk) (largest - length tail)) where
+  pub joint-is : tail ++ take n chunk ≡ take largest (tail ++ chunk)
   joint-is =
-      let e : length tail + (132 - length tail) ≡ 132 = omega arith in
-      ap (λ (x : List ℕ). tail ++ x) (some chunk (132 - length tail) n is .1 .1)
-      ∙ sym (take-append-add tail chunk (132 - length tail))
+      let e : length tail + (largest - length tail) ≡ largest = omega arith in
+      ap (λ (x : List ℕ). tail ++ x) (some chunk (largest - length tail) n is .1 .1)
+      ∙ sym (take-append-add tail chunk (largest - length tail))
       ∙ ap (λ (k : ℕ). take k (tail ++ chunk)) e
 
   pub joint-long : length (tail ++ take n chunk) ≡ length tail + n
-  joint-long = length-append tail (take n chunk) ∙ ap (λ (k : ℕ). length tail + k) (length-take-le n chunk (some chunk (132 - length tail) n is .0))
+  joint-long = length-append tail (take n chunk) ∙ ap (λ (k : ℕ). length tail + k) (length-take-le n chunk (some chunk (largest - length tail) n is .0))
 
   -- laid in a room of the largest field's bytes
-  module _ (room once twice : List ℕ) (long : length room ≡ 132) (first : once ≡ laid room 0 tail) (second : twice ≡ laid once (length tail) (slice 0 n chunk)) where
-    pub joined : take (length tail + n) twice ≡ take 132 (tail ++ chunk)
+  module _ (room once twice : List ℕ) (long : length room ≡ largest) (first : once ≡ laid room 0 tail) (second : twice ≡ laid once (length tail) (slice 0 n chunk)) where
+    pub joined : take (length tail + n) twice ≡ take largest (tail ++ chunk)
     unfolding laid
     joined =
         let whole : twice ≡ laid room 0 (tail ++ take n chunk) = behind room 0 (omega arith) tail (take n chunk) (length tail) refl once twice first (second ∙ ap (λ (p : ℕ). laid once p (take n chunk)) (sym (zero-add (length tail)))) in
@@ -70,14 +72,14 @@ module _ (st : State) (tail chunk : List ℕ) (some-tail : 0 < length tail) (goe
   both = tail ++ chunk
 
   abbrev start : List ℕ
-  start = take 132 both
+  start = take largest both
 
   some-bytes : 0 < length both
   some-bytes = omega (arith, length-append tail chunk)
 
   -- the first field is what it is in the bytes put together
   first-field : fieldAt st both 0 ≡ fieldAt st start 0
-  first-field = sym (field-take st both 0 132 (omega arith))
+  first-field = sym (field-take st both 0 largest (omega arith))
 
   pub stops-first : (n : ℕ) → fieldAt st start 0 ≡ Stop n → reached n 0 st ≡ reachOf (length both) st both 0
   stops-first n e = sym (reach-step both (length both) st 0 false (Stop n) (omega arith) some-bytes goes (first-field ∙ e))
@@ -93,7 +95,7 @@ module _ (st : State) (tail chunk : List ℕ) (some-tail : 0 < length tail) (goe
     whole = omega (arith, accepted-there st s both 0 (omega arith) in-both .all, length-append tail chunk)
 
     same-past : past both 0 ≡ past start 0
-    same-past = ap (λ (l : List ℕ). past l 0) (sym (take-append-drop 132 both)) ∙ past-append start (drop 132 both) 0 (omega (arith, three))
+    same-past = ap (λ (l : List ℕ). past l 0) (sym (take-append-drop largest both)) ∙ past-append start (drop largest both) 0 (omega (arith, three))
 
     -- the tail is not the whole field
     beyond-tail : length tail ≤ past both 0

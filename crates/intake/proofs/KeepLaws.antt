@@ -12,7 +12,7 @@ use lib.Seq.{slice, slice-empty, length-take-le, drop-at}
 use Rattle.octets.specs.BigEndian.{laid}
 use Rattle.records.proofs.LayLaws.{both}
 use Rattle.kept.specs.declared.Mark.{Mark}
-use Rattle.kept.specs.Layout.{stateSize, heldPlace, sitePlace, filled, numbersOf, heldOf, flagsOf, topOf, standsOf}
+use Rattle.kept.specs.Layout.{stateSize, heldPlace, sitePlace, tailMost, filled, numbersOf, heldOf, flagsOf, topOf, standsOf}
 use Rattle.kept.proofs.NumberLaws.{numbers-length}
 use Rattle.kept.proofs.PieceLaws.{filled-long}
 use Rattle.kept.proofs.StandLaws.{held-length, flags-length}
@@ -20,7 +20,7 @@ use Rattle.kept.proofs.StandLaws.{held-length, flags-length}
 -- the bytes before what stands, and those of what stands
 top-length : (m : Mark) → length (topOf m []) ≡ heldPlace
 unfolding topOf
-top-length m = both (numbersOf m) (filled 131 []) 25 131 (numbers-length m) (filled-long 131 [] (omega arith))
+top-length m = both (numbersOf m) (filled tailMost []) 25 tailMost (numbers-length m) (filled-long tailMost [] (omega arith))
 
 stands-length : (stored : List ℕ) (rs : List ℤ) (on : List Bool) → length stored ≤ 64 → length on ≤ 64 → length (standsOf stored rs on) ≡ 832
 unfolding standsOf

@@ -9,7 +9,7 @@ use lib.Seq.{slice, take-length, drop-at}
 use Rattle.octets.specs.BigEndian.{laid}
 use Rattle.records.proofs.LayLaws.{both}
 use Rattle.kept.specs.declared.Mark.{Mark}
-use Rattle.kept.specs.Layout.{heldPlace, filled, numbersOf, topOf, standsOf, markIn, keptIn, markOf, bytesFor}
+use Rattle.kept.specs.Layout.{heldPlace, tailMost, siteMost, filled, numbersOf, topOf, standsOf, markIn, keptIn, markOf, bytesFor}
 use Rattle.kept.specs.Posts.{Sized}
 use Rattle.kept.proofs.NumberLaws.{numbers-length}
 use Rattle.kept.proofs.PieceLaws.{filled-long}
@@ -20,16 +20,16 @@ use Rattle.taking.specs.Chunk.{withTail}
 abbrev pub tailed : Mark → ℕ → Mark
 tailed m n = record { place = m .place + n; state = m .state; site = m .site; tail = n; sun = m .sun }
 
-top-long : (m : Mark) (tail : List ℕ) → length tail ≤ 131 → length (topOf m tail) ≡ heldPlace
+top-long : (m : Mark) (tail : List ℕ) → length tail ≤ tailMost → length (topOf m tail) ≡ heldPlace
 unfolding topOf
-top-long m tail h = both (numbersOf m) (filled 131 tail) 25 131 (numbers-length m) (filled-long 131 tail h)
+top-long m tail h = both (numbersOf m) (filled tailMost tail) 25 tailMost (numbers-length m) (filled-long tailMost tail h)
 
 module _ (s : List ℕ) (z : Sized s) (m : Mark) (em : m ≡ markIn s) where
   pub tail-place : m .place ≡ keptIn s .place
   unfolding markIn keptIn
   tail-place = ap (λ (k : Mark). k .place) em
 
-  pub tail-site : m .site ≤ 22175
+  pub tail-site : m .site ≤ siteMost
   unfolding markIn
   tail-site = omega (arith, ap (λ (k : Mark). k .site) em, z .site-fits)
 
@@ -44,9 +44,9 @@ module _ (s : List ℕ) (z : Sized s) (m : Mark) (em : m ≡ markIn s) where
     stands = standsOf (keptIn s .stands .stored) (keptIn s .stands .requests) (keptIn s .on)
 
     abbrev site : List ℕ
-    site = filled 22175 (keptIn s .site)
+    site = filled siteMost (keptIn s .site)
 
-    behind-mark : drop heldPlace s ≡ standsOf (keptIn s .stands .stored) (keptIn s .stands .requests) (keptIn s .on) ++ filled 22175 (keptIn s .site)
+    behind-mark : drop heldPlace s ≡ standsOf (keptIn s .stands .stored) (keptIn s .stands .requests) (keptIn s .on) ++ filled siteMost (keptIn s .site)
     unfolding bytesFor
     behind-mark =
         let none : length (keptIn s .tail) ≡ 0 = ap length bare in
@@ -54,7 +54,7 @@ module _ (s : List ℕ) (z : Sized s) (m : Mark) (em : m ≡ markIn s) where
         ap (drop heldPlace) (is ∙ append-assoc top stands site)
         ∙ drop-at top (stands ++ site) heldPlace (top-long (markOf (keptIn s)) (keptIn s .tail) (omega arith))
 
-    laid-so : (tail : List ℕ) → length tail ≤ 131 → laid s 0 (topOf (markOf (withTail (keptIn s) tail)) tail) ≡ bytesFor (withTail (keptIn s) tail)
+    laid-so : (tail : List ℕ) → length tail ≤ tailMost → laid s 0 (topOf (markOf (withTail (keptIn s) tail)) tail) ≡ bytesFor (withTail (keptIn s) tail)
     unfolding laid bytesFor
     laid-so tail h =
         let top = topOf (markOf (withTail (keptIn s) tail)) tail in
@@ -62,7 +62,7 @@ module _ (s : List ℕ) (z : Sized s) (m : Mark) (em : m ≡ markIn s) where
         ∙ ap (λ (r : List ℕ). top ++ r) behind-mark
         ∙ sym (append-assoc top stands site)
 
-    pub tail-kept : (bytes : List ℕ) (from : ℕ) → length bytes ≤ from + 131 → (u : List ℕ)
+    pub tail-kept : (bytes : List ℕ) (from : ℕ) → length bytes ≤ from + tailMost → (u : List ℕ)
         → u ≡ laid s 0 (topOf (tailed m (length bytes - from)) (slice from (length bytes) bytes)) → u ≡ bytesFor (withTail (keptIn s) (drop from bytes))
     tail-kept bytes from h u e =
         let tail = drop from bytes in

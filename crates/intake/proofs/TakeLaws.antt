@@ -31,6 +31,7 @@ use Rattle.stretch.specs.Stretch.{standsAfter, onsAfter, recordsFrom}
 use Rattle.stretch.proofs.SiteLaws.{few-units, few-roofs}
 use Rattle.kept.specs.declared.Mark.{Mark}
 use Rattle.kept.specs.Kept.{Kept, begun, noStanding}
+use Rattle.kept.specs.Layout.{siteMost, placeMost}
 use Rattle.kept.specs.Layout.{stateSize, heldPlace, flagPlace, sitePlace, placeIn, siteBytes, tailBytes, tailPart, sitePart, sunKept, stateIn, storeAt, requestAt, flagAt, upTo, unitsKept, roofsKept, filled, topOf, standsOf, markOf, bytesFor, markIn, keptIn}
 use Rattle.kept.specs.Formed.{sunFits}
 use Rattle.kept.specs.Posts.{WellKept}
@@ -83,7 +84,7 @@ place-there s o = le-trans (le-of-eq (sym (open-tail s o))) (tail-within (keptIn
 
 pub place-fits : (s : List ℕ) → Open s → placeIn s ≤ 4000000
 unfolding keptIn
-place-fits s o = let h : placeIn s ≤ 22187 + length (tailPart s) + 46 * stateIn s .steps = place-most (keptIn s) (open-well s o) in omega (arith, h, few-kept s o, open-tail s o, open-sized s o .tail-fits)
+place-fits s o = let h : placeIn s ≤ placeMost + length (tailPart s) + 46 * stateIn s .steps = place-most (keptIn s) (open-well s o) in omega (arith, h, few-kept s o, open-tail s o, open-sized s o .tail-fits)
 
 by-begun : {A : Type 0} (b : Bool) (x y z : A) → (b ≡ true → x ≡ y) → cond b x z ≡ cond b y z
 by-begun true x y z f = f refl
@@ -99,9 +100,9 @@ module _ (s : List ℕ) (o : Open s) (w : List ℕ) (next : State) (l : Leads (s
   long : length (take sitePlace g) ≡ sitePlace
   long = ap length (grown .front) ∙ length-take-le sitePlace s (omega (arith, open-sized s o .long))
 
-  filled-long : length (filled 22175 site) ≡ 22175
+  filled-long : length (filled siteMost site) ≡ siteMost
   unfolding filled
-  filled-long = length-append site (replicate (22175 - length site) 0) ∙ ap (λ (k : ℕ). length site + k) (length-replicate (22175 - length site) 0) ∙ omega (arith, grown .fits, grown .sized)
+  filled-long = length-append site (replicate (siteMost - length site) 0) ∙ ap (λ (k : ℕ). length site + k) (length-replicate (siteMost - length site) 0) ∙ omega (arith, grown .fits, grown .sized)
 
   pub grown-long : length g ≡ stateSize
   grown-long =
@@ -110,7 +111,7 @@ module _ (s : List ℕ) (o : Open s) (w : List ℕ) (next : State) (l : Leads (s
 
   pub site-there : slice sitePlace (sitePlace + n) g ≡ site
   unfolding filled
-  site-there = sym (take-drop n sitePlace g) ∙ ap (take n) (grown .part) ∙ take-at site (replicate (22175 - length site) 0) n (sym (grown .sized))
+  site-there = sym (take-drop n sitePlace g) ∙ ap (take n) (grown .part) ∙ take-at site (replicate (siteMost - length site) 0) n (sym (grown .sized))
 
   -- what stands before the site part is as it was
   same-byte : (i : ℕ) → i < sitePlace → getD g i 0 ≡ getD s i 0
@@ -226,7 +227,7 @@ module _ (s : List ℕ) (o : Open s) (w : List ℕ) (next : State) (l : Leads (s
       ap₂ (λ (t j : ℕ). record { place = placeIn s - t + length w; state = next; site = j; tail = 0; sun = sunFrom w (sunKept s) (headIn w) })
       (sym (open-tail s o)) (grown .sized)
 
-  bytes-are : laid-out (markOf kept-then) (kept-then .stands) (kept-then .on) (filled 22175 (kept-then .site)) ≡ bytesFor kept-then
+  bytes-are : laid-out (markOf kept-then) (kept-then .stands) (kept-then .on) (filled siteMost (kept-then .site)) ≡ bytesFor kept-then
   unfolding bytesFor absorbed
   bytes-are = refl
 
@@ -238,7 +239,7 @@ module _ (s : List ℕ) (o : Open s) (w : List ℕ) (next : State) (l : Leads (s
       → laid-out k st on (drop sitePlace g) ≡ bytesFor kept-then
   all-same k st on ek es eo =
       ap₂ (λ (x : Mark) (y : Standing). laid-out x y on (drop sitePlace g)) ek es
-      ∙ ap₂ (λ (x : List Bool) (y : List ℕ). laid-out (markOf kept-then) (kept-then .stands) x y) eo (grown .part ∙ ap (filled 22175) (sym site-then))
+      ∙ ap₂ (λ (x : List Bool) (y : List ℕ). laid-out (markOf kept-then) (kept-then .stands) x y) eo (grown .part ∙ ap (filled siteMost) (sym site-then))
       ∙ bytes-are
 
   -- where the steps have begun then

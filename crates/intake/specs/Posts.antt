@@ -21,7 +21,7 @@ use Rattle.stretch.specs.Posts.{StepsThere}
 use Rattle.stretch.specs.Stretch.{standsAfter, onsAfter, recordsFrom}
 use Rattle.kept.specs.declared.Mark.{Mark}
 use Rattle.kept.specs.Kept.{Kept, begun}
-use Rattle.kept.specs.Layout.{stateSize, sitePlace, filled, markIn, keptIn, stateIn, storeAt, requestAt, flagAt, upTo, topOf, standsOf}
+use Rattle.kept.specs.Layout.{stateSize, sitePlace, siteMost, filled, markIn, keptIn, stateIn, storeAt, requestAt, flagAt, upTo, topOf, standsOf}
 use Rattle.taking.specs.Chunk.{goneBy, siteAfter, absorbed, resultsBy, withTail}
 use Rattle.taking.specs.Posts.{Leads}
 use Rattle.kept.specs.Formed.{isOpen}
@@ -58,9 +58,9 @@ pub record Walked (bytes : List ℕ) : Type 0 where
 -- a state's bytes with the site part that whole fields lead to, of so many bytes; the others as they were
 pub record Grown (s grown bytes : List ℕ) (next : State) (site : ℕ) : Type 0 where
   pub front : take sitePlace grown ≡ take sitePlace s
-  pub part : drop sitePlace grown ≡ filled 22175 (siteAfter (keptIn s) bytes next)
+  pub part : drop sitePlace grown ≡ filled siteMost (siteAfter (keptIn s) bytes next)
   pub sized : site ≡ length (siteAfter (keptIn s) bytes next)
-  pub fits : site ≤ 22175
+  pub fits : site ≤ siteMost
 
 -- ---- the run over whole fields, by a mark and a state's bytes with the site part that they lead to
 
@@ -104,7 +104,7 @@ leftBy m s n bytes head next =
 -- what the run over whole fields may count on
 pub record Ahead (s : List ℕ) (m : Mark) (n : ℕ) (bytes : List ℕ) (head : ℕ) (next : State) : Type 0 where
   pub long : length s ≡ stateSize
-  pub fits : n ≤ 22175
+  pub fits : n ≤ siteMost
   pub accepted : Accepted (slice sitePlace (sitePlace + n) s)
   pub held : Held (siteOf (slice sitePlace (sitePlace + n) s)) (firstBy m s (slice sitePlace (sitePlace + n) s) .stored) (firstBy m s (slice sitePlace (sitePlace + n) s) .requests)
   pub upto : head ≤ length bytes

@@ -4,10 +4,11 @@ ghost use lib.ListN.{length, drop};
 ghost use lib.Seq.{slice};
 ghost use Rattle.octets.specs.BigEndian.{laid};
 ghost use Rattle.parts.specs.Header.{past};
-ghost use Rattle.kept.specs.Layout.{stateIn, keptIn, bytesFor};
+ghost use Rattle.kept.specs.Layout.{tailMost, stateIn, keptIn, bytesFor};
 ghost use Rattle.taking.specs.Chunk.{withTail, absorbed, resultsBy, fedBy, resultsFor};
 ghost use Rattle.taking.specs.Posts.{Leads};
 ghost use Rattle.intake.specs.Posts.{firstOf, othersOf, bothKept, bothResults, Open, Gone};
+use super::LARGEST;
 use super::absorbing;
 use super::joints;
 use super::tails;
@@ -31,7 +32,7 @@ fn take_rest(
     requires { ⌜ Open (now s) ⌝ }
     requires { ⌜ from ≤ to ⌝ }
     requires { ⌜ to ≤ length (now bytes) ⌝ }
-    requires { ⌜ length (now bytes) ≤ to + 131 ⌝ }
+    requires { ⌜ length (now bytes) ≤ to + tailMost ⌝ }
     requires { ⌜ Leads (stateIn (now s)) (slice from to (now bytes)) next ⌝ }
     requires { ⌜ out + length (resultsBy (keptIn (now s)) (slice from to (now bytes)) next) ≤ length (now room) ⌝ }
     ensures { λ _. ⌜ now (s .exit) ≡ bytesFor (withTail (absorbed (keptIn (now (s .entry))) (slice from to (now (bytes .entry))) next) (drop to (now (bytes .entry)))) ⌝ }
@@ -59,7 +60,7 @@ fn take_both(
     requires { ⌜ tail ≤ past (now joint) 0 ⌝ }
     requires { ⌜ past (now joint) 0 ≤ at ⌝ }
     requires { ⌜ at ≤ tail + length (now chunk) ⌝ }
-    requires { ⌜ tail + length (now chunk) ≤ at + 131 ⌝ }
+    requires { ⌜ tail + length (now chunk) ≤ at + tailMost ⌝ }
     requires { ⌜ Leads (stateIn (now s)) (firstOf (now joint)) mid ⌝ }
     requires { ⌜ Leads mid (othersOf (now joint) tail at (now chunk)) next ⌝ }
     requires { ⌜ length (bothResults (keptIn (now s)) (firstOf (now joint)) mid (othersOf (now joint) tail at (now chunk)) next) ≤ length (now room) ⌝ }
@@ -84,7 +85,7 @@ fn take_joined(s: &mut [u8], m: Mark, chunk: &[u8], r: Reached, room: &mut [u8])
     let next = r.state;
     let t = m.tail;
     let at = r.at;
-    let mut joint = [0u8; 132];
+    let mut joint = [0u8; LARGEST];
     let n = joints::join(&mut joint, s, chunk);
     match stick::field(st, &joint[0..n], 0) {
         Taken::Next(mid) => take_both(s, &joint[0..n], mid, chunk, t, at, next, room),

@@ -6,7 +6,8 @@ ghost use lib.Dec.{ltb};
 ghost use lib.ListN.{length, take};
 ghost use Rattle.parts.specs.Header.{past};
 ghost use Rattle.stick.specs.Check.{reachOf};
-ghost use Rattle.kept.specs.Layout.{tailBytes, tailPart, markIn, keptIn};
+ghost use Rattle.chunks.specs.Sizes.{largest};
+ghost use Rattle.kept.specs.Layout.{tailMost, tailBytes, tailPart, markIn, keptIn};
 ghost use Rattle.kept.specs.Posts.{Sized};
 ghost use Rattle.taking.specs.Chunk.{goneBy};
 ghost use Rattle.intake.specs.Posts.{moved, Open};
@@ -27,10 +28,10 @@ fn lesser(a: usize, b: usize) -> usize
 
 // Lays the tail and the chunk behind it, as far as the largest field goes; how many bytes that are.
 pub fn join(joint: &mut [u8], s: &[u8], chunk: &[u8]) -> usize
-    requires { ⌜ length (now joint) ≡ 132 ⌝ }
+    requires { ⌜ length (now joint) ≡ largest ⌝ }
     requires { ⌜ Sized (now s) ⌝ }
-    ensures { λ r. ⌜ r ≡ length (take 132 (tailPart (now (s .entry)) ++ now (chunk .entry))) ⌝ }
-    ensures { λ r. ⌜ take r (now (joint .exit)) ≡ take 132 (tailPart (now (s .entry)) ++ now (chunk .entry)) ⌝ }
+    ensures { λ r. ⌜ r ≡ length (take largest (tailPart (now (s .entry)) ++ now (chunk .entry))) ⌝ }
+    ensures { λ r. ⌜ take r (now (joint .exit)) ≡ take largest (tailPart (now (s .entry)) ++ now (chunk .entry)) ⌝ }
 {
     let t = octets::u8_at(s, 16) as usize;
     let n = lesser(chunk.len(), LARGEST - t);
@@ -44,7 +45,7 @@ fn beyond(st: State, joint: &[u8], chunk: &[u8], tail: usize) -> Reached
     requires { ⌜ 3 ≤ length (now joint) ⌝ }
     requires { ⌜ tail ≤ past (now joint) 0 ⌝ }
     requires { ⌜ past (now joint) 0 ≤ tail + length (now chunk) ⌝ }
-    requires { ⌜ tail ≤ 131 ⌝ }
+    requires { ⌜ tail ≤ tailMost ⌝ }
     ensures { λ r. ⌜ r ≡ moved tail (reachOf (length (now (chunk .entry))) st (now (chunk .entry)) (past (now (joint .entry)) 0 - tail)) ⌝ }
 {
     let size = HEADER + (octets::u16_at(joint, 1) as usize);
@@ -66,7 +67,7 @@ fn gone_on(s: &[u8], m: Mark, chunk: &[u8]) -> Reached
 {
     let st = m.state;
     let t = m.tail;
-    let mut joint = [0u8; 132];
+    let mut joint = [0u8; LARGEST];
     let n = join(&mut joint, s, chunk);
     match stick::field(st, &joint[0..n], 0) {
         Taken::Stop(number) => Reached {

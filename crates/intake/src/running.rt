@@ -16,7 +16,7 @@ ghost use Rattle.fleet.specs.Posts.{Held};
 ghost use Rattle.stretch.specs.Stretch.{allBytes, standsAfter, onsAfter, recordsFrom};
 ghost use Rattle.stretch.specs.Posts.{StepsThere};
 ghost use Rattle.kept.specs.Kept.{begun};
-ghost use Rattle.kept.specs.Layout.{stateSize, heldPlace, sitePlace, storeAt, requestAt, flagAt, upTo, topOf, standsOf};
+ghost use Rattle.kept.specs.Layout.{stateSize, heldPlace, sitePlace, siteMost, storeAt, requestAt, flagAt, upTo, topOf, standsOf};
 ghost use Rattle.intake.specs.Posts.{recordsOver, markAfter, leftBy, Ahead};
 use fields::State;
 use kept::Mark;
@@ -118,7 +118,7 @@ fn mark_after(m: Mark, next: State, site: usize, sun: Sun, bytes: usize) -> Mark
 // What is kept after whole fields: a mark without a tail, and what stands.
 fn keep(s: &mut [u8], k: Mark, bytes: &[u8], stored: &[u64], requests: &[i32], on: &[bool])
     requires { ⌜ length (now s) ≡ stateSize ⌝ }
-    requires { ⌜ k .site ≤ 22175 ⌝ }
+    requires { ⌜ k .site ≤ siteMost ⌝ }
     requires { ⌜ k .tail ≡ 0 ⌝ }
     requires { ⌜ length (now stored) ≤ 64 ⌝ }
     requires { ⌜ length (now requests) ≡ length (now stored) ⌝ }
@@ -242,7 +242,7 @@ pub fn clear_stands(s: &mut [u8])
 // Where the steps have not begun: nothing stands yet.
 pub fn wait(s: &mut [u8], m: Mark, n: usize, bytes: &[u8], next: State)
     requires { ⌜ length (now s) ≡ stateSize ⌝ }
-    requires { ⌜ n ≤ 22175 ⌝ }
+    requires { ⌜ n ≤ siteMost ⌝ }
     requires { ⌜ m .tail ≤ m .place ⌝ }
     requires { ⌜ m .place + length (now bytes) ≤ 18446744073709551615 ⌝ }
     ensures { λ _. ⌜ now (s .exit) ≡ topOf (markAfter m next n (m .sun) (length (now (bytes .entry)))) [] ++ standsOf [] [] [] ++ drop sitePlace (now (s .entry)) ⌝ }

@@ -2,7 +2,7 @@ ghost use mathlib.Core.Path.{_≡_};
 ghost use mathlib.Core.List.{[]};
 ghost use Prim.Native.Nat.{_+_, _≤_};
 ghost use lib.ListN.{length, drop};
-ghost use Rattle.kept.specs.Layout.{keptIn, bytesFor};
+ghost use Rattle.kept.specs.Layout.{tailMost, keptIn, bytesFor};
 ghost use Rattle.kept.specs.Posts.{Sized};
 ghost use Rattle.taking.specs.Chunk.{withTail};
 use kept::Mark;
@@ -13,7 +13,7 @@ pub fn keep_tail(s: &mut [u8], bytes: &[u8], from: usize)
     requires { ⌜ keptIn (now s) .tail ≡ [] ⌝ }
     requires { ⌜ now s ≡ bytesFor (keptIn (now s)) ⌝ }
     requires { ⌜ from ≤ length (now bytes) ⌝ }
-    requires { ⌜ length (now bytes) ≤ from + 131 ⌝ }
+    requires { ⌜ length (now bytes) ≤ from + tailMost ⌝ }
     requires { ⌜ keptIn (now s) .place + length (now bytes) ≤ 18446744073709551615 ⌝ }
     ensures { λ _. ⌜ now (s .exit) ≡ bytesFor (withTail (keptIn (now (s .entry))) (drop from (now (bytes .entry)))) ⌝ }
 {

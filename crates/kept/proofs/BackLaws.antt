@@ -27,6 +27,7 @@ use Rattle.stick.specs.Site.{siteOf, roofsOf}
 use Rattle.fleet.specs.Step.{standing}
 use Rattle.kept.specs.declared.Mark.{Mark}
 use Rattle.kept.specs.Kept.{Kept, begun}
+use Rattle.kept.specs.Layout.{tailMost, siteMost, restSize}
 use Rattle.kept.specs.Layout.{tailPlace, heldPlace, flagPlace, sitePlace, stateSize, filled, progressOf, partsOf, numbersOf, heldOf, flagsOf, topOf, standsOf, markOf, bytesFor, stoppedBytes, numberIn, placeIn, stepsKept, stageIn, siteBytes, tailBytes, sitePart, tailPart, sunKept, knownBy, stateIn, storeAt, requestAt, flagAt, upTo, unitsKept, roofsKept, keptIn}
 use Rattle.kept.specs.Formed.{clear, siteFits, standsFit, restClear, markFits, going, stopped, wellFormed}
 use Rattle.kept.specs.Posts.{Sized}
@@ -39,10 +40,10 @@ use Rattle.kept.proofs.ReadLaws.{read-left, read-right, read-here, read
 
 -- ---- what is kept has room in its bytes
 pub record Room (k : Kept) : Type 0 where
-  pub tail-room : length (k .tail) ≤ 131
+  pub tail-room : length (k .tail) ≤ tailMost
   pub stored-room : length (k .stands .stored) ≤ 64
   pub on-room : length (k .on) ≤ 64
-  pub site-room : length (k .site) ≤ 22175
+  pub site-room : length (k .site) ≤ siteMost
 
 -- its numbers have room in theirs, its lists are as long as its site says, and its state is what the site part leads to
 pub record Keepable (k : Kept) : Type 0 where
@@ -113,24 +114,24 @@ module _ (m : Mark) where
   abbrev warm : ℕ
   warm = ofZ w32 (m .sun .temperature)
 
-  site-read : m .site ≤ 22175 → be 2 (numbersOf m) 14 ≡ m .site
+  site-read : m .site ≤ siteMost → be 2 (numbersOf m) 14 ≡ m .site
   unfolding partsOf
   site-read h =
       parts-read 2 0
       ∙ read-first (bytesOf 2 (m .site)) (bytesOf 1 (m .tail)) (bytesOf 4 (m .sun .irradiance)) (bytesOf 4 warm) 2 1 4 (bytes-length 2 (m .site)) (bytes-length 1 (m .tail)) (bytes-length 4 (m .sun .irradiance))
       ∙ read-here 2 (m .site) (below h)
     where
-      below : m .site ≤ 22175 → m .site < 65536
+      below : m .site ≤ siteMost → m .site < 65536
       below h = omega arith
 
-  tail-read : m .tail ≤ 131 → be 1 (numbersOf m) 16 ≡ m .tail
+  tail-read : m .tail ≤ tailMost → be 1 (numbersOf m) 16 ≡ m .tail
   unfolding partsOf
   tail-read h =
       parts-read 1 2
       ∙ read-second (bytesOf 2 (m .site)) (bytesOf 1 (m .tail)) (bytesOf 4 (m .sun .irradiance)) (bytesOf 4 warm) 2 1 4 (bytes-length 2 (m .site)) (bytes-length 1 (m .tail)) (bytes-length 4 (m .sun .irradiance))
       ∙ read-here 1 (m .tail) (below h)
     where
-      below : m .tail ≤ 131 → m .tail < 256
+      below : m .tail ≤ tailMost → m .tail < 256
       below h = omega arith
 
   light-read : m .sun .irradiance < 2 ^ 32 → be 4 (numbersOf m) 17 ≡ m .sun .irradiance
@@ -171,9 +172,9 @@ module _ (k : Kept) where
   unfolding bytesFor topOf
   numbers-back n at h =
       let numbers = numbersOf (markOf k) in
-      let tail = filled 131 (k .tail) in
+      let tail = filled tailMost (k .tail) in
       let stands = standsOf stored rs (k .on) in
-      let site = filled 22175 (k .site) in
+      let site = filled siteMost (k .site) in
       ap (λ (s : List ℕ). be n s at) (first-of numbers tail stands site)
       ∙ read-left n numbers (tail ++ (stands ++ site)) at (le-trans h (le-of-eq (sym (numbers-length (markOf k)))))
 
@@ -181,9 +182,9 @@ module _ (k : Kept) where
   number-back = numbers-back 1 0 (omega arith) ∙ number-read (markOf k)
 
   module _ (r : Room k) where
-    pub top-length : length top ≡ 156
+    pub top-length : length top ≡ heldPlace
     unfolding topOf
-    top-length = both (numbersOf (markOf k)) (filled 131 (k .tail)) 25 131 (numbers-length (markOf k)) (filled-long 131 (k .tail) (r .tail-room))
+    top-length = both (numbersOf (markOf k)) (filled tailMost (k .tail)) 25 tailMost (numbers-length (markOf k)) (filled-long tailMost (k .tail) (r .tail-room))
 
     pub held-room : length held ≤ 768
     held-room = omega (arith, held-length (length stored) stored rs, r .stored-room)
@@ -195,12 +196,12 @@ module _ (k : Kept) where
     unfolding standsOf
     stands-length = both (filled 768 held) (filled 64 flags) 768 64 (filled-long 768 held held-room) (filled-long 64 flags flags-room)
 
-    pub before-site : length (top ++ standsOf stored rs (k .on)) ≡ 988
-    before-site = both top (standsOf stored rs (k .on)) 156 832 top-length stands-length
+    pub before-site : length (top ++ standsOf stored rs (k .on)) ≡ sitePlace
+    before-site = both top (standsOf stored rs (k .on)) heldPlace 832 top-length stands-length
 
     pub size : length (bytesFor k) ≡ stateSize
     unfolding bytesFor
-    size = both (top ++ standsOf stored rs (k .on)) (filled 22175 (k .site)) 988 22175 before-site (filled-long 22175 (k .site) (r .site-room))
+    size = both (top ++ standsOf stored rs (k .on)) (filled siteMost (k .site)) sitePlace siteMost before-site (filled-long siteMost (k .site) (r .site-room))
 
     pub site-bytes-back : siteBytes (bytesFor k) ≡ length (k .site)
     site-bytes-back = numbers-back 2 14 (omega arith) ∙ site-read (markOf k) (r .site-room)
@@ -212,14 +213,14 @@ module _ (k : Kept) where
     unfolding sitePart bytesFor filled
     site-back =
         ap (λ (n : ℕ). slice sitePlace (sitePlace + n) (bytesFor k)) site-bytes-back
-        ∙ slice-in (top ++ standsOf stored rs (k .on)) (k .site) (replicate (22175 - length (k .site)) 0) 988 (length (k .site)) before-site refl
+        ∙ slice-in (top ++ standsOf stored rs (k .on)) (k .site) (replicate (siteMost - length (k .site)) 0) sitePlace (length (k .site)) before-site refl
 
     pub tail-back : tailPart (bytesFor k) ≡ k .tail
     unfolding tailPart bytesFor topOf filled
     tail-back =
-        let zeros : List ℕ = replicate (131 - length (k .tail)) 0 in
+        let zeros : List ℕ = replicate (tailMost - length (k .tail)) 0 in
         let stands = standsOf stored rs (k .on) in
-        let site = filled 22175 (k .site) in
+        let site = filled siteMost (k .site) in
         ap (λ (n : ℕ). slice tailPlace (tailPlace + n) (bytesFor k)) tail-bytes-back
         ∙ ap (slice tailPlace (tailPlace + length (k .tail))) (second-of (numbersOf (markOf k)) (k .tail) zeros stands site)
         ∙ slice-in (numbersOf (markOf k)) (k .tail) (zeros ++ (stands ++ site)) 25 (length (k .tail)) (numbers-length (markOf k)) refl
@@ -229,19 +230,19 @@ module _ (k : Kept) where
     unfolding bytesFor standsOf filled
     held-back n at h =
         let zeros : List ℕ = replicate (768 - length held) 0 in
-        let rest = filled 64 flags ++ filled 22175 (k .site) in
-        ap (λ (s : List ℕ). be n s (heldPlace + at)) (third-of top held zeros (filled 64 flags) (filled 22175 (k .site)))
-        ∙ read-right n top (held ++ (zeros ++ rest)) 156 at top-length
+        let rest = filled 64 flags ++ filled siteMost (k .site) in
+        ap (λ (s : List ℕ). be n s (heldPlace + at)) (third-of top held zeros (filled 64 flags) (filled siteMost (k .site)))
+        ∙ read-right n top (held ++ (zeros ++ rest)) heldPlace at top-length
         ∙ read-left n held (zeros ++ rest) at h
 
     pub flags-back : (at : ℕ) → at < length flags → be 1 (bytesFor k) (flagPlace + at) ≡ be 1 flags at
     unfolding bytesFor standsOf filled
     flags-back at h =
         let zeros : List ℕ = replicate (64 - length flags) 0 in
-        let site = filled 22175 (k .site) in
-        let l : length (top ++ filled 768 held) ≡ 924 = both top (filled 768 held) 156 768 top-length (filled-long 768 held held-room) in
+        let site = filled siteMost (k .site) in
+        let l : length (top ++ filled 768 held) ≡ flagPlace = both top (filled 768 held) heldPlace 768 top-length (filled-long 768 held held-room) in
         ap (λ (s : List ℕ). be 1 s (flagPlace + at)) (fourth-of top (filled 768 held) flags zeros site)
-        ∙ read-right 1 (top ++ filled 768 held) (flags ++ (zeros ++ site)) 924 at l
+        ∙ read-right 1 (top ++ filled 768 held) (flags ++ (zeros ++ site)) flagPlace at l
         ∙ read-left 1 flags (zeros ++ site) at (omega arith)
 
   module _ (w : Keepable k) where
@@ -339,24 +340,24 @@ module _ (number place steps : ℕ) where
       let a = bytesOf 1 number in
       let b = a ++ bytesOf 8 place in
       let lb = longer a 1 8 place (bytes-length 1 number) in
-      both (b ++ bytesOf 4 steps) (replicate 23150 0) 13 23150 (longer b 9 4 steps lb) (length-replicate {A = ℕ} 23150 0)
+      both (b ++ bytesOf 4 steps) (replicate restSize 0) 13 restSize (longer b 9 4 steps lb) (length-replicate {A = ℕ} restSize 0)
 
   pub stopped-number : number < 256 → numberIn (stoppedBytes number place steps) ≡ number
   unfolding stoppedBytes
   stopped-number h =
-      read-first (bytesOf 1 number) (bytesOf 8 place) (bytesOf 4 steps) (replicate 23150 0) 1 8 4 (bytes-length 1 number) (bytes-length 8 place) (bytes-length 4 steps)
+      read-first (bytesOf 1 number) (bytesOf 8 place) (bytesOf 4 steps) (replicate restSize 0) 1 8 4 (bytes-length 1 number) (bytes-length 8 place) (bytes-length 4 steps)
       ∙ read-here 1 number h
 
   pub stopped-place : place < 2 ^ 64 → placeIn (stoppedBytes number place steps) ≡ place
   unfolding stoppedBytes
   stopped-place h =
-      read-second (bytesOf 1 number) (bytesOf 8 place) (bytesOf 4 steps) (replicate 23150 0) 1 8 4 (bytes-length 1 number) (bytes-length 8 place) (bytes-length 4 steps)
+      read-second (bytesOf 1 number) (bytesOf 8 place) (bytesOf 4 steps) (replicate restSize 0) 1 8 4 (bytes-length 1 number) (bytes-length 8 place) (bytes-length 4 steps)
       ∙ read-here 8 place h
 
   pub stopped-steps : steps < 2 ^ 32 → stepsKept (stoppedBytes number place steps) ≡ steps
   unfolding stoppedBytes
   stopped-steps h =
-      read-third (bytesOf 1 number) (bytesOf 8 place) (bytesOf 4 steps) (replicate 23150 0) 1 8 4 (bytes-length 1 number) (bytes-length 8 place) (bytes-length 4 steps)
+      read-third (bytesOf 1 number) (bytesOf 8 place) (bytesOf 4 steps) (replicate restSize 0) 1 8 4 (bytes-length 1 number) (bytes-length 8 place) (bytes-length 4 steps)
       ∙ read-here 4 steps h
 
 -- ---- a state of a run that goes on
@@ -396,12 +397,12 @@ module _ (s : List ℕ) (w : wellFormed s ≡ true) (n : numberIn s ≡ 0) where
       and-parts before (clear s (sitePlace + siteBytes s) stateSize) rest .1
 
   -- what lies behind the site part's place is the site part, and 0 behind it
-  pub site-kept : drop sitePlace s ≡ filled 22175 (sitePart s)
+  pub site-kept : drop sitePlace s ≡ filled siteMost (sitePart s)
   unfolding filled sitePart
   site-kept =
       let b = siteBytes s in
       let l : length (sitePart s) ≡ b = site-part-length s well-sized in
-      let few : b ≤ 22175 = well-sized .site-fits in
-      let e : stateSize - (sitePlace + b) ≡ 22175 - length (sitePart s) = omega arith in
+      let few : b ≤ siteMost = well-sized .site-fits in
+      let e : stateSize - (sitePlace + b) ≡ siteMost - length (sitePart s) = omega arith in
       sym (take-append-drop b (drop sitePlace s))
       ∙ ap₂ _++_ (take-drop b sitePlace s) (drop-drop b sitePlace s ∙ clear-zero s (sitePlace + b) stateSize long well-clear ∙ ap (λ (j : ℕ). replicate j 0) e)

@@ -16,7 +16,7 @@ use Rattle.fields.specs.declared.State.{State}
 use Rattle.fields.specs.Fields.{atEnd, atReading, headOf}
 use Rattle.stick.specs.declared.Reached.{Reached}
 use Rattle.kept.specs.Kept.{begunAt}
-use Rattle.kept.specs.Layout.{tailPlace, heldPlace, flagPlace, sitePlace, stateSize, numberIn, placeIn, stepsKept, siteBytes, tailBytes}
+use Rattle.kept.specs.Layout.{tailPlace, heldPlace, flagPlace, sitePlace, stateSize, placeMost, numberIn, placeIn, stepsKept, siteBytes, tailBytes}
 use Rattle.kept.specs.Formed.{clear, siteFits, beside, placeFits, sunFits, tailFits, unitFits, restClear, stopped}
 
 -- ---- a value chosen by a test
@@ -82,7 +82,7 @@ rest-is s units roofs n t a b d e p q f g h i = rw (f, g, h, i, p, q)
 
 -- ---- a run that is over
 abbrev over-by : ℕ → ℕ → ℕ → Bool → Bool
-over-by n place steps b = (between 1 9 n || eqb n 12) && leb steps 65535 && leb place (22187 + 46 * steps) && b
+over-by n place steps b = (between 1 9 n || eqb n 12) && leb steps 65535 && leb place (placeMost + 46 * steps) && b
 
 pub stopped-is : (s : List ℕ) (n place steps : ℕ) (b : Bool) → n ≡ numberIn s → place ≡ placeIn s → steps ≡ stepsKept s → b ≡ clear s 13 stateSize → over-by n place steps b ≡ stopped s
 unfolding stopped

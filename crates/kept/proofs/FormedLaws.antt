@@ -20,6 +20,7 @@ use Rattle.stick.specs.Site.{siteOf, roofsOf}
 use Rattle.chunks.proofs.ReachChunks.{far-all}
 use Rattle.fleet.specs.Step.{Standing, standing}
 use Rattle.kept.specs.Kept.{Kept, begunAt, begun, noStanding}
+use Rattle.kept.specs.Layout.{tailMost, siteMost}
 use Rattle.kept.specs.Layout.{stateSize, sitePlace, tailPlace, numberIn, placeIn, stepsKept, stageIn, siteBytes, tailBytes, sitePart, tailPart, sunKept, stateIn, knownBy, storeAt, requestAt, flagAt, upTo, unitsKept, roofsKept, keptIn}
 use Rattle.kept.specs.Formed.{siteFits, placeFits, sunFits, tailFits, heldFits, flagFits, listsFit, standsFit, markFits, restClear, going, stopped, wellFormed}
 use Rattle.kept.specs.Posts.{Sized, WellKept}
@@ -42,10 +43,10 @@ module _ (s : List ℕ) (formed : wellFormed s ≡ true) where
 
     -- the tests, in four groups
     abbrev a₁ : Bool
-    a₁ = leb (siteBytes s) 22175
+    a₁ = leb (siteBytes s) siteMost
 
     abbrev a₂ : Bool
-    a₂ = leb (tailBytes s) 131
+    a₂ = leb (tailBytes s) tailMost
 
     abbrev a₃ : Bool
     a₃ = leb (stepsKept s) 65535
@@ -79,11 +80,11 @@ module _ (s : List ℕ) (formed : wellFormed s ≡ true) where
         let a = and-parts (a₁ && a₂ && a₃) b₁ (b .0) in
         (a, (b .1, c .1))
 
-    numbers : ((siteBytes s ≤ 22175) × (tailBytes s ≤ 131)) × (stepsKept s ≤ 65535)
+    numbers : ((siteBytes s ≤ siteMost) × (tailBytes s ≤ tailMost)) × (stepsKept s ≤ 65535)
     numbers =
         let b = and-parts (a₁ && a₂) a₃ (groups .0 .0) in
         let a = and-parts a₁ a₂ (b .0) in
-        ((leb-true (siteBytes s) 22175 (a .0), leb-true (tailBytes s) 131 (a .1)), leb-true (stepsKept s) 65535 (b .1))
+        ((leb-true (siteBytes s) siteMost (a .0), leb-true (tailBytes s) tailMost (a .1)), leb-true (stepsKept s) 65535 (b .1))
 
     pub state-sized : Sized s
     state-sized = record { long = state-long; site-fits = numbers .0 .0; tail-fits = numbers .0 .1 }

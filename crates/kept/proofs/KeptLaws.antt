@@ -38,6 +38,7 @@ use Rattle.chunks.proofs.ReachChunks.{Went, there, passing, far-gone}
 use Rattle.chunks.proofs.HeadChunks.{accepted-field}
 use Rattle.fleet.specs.Step.{Standing}
 use Rattle.kept.specs.Kept.{Kept, begunAt, begun}
+use Rattle.kept.specs.Layout.{tailMost, siteMost, restSize, placeMost}
 use Rattle.kept.specs.Layout.{tailPlace, heldPlace, flagPlace, sitePlace, stateSize, filled, numbersOf, heldOf, flagsOf, topOf, standsOf, markOf, bytesFor, stoppedBytes, numberIn, placeIn}
 use Rattle.kept.specs.Layout.{stepsKept, stageIn, siteBytes, tailBytes, sitePart, tailPart, sunKept, knownBy, stateIn, storeAt, requestAt, flagAt, upTo, unitsKept, roofsKept, keptIn}
 use Rattle.kept.specs.Formed.{clear, siteFits, beside, placeFits, sunFits, tailFits, unitFits, heldFits, flagFits, listsFit, standsFit, restClear, markFits, wellFormed}
@@ -103,7 +104,7 @@ begun-small n = go (eqb n 0) (eqb n 4) (eqb n 8) refl refl refl
     go false false false ex ey ez c = absurd (passed-failed c refl)
 
 -- ---- a place and a sun that fit
-place-few : (place stage steps site tail : ℕ) → placeFits place stage steps site tail ≡ true → site ≤ 22175 → steps ≤ 65535 → tail ≤ 131 → place ≤ 4000000
+place-few : (place stage steps site tail : ℕ) → placeFits place stage steps site tail ≡ true → site ≤ siteMost → steps ≤ 65535 → tail ≤ tailMost → place ≤ 4000000
 unfolding placeFits beside
 place-few place stage steps site tail t a b d =
     let n = beside stage site tail in
@@ -277,7 +278,7 @@ module _ (k : Kept) (well : WellKept k) where
       let x = well .site-short in
       let y = well .tail-short in
       let z = well .few in
-      ap₂ _&&_ (ap₂ _&&_ (le-leb (siteBytes S) 22175 (omega arith)) (le-leb (tailBytes S) 131 (omega arith))) (le-leb (stepsKept S) 65535 (omega arith))
+      ap₂ _&&_ (ap₂ _&&_ (le-leb (siteBytes S) siteMost (omega arith)) (le-leb (tailBytes S) tailMost (omega arith))) (le-leb (stepsKept S) 65535 (omega arith))
 
   site-so : siteFits (reachOf (length (sitePart S)) start (sitePart S) 0) (stageIn S) (stepsKept S) ≡ true
   site-so =
@@ -354,9 +355,9 @@ module _ (k : Kept) (well : WellKept k) where
       let t = length (k .tail) in
       let few = well .tail-short in
       ap (λ (n : ℕ). clear S (tailPlace + n) heldPlace) (tail-bytes-back k kept-room)
-      ∙ clear-in (numbersOf (markOf k) ++ k .tail) (stands ++ filled 22175 (k .site)) (131 - t) (tailPlace + t) heldPlace
+      ∙ clear-in (numbersOf (markOf k) ++ k .tail) (stands ++ filled siteMost (k .site)) (tailMost - t) (tailPlace + t) heldPlace
       (both (numbersOf (markOf k)) (k .tail) 25 t (numbers-length (markOf k)) refl) (omega arith) S
-      (tail-grouped (numbersOf (markOf k)) (k .tail) (zeros (131 - t)) stands (filled 22175 (k .site)))
+      (tail-grouped (numbersOf (markOf k)) (k .tail) (zeros (tailMost - t)) stands (filled siteMost (k .site)))
 
   held-clear : clear S (heldPlace + 12 * unitsKept S) flagPlace ≡ true
   unfolding bytesFor standsOf filled
@@ -365,9 +366,9 @@ module _ (k : Kept) (well : WellKept k) where
       let l : length held ≡ 12 * n = held-length n stored rs in
       let few : n ≤ 64 = kept-room .stored-room in
       ap (λ (m : ℕ). clear S (heldPlace + 12 * m) flagPlace) units-are
-      ∙ clear-in (top ++ held) (filled 64 flags ++ filled 22175 (k .site)) (768 - length held) (heldPlace + 12 * n) flagPlace
-      (both top held 156 (12 * n) (top-length k kept-room) l) (omega arith) S
-      (held-grouped top held (zeros (768 - length held)) (filled 64 flags) (filled 22175 (k .site)))
+      ∙ clear-in (top ++ held) (filled 64 flags ++ filled siteMost (k .site)) (768 - length held) (heldPlace + 12 * n) flagPlace
+      (both top held heldPlace (12 * n) (top-length k kept-room) l) (omega arith) S
+      (held-grouped top held (zeros (768 - length held)) (filled 64 flags) (filled siteMost (k .site)))
 
   flags-clear : clear S (flagPlace + roofsKept S) sitePlace ≡ true
   unfolding bytesFor standsOf filled
@@ -375,11 +376,11 @@ module _ (k : Kept) (well : WellKept k) where
       let n = length (k .on) in
       let l : length flags ≡ n = flags-length n (k .on) in
       let few : n ≤ 64 = kept-room .on-room in
-      let before : length (top ++ filled 768 held) ≡ 924 = both top (filled 768 held) 156 768 (top-length k kept-room) (filled-long 768 held (held-room k kept-room)) in
+      let before : length (top ++ filled 768 held) ≡ flagPlace = both top (filled 768 held) heldPlace 768 (top-length k kept-room) (filled-long 768 held (held-room k kept-room)) in
       ap (λ (m : ℕ). clear S (flagPlace + m) sitePlace) roofs-are
-      ∙ clear-in (top ++ filled 768 held ++ flags) (filled 22175 (k .site)) (64 - length flags) (flagPlace + n) sitePlace
-      (both (top ++ filled 768 held) flags 924 n before l) (omega arith) S
-      (flags-grouped top (filled 768 held) flags (zeros (64 - length flags)) (filled 22175 (k .site)))
+      ∙ clear-in (top ++ filled 768 held ++ flags) (filled siteMost (k .site)) (64 - length flags) (flagPlace + n) sitePlace
+      (both (top ++ filled 768 held) flags flagPlace n before l) (omega arith) S
+      (flags-grouped top (filled 768 held) flags (zeros (64 - length flags)) (filled siteMost (k .site)))
 
   site-clear : clear S (sitePlace + siteBytes S) stateSize ≡ true
   unfolding bytesFor filled
@@ -387,9 +388,9 @@ module _ (k : Kept) (well : WellKept k) where
       let n = length (k .site) in
       let few = well .site-short in
       ap (λ (m : ℕ). clear S (sitePlace + m) stateSize) (site-bytes-back k kept-room)
-      ∙ clear-in (top ++ stands ++ k .site) [] (22175 - n) (sitePlace + n) stateSize
-      (both (top ++ stands) (k .site) 988 n (before-site k kept-room) refl) (omega arith) S
-      (site-grouped (top ++ stands) (k .site) (zeros (22175 - n)))
+      ∙ clear-in (top ++ stands ++ k .site) [] (siteMost - n) (sitePlace + n) stateSize
+      (both (top ++ stands) (k .site) sitePlace n (before-site k kept-room) refl) (omega arith) S
+      (site-grouped (top ++ stands) (k .site) (zeros (siteMost - n)))
 
   rest-so : restClear S (unitsKept S) (roofsKept S) ≡ true
   unfolding restClear
@@ -411,8 +412,8 @@ module _ (number place steps : ℕ) where
       let b = a ++ bytesOf 8 place in
       let lb = longer a 1 8 place (bytes-length 1 number) in
       let d = b ++ bytesOf 4 steps in
-      clear-in d [] 23150 13 stateSize (longer b 9 4 steps lb) (omega arith) (stoppedBytes number place steps)
-      (ap (λ (l : List ℕ). d ++ l) (sym (append-nil (replicate 23150 0))))
+      clear-in d [] restSize 13 stateSize (longer b 9 4 steps lb) (omega arith) (stoppedBytes number place steps)
+      (ap (λ (l : List ℕ). d ++ l) (sym (append-nil (replicate restSize 0))))
 
   -- it keeps no tail
   pub stopped-tail : tailPart (stoppedBytes number place steps) ≡ []
@@ -423,7 +424,7 @@ module _ (number place steps : ℕ) where
       be-one s 16 ∙ eqb-true (getD s 16 0) 0 (all-at (stateSize - 13) (λ (i : ℕ). eqb (getD s (13 + i) 0) 0) stopped-clear 3 (lit< tt)) in
       ap (λ (n : ℕ). slice tailPlace (tailPlace + n) s) none ∙ slice-empty tailPlace s
 
-  module _ (r : Refusal number) (few : steps ≤ 65535) (near : place ≤ 22187 + 46 * steps) where
+  module _ (r : Refusal number) (few : steps ≤ 65535) (near : place ≤ placeMost + 46 * steps) where
     number-few : number < 256
     number-few = go r
       where
@@ -467,5 +468,5 @@ module _ (number place steps : ℕ) where
         let n = stopped-number-back in
         sym
         (well-stopped s true (stopped-size number place steps) (λ z. refusal-some (sym n ∙ z))
-        (sym (ap₂ _&&_ (ap₂ _&&_ (ap₂ _&&_ number-so (le-leb steps 65535 few)) (le-leb place (22187 + 46 * steps) near)) refl)
+        (sym (ap₂ _&&_ (ap₂ _&&_ (ap₂ _&&_ number-so (le-leb steps 65535 few)) (le-leb place (placeMost + 46 * steps) near)) refl)
         ∙ stopped-is s number place steps true (sym n) (sym stopped-place-back) (sym stopped-steps-back) (sym stopped-clear)))

@@ -23,7 +23,7 @@ use Rattle.stick.proofs.ReachLaws.{walk-reach}
 use Rattle.stick.proofs.SiteProved.{sited, roofed}
 use Rattle.kept.specs.Kept.{begunAt}
 use Rattle.kept.specs.declared.Mark.{Mark}
-use Rattle.kept.specs.Layout.{tailPlace, sitePlace, stateSize, stageIn, siteBytes, tailBytes, sitePart, tailPart, stateIn, markIn, storeAt, requestAt, upTo, unitsKept, roofsKept}
+use Rattle.kept.specs.Layout.{tailPlace, sitePlace, stateSize, siteMost, stageIn, siteBytes, tailBytes, sitePart, tailPart, stateIn, markIn, storeAt, requestAt, upTo, unitsKept, roofsKept}
 use Rattle.kept.specs.Formed.{siteFits, placeFits, sunFits, tailFits, heldFits, flagFits, listsFit, standsFit, restClear, markFits}
 use Rattle.kept.specs.Posts.{Sized}
 use Rattle.kept.proofs.NumberLaws.{part-is}
@@ -37,7 +37,7 @@ pub site-part-length : (s : List ℕ) → Sized s → length (sitePart s) ≡ si
 unfolding sitePart
 site-part-length s z =
     let long : length s ≡ stateSize = z .long in
-    let few : siteBytes s ≤ 22175 = z .site-fits in
+    let few : siteBytes s ≤ siteMost = z .site-fits in
     let l : length (slice sitePlace (sitePlace + siteBytes s) s) ≡ sitePlace + siteBytes s - sitePlace = length-slice sitePlace (sitePlace + siteBytes s) s (omega arith) in
     l ∙ omega arith
 
@@ -51,7 +51,7 @@ closed-zero r stage steps e b =
     let over : eqb (r .state .stage) atEnd ≡ true = sym (ap (λ (c : Bool). cond c (eqb (r .state .stage) atEnd) there) b) ∙ both .1 in
     rw (none, over)
 
-pub part-accepted : (p : List ℕ) (stage steps : ℕ) → length p ≤ 22175 → siteFits (reachOf (length p) start p 0) stage steps ≡ true → begunAt stage ≡ true → Accepted p
+pub part-accepted : (p : List ℕ) (stage steps : ℕ) → length p ≤ siteMost → siteFits (reachOf (length p) start p 0) stage steps ≡ true → begunAt stage ≡ true → Accepted p
 unfolding checkOf
 part-accepted p stage steps few e b =
     let walked = walk (length p) start p 0 in

@@ -17,6 +17,7 @@ use Rattle.fields.specs.Fields.{goneTo}
 use Rattle.stick.specs.declared.Reached.{Reached}
 use Rattle.stick.specs.Check.{reachOf, start}
 use Rattle.kept.specs.declared.Mark.{Mark}
+use Rattle.kept.specs.Layout.{tailMost}
 use Rattle.kept.specs.Layout.{placeIn, stepsKept, stageIn, siteBytes, tailBytes, sitePart, sunKept, knownBy, stateIn, markIn, tailPlace, heldPlace, stateSize, filled, progressOf, partsOf, numbersOf, topOf}
 use Rattle.kept.proofs.PieceLaws.{laid-filled}
 
@@ -66,12 +67,12 @@ pub numbers-length : (m : Mark) → length (numbersOf m) ≡ 25
 unfolding numbersOf
 numbers-length m = both (progressOf m) (partsOf m) 14 11 (progress-length m) (parts-length m)
 
-pub top-laid : (s : List ℕ) (m : Mark) (tail : List ℕ) → length s ≡ stateSize → length tail ≡ m .tail → m .tail ≤ 131 → (t u v : List ℕ)
+pub top-laid : (s : List ℕ) (m : Mark) (tail : List ℕ) → length s ≡ stateSize → length tail ≡ m .tail → m .tail ≤ tailMost → (t u v : List ℕ)
     → t ≡ laid s 0 (numbersOf m) → u ≡ laid t tailPlace tail → v ≡ laid u (tailPlace + m .tail) (replicate (heldPlace - (tailPlace + m .tail)) 0)
     → v ≡ laid s 0 (topOf m tail)
 unfolding topOf
 top-laid s m tail long l few t u v a b d =
     let n : length (numbersOf m) ≡ 25 = numbers-length m in
     let o : length t ≡ length s = ap length a ∙ laid-length s 0 (numbersOf m) (omega arith) in
-    let second : v ≡ laid t tailPlace (filled 131 tail) = laid-filled t tailPlace (omega arith) 131 (m .tail) (heldPlace - (tailPlace + m .tail)) tail l (omega arith) u v b d in
-    behind s 0 (omega arith) (numbersOf m) (filled 131 tail) 25 n t v a second
+    let second : v ≡ laid t tailPlace (filled tailMost tail) = laid-filled t tailPlace (omega arith) tailMost (m .tail) (heldPlace - (tailPlace + m .tail)) tail l (omega arith) u v b d in
+    behind s 0 (omega arith) (numbersOf m) (filled tailMost tail) 25 n t v a second

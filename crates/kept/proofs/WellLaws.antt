@@ -9,7 +9,7 @@ use borrow.Author.Tests.{ltb-true, ltb-false, leb-true, lt-leb, le-leb, eq-eqb, 
 use Rattle.whole.proofs.OverLaws.{and-parts}
 use Rattle.stick.specs.declared.Reached.{Reached}
 use Rattle.stick.specs.Check.{reachOf, start}
-use Rattle.kept.specs.Layout.{stateSize, numberIn, stepsKept, stageIn, siteBytes, tailBytes, sitePart, unitsKept, roofsKept}
+use Rattle.kept.specs.Layout.{stateSize, tailMost, siteMost, numberIn, stepsKept, stageIn, siteBytes, tailBytes, sitePart, unitsKept, roofsKept}
 use Rattle.kept.specs.Formed.{siteFits, standsFit, restClear, markFits, going, stopped, wellFormed}
 use Rattle.kept.specs.Posts.{Sized}
 
@@ -25,20 +25,20 @@ none-above false false r = refl
 
 -- parts no longer than their places, and no more steps than a run can have
 abbrev pub small : List ℕ → Bool
-small s = leb (siteBytes s) 22175 && leb (tailBytes s) 131 && leb (stepsKept s) 65535
+small s = leb (siteBytes s) siteMost && leb (tailBytes s) tailMost && leb (stepsKept s) 65535
 
 module _ (s : List ℕ) (n t k : ℕ) (e : n ≡ siteBytes s) (f : t ≡ tailBytes s) (g : k ≡ stepsKept s) where
-  small-is : small s ≡ not (ltb 22175 n || ltb 131 t || ltb 65535 k)
+  small-is : small s ≡ not (ltb siteMost n || ltb tailMost t || ltb 65535 k)
   small-is =
-      ap (λ (x : ℕ). leb x 22175 && leb (tailBytes s) 131 && leb (stepsKept s) 65535) (sym e)
-      ∙ ap (λ (x : ℕ). leb n 22175 && leb x 131 && leb (stepsKept s) 65535) (sym f)
-      ∙ ap (λ (x : ℕ). leb n 22175 && leb t 131 && leb x 65535) (sym g)
-      ∙ ap (λ (b : Bool). b && leb t 131 && leb k 65535) (not-above n 22175 (ltb 22175 n) refl)
-      ∙ ap (λ (b : Bool). not (ltb 22175 n) && b && leb k 65535) (not-above t 131 (ltb 131 t) refl)
-      ∙ ap (λ (b : Bool). not (ltb 22175 n) && not (ltb 131 t) && b) (not-above k 65535 (ltb 65535 k) refl)
-      ∙ none-above (ltb 22175 n) (ltb 131 t) (ltb 65535 k)
+      ap (λ (x : ℕ). leb x siteMost && leb (tailBytes s) tailMost && leb (stepsKept s) 65535) (sym e)
+      ∙ ap (λ (x : ℕ). leb n siteMost && leb x tailMost && leb (stepsKept s) 65535) (sym f)
+      ∙ ap (λ (x : ℕ). leb n siteMost && leb t tailMost && leb x 65535) (sym g)
+      ∙ ap (λ (b : Bool). b && leb t tailMost && leb k 65535) (not-above n siteMost (ltb siteMost n) refl)
+      ∙ ap (λ (b : Bool). not (ltb siteMost n) && b && leb k 65535) (not-above t tailMost (ltb tailMost t) refl)
+      ∙ ap (λ (b : Bool). not (ltb siteMost n) && not (ltb tailMost t) && b) (not-above k 65535 (ltb 65535 k) refl)
+      ∙ none-above (ltb siteMost n) (ltb tailMost t) (ltb 65535 k)
 
-  pub going-large : (ltb 22175 n || ltb 131 t || ltb 65535 k) ≡ true → false ≡ going s
+  pub going-large : (ltb siteMost n || ltb tailMost t || ltb 65535 k) ≡ true → false ≡ going s
   unfolding going
   going-large h =
       sym
@@ -47,14 +47,14 @@ module _ (s : List ℕ) (n t k : ℕ) (e : n ≡ siteBytes s) (f : t ≡ tailByt
       b && siteFits (reachOf (length (sitePart s)) start (sitePart s) 0) (stageIn s) (stepsKept s) && markFits s && (standsFit s && restClear s (unitsKept s) (roofsKept s)))
       (small-is ∙ ap not h))
 
-  pub is-small : (ltb 22175 n || ltb 131 t || ltb 65535 k) ≡ false → small s ≡ true
+  pub is-small : (ltb siteMost n || ltb tailMost t || ltb 65535 k) ≡ false → small s ≡ true
   is-small h = small-is ∙ ap not h
 
 pub sized-by : (s : List ℕ) → length s ≡ stateSize → small s ≡ true → Sized s
 sized-by s l h =
-    let both = and-parts (leb (siteBytes s) 22175 && leb (tailBytes s) 131) (leb (stepsKept s) 65535) h .0 in
-    let parts = and-parts (leb (siteBytes s) 22175) (leb (tailBytes s) 131) both in
-    record { long = l; site-fits = leb-true (siteBytes s) 22175 (parts .0); tail-fits = leb-true (tailBytes s) 131 (parts .1) }
+    let both = and-parts (leb (siteBytes s) siteMost && leb (tailBytes s) tailMost) (leb (stepsKept s) 65535) h .0 in
+    let parts = and-parts (leb (siteBytes s) siteMost) (leb (tailBytes s) tailMost) both in
+    record { long = l; site-fits = leb-true (siteBytes s) siteMost (parts .0); tail-fits = leb-true (tailBytes s) tailMost (parts .1) }
 
 -- the site part by what was read
 pub fits-as-read : (s : List ℕ) (r : Reached) (stage steps : ℕ) (b : Bool) → r ≡ reachOf (length (sitePart s)) start (sitePart s) 0

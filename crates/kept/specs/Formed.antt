@@ -17,6 +17,7 @@ use Rattle.stick.specs.declared.Reached.{Reached}
 use Rattle.stick.specs.Check.{reachOf, start}
 use Rattle.stick.specs.Site.{siteOf}
 use Rattle.kept.specs.Kept.{begunAt}
+use Rattle.kept.specs.Layout.{tailMost, siteMost, placeMost}
 use Rattle.kept.specs.Layout.{tailPlace, heldPlace, flagPlace, sitePlace, stateSize, numberIn, placeIn, stepsKept, stageIn, siteBytes, tailBytes, sitePart, tailPart, sunKept, stateIn, storeAt, requestAt, unitsKept, roofsKept, upTo}
 
 -- the bytes from one place up to another are 0
@@ -90,7 +91,7 @@ markFits s =
 unfoldable pub going : List ℕ → Bool
 unfolding siteFits markFits standsFit restClear unitsKept roofsKept sitePart reachOf be
 going s =
-    (leb (siteBytes s) 22175 && leb (tailBytes s) 131 && leb (stepsKept s) 65535)
+    (leb (siteBytes s) siteMost && leb (tailBytes s) tailMost && leb (stepsKept s) 65535)
     && siteFits (reachOf (length (sitePart s)) start (sitePart s) 0) (stageIn s) (stepsKept s)
     && markFits s
     && (standsFit s && restClear s (unitsKept s) (roofsKept s))
@@ -101,7 +102,7 @@ unfolding clear be
 stopped s =
     (between 1 9 (numberIn s) || eqb (numberIn s) 12)
     && leb (stepsKept s) 65535
-    && leb (placeIn s) (22187 + 46 * stepsKept s)
+    && leb (placeIn s) (placeMost + 46 * stepsKept s)
     && clear s 13 stateSize
 
 unfoldable pub wellFormed : List ℕ → Bool

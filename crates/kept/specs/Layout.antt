@@ -19,7 +19,7 @@ use Rattle.fleet.specs.Step.{standing}
 use Rattle.kept.specs.declared.Mark.{Mark}
 use Rattle.kept.specs.Kept.{Kept, begun}
 
--- ---- where the parts begin, and all bytes
+-- ---- where the parts begin, and all bytes; how long the tail and the site part are at most
 abbrev pub tailPlace : ℕ
 tailPlace = 25
 
@@ -34,6 +34,19 @@ sitePlace = 988
 
 abbrev pub stateSize : ℕ
 stateSize = 23163
+
+abbrev pub tailMost : ℕ
+tailMost = 131
+
+abbrev pub siteMost : ℕ
+siteMost = 22175
+
+-- behind the 13 bytes of a run that was refused, or is over; and how far such a run has come at most, beside its steps
+abbrev pub restSize : ℕ
+restSize = 23150
+
+abbrev pub placeMost : ℕ
+placeMost = 22187
 
 -- ---- the bytes of what is kept
 
@@ -69,7 +82,7 @@ flagsOf (suc n) on = flagsOf n on ++ bytesOf 1 (cond (getD on n false) 1 0)
 -- the numbers and the tail; then what stands; then the site part
 unfoldable pub topOf : Mark → List ℕ → List ℕ
 unfolding numbersOf filled
-topOf m tail = numbersOf m ++ filled 131 tail
+topOf m tail = numbersOf m ++ filled tailMost tail
 
 unfoldable pub standsOf : List ℕ → List ℤ → List Bool → List ℕ
 unfolding filled heldOf flagsOf
@@ -80,12 +93,12 @@ markOf k = record { place = k .place; state = k .state; site = length (k .site);
 
 unfoldable pub bytesFor : Kept → List ℕ
 unfolding topOf standsOf filled
-bytesFor k = topOf (markOf k) (k .tail) ++ standsOf (k .stands .stored) (k .stands .requests) (k .on) ++ filled 22175 (k .site)
+bytesFor k = topOf (markOf k) (k .tail) ++ standsOf (k .stands .stored) (k .stands .requests) (k .on) ++ filled siteMost (k .site)
 
 -- a run that was refused, or is over
 unfoldable pub stoppedBytes : ℕ → ℕ → ℕ → List ℕ
 unfolding bytesOf
-stoppedBytes number place steps = bytesOf 1 number ++ bytesOf 8 place ++ bytesOf 4 steps ++ replicate 23150 0
+stoppedBytes number place steps = bytesOf 1 number ++ bytesOf 8 place ++ bytesOf 4 steps ++ replicate restSize 0
 
 -- ---- what is kept in bytes
 abbrev pub numberIn : List ℕ → ℕ

@@ -9,14 +9,14 @@ use Rattle.fields.specs.Fields.{goneTo}
 use Rattle.stick.specs.Check.{reached, reachOf, start}
 use Rattle.stick.specs.Site.{siteOf, roofsOf}
 use Rattle.kept.specs.Kept.{Kept, begun, noStanding}
-use Rattle.kept.specs.Layout.{stateSize, siteBytes, tailBytes, knownBy}
+use Rattle.kept.specs.Layout.{stateSize, tailMost, siteMost, siteBytes, tailBytes, knownBy}
 use Rattle.kept.specs.Formed.{placeFits, sunFits, tailFits, heldFits}
 
 -- as long as a state, with parts no longer than their places
 pub record Sized (s : List ℕ) : Type 0 where
   pub long : length s ≡ stateSize
-  pub site-fits : siteBytes s ≤ 22175
-  pub tail-fits : tailBytes s ≤ 131
+  pub site-fits : siteBytes s ≤ siteMost
+  pub tail-fits : tailBytes s ≤ tailMost
 
 -- what is kept in a state that is well formed
 pub record WellKept (k : Kept) : Type 0 where
@@ -26,13 +26,13 @@ pub record WellKept (k : Kept) : Type 0 where
   pub state-is : goneTo (knownBy (k .site)) (k .state .stage) (knownBy (k .site) .left) (k .state .steps) ≡ k .state
   pub closed : begun (k .state) ≡ true → knownBy (k .site) .stage ≡ 0
   pub waiting : begun (k .state) ≡ false → (knownBy (k .site) .stage ≡ k .state .stage) × (k .state .steps ≡ 0)
-  pub site-short : length (k .site) ≤ 22175
+  pub site-short : length (k .site) ≤ siteMost
   pub few : k .state .steps ≤ 65535
   -- place, sun and tail
   pub placed : placeFits (k .place) (k .state .stage) (k .state .steps) (length (k .site)) (length (k .tail)) ≡ true
   pub sunny : sunFits (k .state .stage) (k .sun) ≡ true
   pub tailed : tailFits (k .state) (k .tail) ≡ true
-  pub tail-short : length (k .tail) ≤ 131
+  pub tail-short : length (k .tail) ≤ tailMost
   -- what stands
   pub stores : begun (k .state) ≡ true → length (k .stands .stored) ≡ count (siteOf (k .site))
   pub asks : length (k .stands .requests) ≡ length (k .stands .stored)

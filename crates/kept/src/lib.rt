@@ -30,6 +30,13 @@ pub const FLAGS: usize = 924;
 
 pub const SITE: usize = 988;
 
+// The bytes of a tail and of a site part at most, and how far a run has come at most beside its steps.
+const TAIL_MOST: u8 = 131;
+
+const SITE_MOST: u16 = 22175;
+
+const PLACE_MOST: u64 = 22187;
+
 // What is kept beside lists: the place, the state between fields, the bytes of the site part and of
 // the tail, and the sun of the step under way.
 pub struct Mark {

@@ -4,7 +4,7 @@ ghost use lib.ListN.{length};
 ghost use lib.Seq.{slice};
 ghost use Rattle.octets.specs.BigEndian.{laid};
 ghost use Rattle.stick.specs.Check.{reachOf, start};
-ghost use Rattle.kept.specs.Layout.{stateSize, sitePart, markIn, progressOf, partsOf, numbersOf, topOf, stoppedBytes};
+ghost use Rattle.kept.specs.Layout.{stateSize, tailMost, siteMost, sitePart, markIn, progressOf, partsOf, numbersOf, topOf, stoppedBytes};
 ghost use Rattle.kept.specs.Posts.{Sized};
 use super::HELD;
 use super::Mark;
@@ -71,8 +71,8 @@ fn put_progress(s: &mut [u8], m: Mark)
 // Lays how long its site part and its tail are, and its sun.
 fn put_parts(s: &mut [u8], m: Mark)
     requires { ⌜ length (now s) ≡ stateSize ⌝ }
-    requires { ⌜ m .site ≤ 22175 ⌝ }
-    requires { ⌜ m .tail ≤ 131 ⌝ }
+    requires { ⌜ m .site ≤ siteMost ⌝ }
+    requires { ⌜ m .tail ≤ tailMost ⌝ }
     ensures { λ _. ⌜ now (s .exit) ≡ laid (now (s .entry)) 14 (partsOf m) ⌝ }
 {
     octets::put_u16(s, 14, m.site as u16);
@@ -84,8 +84,8 @@ fn put_parts(s: &mut [u8], m: Mark)
 // Lays the numbers of a run that goes on.
 fn put_numbers(s: &mut [u8], m: Mark)
     requires { ⌜ length (now s) ≡ stateSize ⌝ }
-    requires { ⌜ m .site ≤ 22175 ⌝ }
-    requires { ⌜ m .tail ≤ 131 ⌝ }
+    requires { ⌜ m .site ≤ siteMost ⌝ }
+    requires { ⌜ m .tail ≤ tailMost ⌝ }
     ensures { λ _. ⌜ now (s .exit) ≡ laid (now (s .entry)) 0 (numbersOf m) ⌝ }
 {
     put_progress(s, m);
@@ -95,8 +95,8 @@ fn put_numbers(s: &mut [u8], m: Mark)
 // Lays the numbers and a tail.
 pub fn put_top(s: &mut [u8], m: Mark, bytes: &[u8], from: usize, to: usize)
     requires { ⌜ length (now s) ≡ stateSize ⌝ }
-    requires { ⌜ m .site ≤ 22175 ⌝ }
-    requires { ⌜ m .tail ≤ 131 ⌝ }
+    requires { ⌜ m .site ≤ siteMost ⌝ }
+    requires { ⌜ m .tail ≤ tailMost ⌝ }
     requires { ⌜ from + m .tail ≡ to ⌝ }
     requires { ⌜ to ≤ length (now bytes) ⌝ }
     ensures { λ _. ⌜ now (s .exit) ≡ laid (now (s .entry)) 0 (topOf m (slice from to (now (bytes .entry)))) ⌝ }

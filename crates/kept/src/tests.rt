@@ -8,15 +8,18 @@ ghost use Rattle.stick.specs.Check.{reachOf, start};
 ghost use Rattle.stick.specs.Site.{siteOf, roofsOf};
 ghost use Rattle.stick.specs.Posts.{Accepted};
 ghost use Rattle.kept.specs.Kept.{begunAt};
-ghost use Rattle.kept.specs.Layout.{stateSize, stepsKept, stageIn, siteBytes, sitePart, markIn, unitsKept, roofsKept};
+ghost use Rattle.kept.specs.Layout.{stateSize, tailMost, siteMost, stepsKept, stageIn, siteBytes, sitePart, markIn, unitsKept, roofsKept};
 ghost use Rattle.kept.specs.Formed.{siteFits, placeFits, sunFits, tailFits, unitFits, heldFits, flagFits, listsFit, standsFit, restClear, markFits, going, stopped, wellFormed};
 ghost use Rattle.kept.specs.Posts.{Sized};
 use super::FLAGS;
 use super::HELD;
 use super::Mark;
+use super::PLACE_MOST;
 use super::SITE;
+use super::SITE_MOST;
 use super::SIZE;
 use super::TAIL;
+use super::TAIL_MOST;
 use super::numbers;
 use super::pieces;
 use super::stands;
@@ -49,8 +52,8 @@ fn site_fits(r: Reached, stage: u8, steps: u32) -> bool
 
 // The place is one that such a site, so many steps and such a tail lead to.
 fn place_fits(place: u64, stage: u8, steps: u32, site: usize, tail: usize) -> bool
-    requires { ⌜ site ≤ 22175 ⌝ }
-    requires { ⌜ tail ≤ 131 ⌝ }
+    requires { ⌜ site ≤ siteMost ⌝ }
+    requires { ⌜ tail ≤ tailMost ⌝ }
     ensures { λ r. ⌜ r ≡ placeFits place stage steps site tail ⌝ }
 {
     let close = if begun_at(stage) { 7 } else { 0 };
@@ -210,7 +213,7 @@ fn goes_on(s: &[u8]) -> bool
 {
     let steps = octets::u32_at(s, 9);
     let stage = octets::u8_at(s, 13);
-    if (22175 < octets::u16_at(s, 14)) | (131 < octets::u8_at(s, 16)) | (65535 < steps) {
+    if (SITE_MOST < octets::u16_at(s, 14)) | (TAIL_MOST < octets::u8_at(s, 16)) | (65535 < steps) {
         return false;
     }
     if !site_fits(numbers::known(s), stage, steps) {
@@ -228,7 +231,7 @@ fn stopped_there(s: &[u8]) -> bool
     let steps = octets::u32_at(s, 9);
     (((1 <= n) & (n <= 9)) | (n == 12))
         & (steps <= 65535)
-        & (octets::u64_at(s, 1) <= 22187 + 46 * (steps as u64))
+        & (octets::u64_at(s, 1) <= PLACE_MOST + 46 * (steps as u64))
         & pieces::is_clear(s, 13, SIZE)
 }
 

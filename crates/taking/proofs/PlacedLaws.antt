@@ -13,6 +13,7 @@ use Rattle.whole.proofs.Choice.{by-test, passed-failed}
 use Rattle.whole.proofs.OverLaws.{and-parts}
 use Rattle.fields.specs.declared.State.{State}
 use Rattle.kept.specs.Kept.{Kept, begunAt, begun}
+use Rattle.kept.specs.Layout.{placeMost}
 use Rattle.kept.specs.Formed.{beside, placeFits}
 use Rattle.kept.specs.Posts.{WellKept}
 use Rattle.taking.specs.Chunk.{closing, headIn, siteAfter}
@@ -129,10 +130,10 @@ module _ (k : Kept) (well : WellKept k) where
       let lo = p .0 in
       omega arith
 
-  pub place-most : k .place ≤ 22187 + length (k .tail) + 46 * k .state .steps
+  pub place-most : k .place ≤ placeMost + length (k .tail) + 46 * k .state .steps
   place-most = go (begun (k .state)) refl
     where
-      go : (b : Bool) → begun (k .state) ≡ b → k .place ≤ 22187 + length (k .tail) + 46 * k .state .steps
+      go : (b : Bool) → begun (k .state) ≡ b → k .place ≤ placeMost + length (k .tail) + 46 * k .state .steps
       go true e =
           let p = place-parts (k .place) (k .state .stage) (k .state .steps) (length (k .site)) (length (k .tail)) true e (well .placed) in
           let hi = p .1 in

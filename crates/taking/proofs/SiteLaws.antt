@@ -13,9 +13,10 @@ use Rattle.fields.specs.declared.State.{State}
 use Rattle.fields.specs.Fields.{atEnd, atInverters, kinds, sizeIn, sizeOf, headOf, standsIn, allowed, valueOf, refusedBy, stateOf, goneTo, roofAfter, stateAfter, takenBy}
 use Rattle.stick.specs.declared.Reached.{Reached}
 use Rattle.stick.specs.Check.{fieldAt, reached, reachOf, start}
+use Rattle.chunks.specs.Sizes.{headMost}
 use Rattle.chunks.proofs.HeadChunks.{head-short}
 use Rattle.kept.specs.Kept.{Kept, begunAt, begun}
-use Rattle.kept.specs.Layout.{knownBy}
+use Rattle.kept.specs.Layout.{siteMost, knownBy}
 use Rattle.kept.specs.Posts.{WellKept}
 use Rattle.taking.specs.Chunk.{closing, headIn, siteAfter}
 use Rattle.taking.specs.Posts.{Leads}
@@ -31,11 +32,11 @@ pub record SiteWell (site : List ℕ) (st : State) : Type 0 where
   pub state-is : goneTo (knownBy site) (st .stage) (knownBy site .left) (st .steps) ≡ st
   pub closed : begun st ≡ true → knownBy site .stage ≡ 0
   pub waiting : begun st ≡ false → (knownBy site .stage ≡ st .stage) × (st .steps ≡ 0)
-  pub site-short : length site ≤ 22175
+  pub site-short : length site ≤ siteMost
 
 -- by the state to which its fields lead
 site-made : (site : List ℕ) (s st : State) → Leads start site s → s .steps ≡ 0 → goneTo s (st .stage) (s .left) (st .steps) ≡ st
-    → (begun st ≡ true → s .stage ≡ 0) → (begun st ≡ false → (s .stage ≡ st .stage) × (st .steps ≡ 0)) → length site ≤ 22175 → SiteWell site st
+    → (begun st ≡ true → s .stage ≡ 0) → (begun st ≡ false → (s .stage ≡ st .stage) × (st .steps ≡ 0)) → length site ≤ siteMost → SiteWell site st
 unfolding knownBy
 site-made site s st l z is c w short =
     let e : s ≡ knownBy site = sym (ap (λ (r : Reached). r .state) (l .leads)) in
@@ -108,7 +109,7 @@ module _ (k : Kept) (well : WellKept k) where
       none-yet : mid .steps ≡ 0
       none-yet = parts w l .none ∙ well .waiting b .1
 
-      pub grown-short : length grown ≤ 22168
+      pub grown-short : length grown ≤ headMost
       grown-short = head-short grown (ap (λ (r : Reached). r .number) (grown-leads .leads)) (all-head grown grown-leads refl grown-before)
 
       not-begun : begun next ≡ false → SiteWell (grown ++ []) next

@@ -26,7 +26,7 @@ use Rattle.stretch.specs.Stretch.{standsAfter, onsAfter}
 use Rattle.stretch.proofs.AppendLaws.{ons-length}
 use Rattle.chunks.proofs.ReachChunks.{far-all, CutField, far-cut}
 use Rattle.kept.specs.Kept.{Kept, begun, noStanding, atStart}
-use Rattle.kept.specs.Layout.{knownBy}
+use Rattle.kept.specs.Layout.{tailMost, placeMost, knownBy}
 use Rattle.kept.specs.Formed.{beside, placeFits, sunFits, tailFits, heldFits}
 use Rattle.kept.specs.Posts.{WellKept}
 use Rattle.taking.specs.Chunk.{goneBy, siteAfter, standsFirst, onFirst, stepsBy, absorbed, withTail, fedBy}
@@ -148,7 +148,7 @@ module _ (k : Kept) (well : WellKept k) (w : List ℕ) (next : State) (l : Leads
       }
 
 -- ---- with a tail
-pub tail-well : (k : Kept) → WellKept k → k .tail ≡ [] → (t : List ℕ) → tailFits (k .state) t ≡ true → length t ≤ 131 → WellKept (withTail k t)
+pub tail-well : (k : Kept) → WellKept k → k .tail ≡ [] → (t : List ℕ) → tailFits (k .state) t ≡ true → length t ≤ tailMost → WellKept (withTail k t)
 tail-well k well none t fits short =
     let z : length (k .tail) ≡ 0 = ap length none in
     let b = begun (k .state) in
@@ -191,7 +191,7 @@ module _ (k : Kept) (well : WellKept k) (c : List ℕ) where
   -- the rest is the beginning of a field that is waited for
   record Tail : Type 0 where
     fits : tailFits (r .state) rest ≡ true
-    short : length rest ≤ 131
+    short : length rest ≤ tailMost
 
   tail-of : r .number ≤ 1 → Tail
   unfolding goneBy tailFits
@@ -239,9 +239,9 @@ module _ (k : Kept) (well : WellKept k) (c : List ℕ) where
   pub stop-few : goneBy k c .state .steps ≤ 65535
   stop-few = few-steps over (gone-leads k c) (well .few)
 
-  pub stop-place : k .place - length (k .tail) + goneBy k c .at ≤ 22187 + 46 * goneBy k c .state .steps
+  pub stop-place : k .place - length (k .tail) + goneBy k c .at ≤ placeMost + 46 * goneBy k c .state .steps
   unfolding absorbed
   stop-place =
       let long : length over ≡ r .at = length-take-le (r .at) (k .tail ++ c) (gone-upto k c) in
-      let most : k .place - length (k .tail) + length over ≤ 22187 + 0 + 46 * r .state .steps = place-most (absorbed k over (r .state)) over-well in
+      let most : k .place - length (k .tail) + length over ≤ placeMost + 0 + 46 * r .state .steps = place-most (absorbed k over (r .state)) over-well in
       omega arith

@@ -10,7 +10,7 @@ use lib.Seq.{slice}
 use Rattle.octets.specs.BigEndian.{laid}
 use Rattle.kept.specs.declared.Mark.{Mark}
 use Rattle.kept.specs.Kept.{begun}
-use Rattle.kept.specs.Layout.{sitePlace, siteBytes, stateIn, markIn}
+use Rattle.kept.specs.Layout.{sitePlace, siteMost, siteBytes, stateIn, markIn}
 use Rattle.taking.specs.Chunk.{closing, headIn}
 use Rattle.intake.specs.Posts.{Grown}
 use Rattle.intake.proofs.OpenLaws.{open-sized}
@@ -43,7 +43,7 @@ returns c =
 waits : (c : tie.Else1) → begun (stateIn (c .before .before .before .before .before .args .s .now)) ≡ false
 waits c = let b = c .before in let s = b .before .before .before .before in sym (begun-is s) ∙ sym (b .begun-at .ensures) ∙ c .if1 .left
 
-roomy : (c : tie.Else1) → let a = c .before .before .before .before .before .args in a .m .site + a .head ≤ 22175
+roomy : (c : tie.Else1) → let a = c .before .before .before .before .before .args in a .m .site + a .head ≤ siteMost
 roomy c =
     let s = c .before .before .before .before .before in
     let (o, (m, (h, l))) = s .pre in
@@ -79,7 +79,7 @@ laid-first k =
     k .copy .ensures
     ∙ ap₂ (λ (n j : ℕ). laid (a .s .now) (sitePlace + n) (slice 0 j (a .bytes .now))) (site-is s) h
 
-ends-roomy : (c : tie.Then2) → let a = first (copied (c .before)) .args in a .m .site + a .head + 7 ≤ 22175
+ends-roomy : (c : tie.Then2) → let a = first (copied (c .before)) .args in a .m .site + a .head + 7 ≤ siteMost
 ends-roomy c =
     let b = c .before in
     let k = copied b in

@@ -8,7 +8,7 @@ use lib.ListN.{length, replicate, length-replicate}
 use Rattle.octets.specs.BigEndian.{bytesOf}
 use Rattle.octets.proofs.ByteLaws.{bytes-length}
 use Rattle.records.proofs.LayLaws.{behind, both, longer}
-use Rattle.kept.specs.Layout.{stoppedBytes}
+use Rattle.kept.specs.Layout.{restSize, stoppedBytes}
 use Rattle.kept.proofs.PieceLaws.{laid-whole}
 use Rattle.kept.proofs.numbers.stop.Statement.{statement}
 use Rattle.kept.proofs.numbers.stop.Tie as tie
@@ -52,9 +52,9 @@ returns c =
     let ld = longer b 9 4 steps lb in
     let two = behind s 0 h a (bytesOf 8 place) 1 la t₁ t₂ (first .put-u8 .ensures) (second .put-u64 .ensures) in
     let three = behind s 0 h b (bytesOf 4 steps) 9 lb t₂ t₃ two (third .put-u32 .ensures) in
-    let four = behind s 0 h d (replicate 23150 0) 13 ld t₃ (fourth .zero .last .0) three (fourth .zero .ensures) in
-    let l : length (d ++ replicate 23150 0) ≡ length s = omega (arith, both d (replicate 23150 0) 13 23150 ld (length-replicate {A = ℕ} 23150 0), start .pre) in
-    four ∙ laid-whole s (d ++ replicate 23150 0) l
+    let four = behind s 0 h d (replicate restSize 0) 13 ld t₃ (fourth .zero .last .0) three (fourth .zero .ensures) in
+    let l : length (d ++ replicate restSize 0) ≡ length s = omega (arith, both d (replicate restSize 0) 13 restSize ld (length-replicate {A = ℕ} restSize 0), start .pre) in
+    four ∙ laid-whole s (d ++ replicate restSize 0) l
 
 pub stop-spec : {M : Type 1} → statement M
 stop-spec =

@@ -2,15 +2,16 @@
 use borrow.Author.Needs.{needs}
 use native.Mathlib.Omega.{arith}
 use Prim.Native.Nat.{_≤_}
+use Rattle.kept.specs.Layout.{tailMost, siteMost}
 use Rattle.kept.proofs.ListLaws.{mark-site, mark-tail, mark-fits-is}
 use Rattle.kept.proofs.tests.mark_fits.Statement.{statement}
 use Rattle.kept.proofs.tests.mark_fits.Tie as tie
 
 -- the parts are no longer than their places
-site-small : (c : tie.Start) → c .args .m .site ≤ 22175
+site-small : (c : tie.Start) → c .args .m .site ≤ siteMost
 site-small c = let (z, e) = c .pre in omega (arith, z .site-fits, mark-site (c .args .s .now) (c .args .m) e)
 
-tail-small : (c : tie.Start) → c .args .m .tail ≤ 131
+tail-small : (c : tie.Start) → c .args .m .tail ≤ tailMost
 tail-small c = let (z, e) = c .pre in omega (arith, z .tail-fits, mark-tail (c .args .s .now) (c .args .m) e)
 
 place-fits-requires : tie.Need-place-fits-requires

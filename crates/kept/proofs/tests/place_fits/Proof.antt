@@ -9,6 +9,7 @@ use lib.Dec.{eqb}
 use borrow.Author.Tests.{eq-eqb, ne-eqb}
 use Rattle.fields.specs.Fields.{atEnd, atReading}
 use Rattle.kept.specs.Kept.{begunAt}
+use Rattle.kept.specs.Layout.{siteMost}
 use Rattle.kept.proofs.FitLaws.{pick-true, pick-false, most, place-is}
 use Rattle.kept.proofs.tests.place_fits.Statement.{statement}
 use Rattle.kept.proofs.tests.place_fits.Tie as tie
@@ -46,7 +47,7 @@ ended c =
     (c .if4 .came)
 
 -- each is small
-head-small : (c : tie.Joined2) → c .if2 .head ≤ 22175
+head-small : (c : tie.Joined2) → c .if2 .head ≤ siteMost
 head-small c = let (p, q) = c .before .before .before .pre in omega (arith, headed c, p)
 
 lit-small : (c : tie.Joined3) → c .if3 .weather ≤ 19

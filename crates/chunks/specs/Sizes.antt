@@ -1,0 +1,10 @@
+-- The sizes that a run file's fields have at most.
+use Prim.Native.Nat.{ℕ}
+
+-- no field is longer
+abbrev pub largest : ℕ
+largest = 132
+
+-- the fields before the steps
+abbrev pub headMost : ℕ
+headMost = 22168
