@@ -42,7 +42,8 @@ module _ (s : List ℕ) (at k : ℕ) (b : List ℕ) (fits : at + k + length b �
   unfolding laid
   behind-laid =
       drop-append-le at (take (at + k) s ++ b) (drop (at + k + length b) s) (omega (arith, short, length-append (take (at + k) s) b))
-      ∙ ap₂ _++_ (drop-append-le at (take (at + k) s) b short ∙ ap (λ (x : List ℕ). x ++ b) cut) (sym (drop-drop (k + length b) at s ∙ ap (λ (j : ℕ). drop j s) (let z : at + (k + length b) ≡ at + k + length b = omega arith in z)))
+      ∙ ap₂ _++_ (drop-append-le at (take (at + k) s) b short ∙ ap (λ (x : List ℕ). x ++ b) cut)
+      (sym (drop-drop (k + length b) at s ∙ ap (λ (j : ℕ). drop j s) (let z : at + (k + length b) ≡ at + k + length b = omega arith in z)))
     where
       cut : drop at (take (at + k) s) ≡ take k (drop at s)
       cut = sym (take-drop k at s)

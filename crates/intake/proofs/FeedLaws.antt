@@ -16,6 +16,7 @@ use Rattle.fields.specs.Fields.{headOf}
 use Rattle.stick.specs.declared.Reached.{Reached}
 use Rattle.stick.specs.Check.{fieldAt, reached, reachOf}
 use Rattle.chunks.specs.Sizes.{largest}
+use Rattle.chunks.specs.Holds.{moved}
 use Rattle.chunks.proofs.ReachChunks.{reach-fuel, reach-shift, there, passing, far-all, far-cut}
 use Rattle.chunks.proofs.PlaceChunks.{accepted-there}
 use Rattle.kept.specs.declared.Mark.{Mark}
@@ -27,7 +28,7 @@ use Rattle.taking.specs.Posts.{Leads}
 use Rattle.taking.proofs.LedLaws.{leads-none, leads-far, leads-upto}
 use Rattle.taking.proofs.FedLaws.{gone-upto, gone-leads}
 use Rattle.taking.proofs.TwiceLaws.{absorbed-twice, results-twice}
-use Rattle.intake.specs.Posts.{moved, firstOf, othersOf, bothKept, bothResults, Gone}
+use Rattle.intake.specs.Posts.{firstOf, othersOf, bothKept, bothResults, Gone}
 use Rattle.intake.proofs.OpenLaws.{open-tail, open-waits}
 use Rattle.intake.proofs.JointLaws.{no-bytes, take-most, stops-first, three, tail-first, past-within, goes-first}
 use Rattle.intake.proofs.MarkLaws.{mark-state, mark-tail}

@@ -17,12 +17,12 @@ use Rattle.fields.specs.Fields.{headOf}
 use Rattle.stick.specs.Check.{fieldAt, reached, reachOf}
 use Rattle.stick.proofs.WalkLaws.{field-stops}
 use Rattle.chunks.specs.Sizes.{largest}
+use Rattle.chunks.specs.Holds.{moved}
 use Rattle.chunks.proofs.FieldChunks.{past-append, field-cut, field-take}
 use Rattle.chunks.proofs.ReachChunks.{reach-fuel, reach-step, apart, reach-shift}
 use Rattle.chunks.proofs.PlaceChunks.{accepted-there}
 use Rattle.records.proofs.LayLaws.{behind}
 use Rattle.kept.specs.Layout.{tailMost}
-use Rattle.intake.specs.Posts.{moved}
 
 -- no bytes are the empty list
 pub no-bytes : (l : List ℕ) → length l ≡ 0 → l ≡ []
@@ -61,7 +61,9 @@ module _ (tail chunk : List ℕ) (n : ℕ) (short : length tail ≤ tailMost) (i
     pub joined : take (length tail + n) twice ≡ take largest (tail ++ chunk)
     unfolding laid
     joined =
-        let whole : twice ≡ laid room 0 (tail ++ take n chunk) = behind room 0 (omega arith) tail (take n chunk) (length tail) refl once twice first (second ∙ ap (λ (p : ℕ). laid once p (take n chunk)) (sym (zero-add (length tail)))) in
+        let whole : twice ≡ laid room 0 (tail ++ take n chunk) =
+        behind room 0 (omega arith) tail (take n chunk) (length tail) refl once twice first
+        (second ∙ ap (λ (p : ℕ). laid once p (take n chunk)) (sym (zero-add (length tail)))) in
         ap (take (length tail + n)) whole
         ∙ take-at (tail ++ take n chunk) (drop (0 + length (tail ++ take n chunk)) room) (length tail + n) joint-long
         ∙ joint-is

@@ -31,8 +31,8 @@ use Rattle.stretch.specs.Stretch.{standsAfter, onsAfter, recordsFrom}
 use Rattle.stretch.proofs.SiteLaws.{few-units, few-roofs}
 use Rattle.kept.specs.declared.Mark.{Mark}
 use Rattle.kept.specs.Kept.{Kept, begun, noStanding}
-use Rattle.kept.specs.Layout.{siteMost, placeMost}
-use Rattle.kept.specs.Layout.{stateSize, heldPlace, flagPlace, sitePlace, placeIn, siteBytes, tailBytes, tailPart, sitePart, sunKept, stateIn, storeAt, requestAt, flagAt, upTo, unitsKept, roofsKept, filled, topOf, standsOf, markOf, bytesFor, markIn, keptIn}
+use Rattle.kept.specs.Layout.{heldPlace, flagPlace, sitePlace, stateSize, siteMost, placeMost, filled, topOf, standsOf, markOf, bytesFor, placeIn, siteBytes, tailBytes, sitePart}
+use Rattle.kept.specs.Layout.{tailPart, sunKept, stateIn, storeAt, requestAt, flagAt, upTo, unitsKept, roofsKept, markIn, keptIn}
 use Rattle.kept.specs.Formed.{sunFits}
 use Rattle.kept.specs.Posts.{WellKept}
 use Rattle.kept.proofs.NumberLaws.{take-drop}

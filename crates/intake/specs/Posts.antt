@@ -7,11 +7,11 @@ use lib.ListN.{length, take, drop}
 use lib.Seq.{slice}
 use Rattle.solar.specs.declared.Sun.{Sun}
 use Rattle.solar.specs.Posts.{Shining}
+use Rattle.site.specs.declared.Step.{Step}
 use Rattle.site.specs.Site.{count}
 use Rattle.parts.specs.Header.{past}
 use Rattle.fields.specs.declared.State.{State}
 use Rattle.stick.specs.declared.Reached.{Reached}
-use Rattle.stick.specs.Check.{reached}
 use Rattle.stick.specs.Site.{siteOf, roofsOf, stepsFrom, sunFrom}
 use Rattle.stick.specs.Posts.{Accepted}
 use Rattle.roofs.specs.Roofs.{allOff}
@@ -25,10 +25,7 @@ use Rattle.kept.specs.Layout.{stateSize, sitePlace, siteMost, filled, markIn, k
 use Rattle.taking.specs.Chunk.{goneBy, siteAfter, absorbed, resultsBy, withTail}
 use Rattle.taking.specs.Posts.{Leads}
 use Rattle.kept.specs.Formed.{isOpen}
-
--- how far fields go, by places that many bytes stand before
-abbrev pub moved : ℕ → Reached → Reached
-moved n r = reached (r .number) (n + r .at) (r .state)
+use Rattle.intake.specs.declared.Course.{Course}
 
 -- the records of whole fields and then those of others
 abbrev pub bothResults : Kept → List ℕ → State → List ℕ → State → List ℕ
@@ -64,11 +61,14 @@ pub record Grown (s grown bytes : List ℕ) (next : State) (site : ℕ) : Type 0
 
 -- ---- the run over whole fields, by a mark and a state's bytes with the site part that they lead to
 
+-- what stands of so many units
+abbrev pub standingIn : List ℕ → ℕ → Standing
+standingIn s n = standing (upTo n (storeAt s)) (upTo n (requestAt s))
+
 -- what stands before them
 unfoldable pub firstBy : Mark → List ℕ → List ℕ → Standing
 unfolding upTo storeAt requestAt atFirst siteOf
-firstBy m s site =
-    cond (begun (m .state)) (standing (upTo (count (siteOf site)) (storeAt s)) (upTo (count (siteOf site)) (requestAt s))) (atFirst (siteOf site .units))
+firstBy m s site = cond (begun (m .state)) (standingIn s (count (siteOf site))) (atFirst (siteOf site .units))
 
 unfoldable pub flagsBy : Mark → List ℕ → List ℕ → List Bool
 unfolding upTo flagAt roofsOf
@@ -82,6 +82,10 @@ standsBy m s site bytes head = standsAfter (siteOf site) (firstBy m s site) (ste
 unfoldable pub onBy : Mark → List ℕ → List ℕ → List ℕ → ℕ → List Bool
 unfolding onsAfter flagsBy stepsFrom roofsOf
 onBy m s site bytes head = onsAfter (roofsOf site) (flagsBy m s site) (stepsFrom bytes (m .sun) head)
+
+-- their steps, by the course that they take
+abbrev pub stepsOn : Course → List ℕ → List Step
+stepsOn c bytes = stepsFrom bytes (c .mark .sun) (c .head)
 
 -- their records
 unfoldable pub recordsOver : Mark → List ℕ → List ℕ → List ℕ → ℕ → List ℕ

@@ -8,7 +8,9 @@ mod running;
 mod tails;
 
 pub use feeding::take_in;
+use fields::State;
 pub use joints::gone;
+use kept::Mark;
 pub use running::clear_stands;
 
 // The bytes of the largest field.
@@ -16,3 +18,13 @@ const LARGEST: usize = 132;
 
 // The bytes of an end field.
 const CLOSING: usize = 7;
+
+// What the run over whole fields goes by: the mark before them, the bytes of the site part, where
+// their steps begin, the state that they lead to, and where their records go.
+struct Course {
+    mark: Mark,
+    site: usize,
+    head: usize,
+    next: State,
+    out: usize,
+}

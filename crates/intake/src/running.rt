@@ -9,68 +9,69 @@ ghost use Rattle.rows.specs.Rows.{unitsBy};
 ghost use Rattle.storage.specs.Posts.{Rested};
 ghost use Rattle.solar.specs.Posts.{Shining};
 ghost use Rattle.site.specs.Site.{count};
-ghost use Rattle.stick.specs.Site.{siteOf, roofsOf, stepsFrom, sunFrom};
+ghost use Rattle.stick.specs.Site.{siteOf, roofsOf, sunFrom};
 ghost use Rattle.stick.specs.Posts.{Accepted};
 ghost use Rattle.fleet.specs.Step.{standing, atFirst};
 ghost use Rattle.fleet.specs.Posts.{Held};
 ghost use Rattle.stretch.specs.Stretch.{allBytes, standsAfter, onsAfter, recordsFrom};
 ghost use Rattle.stretch.specs.Posts.{StepsThere};
 ghost use Rattle.kept.specs.Kept.{begun};
-ghost use Rattle.kept.specs.Layout.{stateSize, heldPlace, sitePlace, siteMost, storeAt, requestAt, flagAt, upTo, topOf, standsOf};
-ghost use Rattle.intake.specs.Posts.{recordsOver, markAfter, leftBy, Ahead};
+ghost use Rattle.kept.specs.Layout.{stateSize, heldPlace, sitePlace, siteMost, flagAt, upTo, topOf, standsOf};
+ghost use Rattle.intake.specs.Posts.{standingIn, stepsOn, recordsOver, markAfter, leftBy, Ahead};
+use super::Course;
 use fields::State;
 use kept::Mark;
 use kept::SITE;
 use records::RECORD_BYTES;
 use records::ROOF_RECORD_BYTES;
 use solar::Sun;
+use stretch::Track;
 use stretch::Way;
 
-// The steps in a stretch, over the site that lies in bytes; its units are in the rows.
+// The steps of whole fields, over the site that lies in bytes; its units are in the rows.
 fn over(
     site: &[u8],
     rows: &[[u64; 17]],
     bytes: &[u8],
-    from: usize,
-    way: Way,
+    c: Course,
     stored: &mut [u64],
     requests: &mut [i32],
     on: &mut [bool],
     room: &mut [u8],
-    out: usize,
 ) -> Way
     requires { ⌜ Accepted (now site) ⌝ }
     requires { ⌜ unitsBy (now rows) ≡ siteOf (now site) .units ⌝ }
     requires { ⌜ Rested (now rows) ⌝ }
     requires { ⌜ Held (siteOf (now site)) (now stored) (now requests) ⌝ }
     requires { ⌜ length (now on) ≡ length (roofsOf (now site)) ⌝ }
-    requires { ⌜ from ≤ length (now bytes) ⌝ }
-    requires { ⌜ StepsThere (now bytes) from ⌝ }
-    requires { ⌜ Shining (way .sun) ⌝ }
-    requires { ⌜ way .step + length (stepsFrom (now bytes) (way .sun) from) ≤ 65535 ⌝ }
-    requires { ⌜ out + allBytes (siteOf (now site)) (roofsOf (now site)) * length (stepsFrom (now bytes) (way .sun) from) ≤ length (now room) ⌝ }
-    ensures { λ r. ⌜ r .step ≡ way .step + length (stepsFrom (now (bytes .entry)) (way .sun) from) ⌝ }
-    ensures { λ r. ⌜ r .sun ≡ sunFrom (now (bytes .entry)) (way .sun) from ⌝ }
-    ensures { λ _. ⌜ standing (now (stored .exit)) (now (requests .exit)) ≡ standsAfter (siteOf (now (site .entry))) (standing (now (stored .entry)) (now (requests .entry))) (stepsFrom (now (bytes .entry)) (way .sun) from) ⌝ }
-    ensures { λ _. ⌜ now (on .exit) ≡ onsAfter (roofsOf (now (site .entry))) (now (on .entry)) (stepsFrom (now (bytes .entry)) (way .sun) from) ⌝ }
-    ensures { λ _. ⌜ now (room .exit) ≡ laid (now (room .entry)) out (recordsFrom (siteOf (now (site .entry))) (roofsOf (now (site .entry))) (way .step) (standing (now (stored .entry)) (now (requests .entry))) (now (on .entry)) (stepsFrom (now (bytes .entry)) (way .sun) from)) ⌝ }
+    requires { ⌜ c .head ≤ length (now bytes) ⌝ }
+    requires { ⌜ StepsThere (now bytes) (c .head) ⌝ }
+    requires { ⌜ Shining (c .mark .sun) ⌝ }
+    requires { ⌜ c .mark .state .steps + length (stepsOn c (now bytes)) ≤ 65535 ⌝ }
+    requires { ⌜ c .out + allBytes (siteOf (now site)) (roofsOf (now site)) * length (stepsOn c (now bytes)) ≤ length (now room) ⌝ }
+    ensures { λ r. ⌜ r .step ≡ c .mark .state .steps + length (stepsOn c (now (bytes .entry))) ⌝ }
+    ensures { λ r. ⌜ r .sun ≡ sunFrom (now (bytes .entry)) (c .mark .sun) (c .head) ⌝ }
+    ensures { λ _. ⌜ standing (now (stored .exit)) (now (requests .exit)) ≡
+        standsAfter (siteOf (now (site .entry))) (standing (now (stored .entry)) (now (requests .entry))) (stepsOn c (now (bytes .entry))) ⌝ }
+    ensures { λ _. ⌜ now (on .exit) ≡ onsAfter (roofsOf (now (site .entry))) (now (on .entry)) (stepsOn c (now (bytes .entry))) ⌝ }
+    ensures { λ _. ⌜ now (room .exit) ≡ laid (now (room .entry)) (c .out)
+        (recordsFrom (siteOf (now (site .entry))) (roofsOf (now (site .entry))) (c .mark .state .steps)
+        (standing (now (stored .entry)) (now (requests .entry))) (now (on .entry)) (stepsOn c (now (bytes .entry)))) ⌝ }
 {
     let f = fleet::framed(stick::head(site), rows);
     let first = stick::roofs_place(site);
-    stretch::along(
-        site,
+    let sun = c.mark.sun;
+    let way = Way {
+        step: c.mark.state.steps,
+        sun,
+    };
+    let t = Track {
         first,
-        f,
-        rows,
-        bytes,
-        from,
+        at: c.head,
+        out: c.out,
         way,
-        stored,
-        requests,
-        on,
-        room,
-        out,
-    )
+    };
+    stretch::along(site, f, rows, bytes, t, stored, requests, on, room)
 }
 
 // What stands before whole fields: what is kept or, where the steps are only to begin, what stands at
@@ -88,7 +89,8 @@ fn stand(
     requires { ⌜ length (now stored) ≡ length (now rows) ⌝ }
     requires { ⌜ length (now requests) ≡ length (now rows) ⌝ }
     requires { ⌜ length (now on) ≤ 64 ⌝ }
-    ensures { λ _. ⌜ standing (now (stored .exit)) (now (requests .exit)) ≡ cond (begun (m .state)) (standing (upTo (length (now (rows .entry))) (storeAt (now (s .entry)))) (upTo (length (now (rows .entry))) (requestAt (now (s .entry))))) (atFirst (unitsBy (now (rows .entry)))) ⌝ }
+    ensures { λ _. ⌜ standing (now (stored .exit)) (now (requests .exit)) ≡
+        cond (begun (m .state)) (standingIn (now (s .entry)) (length (now (rows .entry)))) (atFirst (unitsBy (now (rows .entry)))) ⌝ }
     ensures { λ _. ⌜ now (on .exit) ≡ cond (begun (m .state)) (upTo (length (now (on .entry))) (flagAt (now (s .entry)))) (replicate (length (now (on .entry))) false) ⌝ }
 {
     if kept::begun_at(m.state.stage) {
@@ -132,45 +134,38 @@ fn keep(s: &mut [u8], k: Mark, bytes: &[u8], stored: &[u64], requests: &[i32], o
 // The run over whole fields, with rows and lists for the site's units and inverters.
 fn run_with(
     s: &mut [u8],
-    m: Mark,
-    n: usize,
+    c: Course,
     bytes: &[u8],
-    head: usize,
-    next: State,
     rows: &mut [[u64; 17]],
     stored: &mut [u64],
     requests: &mut [i32],
     on: &mut [bool],
     room: &mut [u8],
-    out: usize,
 )
-    requires { ⌜ Ahead (now s) m n (now bytes) head next ⌝ }
-    requires { ⌜ length (now rows) ≡ count (siteOf (slice sitePlace (sitePlace + n) (now s))) ⌝ }
+    requires { ⌜ Ahead (now s) (c .mark) (c .site) (now bytes) (c .head) (c .next) ⌝ }
+    requires { ⌜ length (now rows) ≡ count (siteOf (slice sitePlace (sitePlace + c .site) (now s))) ⌝ }
     requires { ⌜ length (now stored) ≡ length (now rows) ⌝ }
     requires { ⌜ length (now requests) ≡ length (now rows) ⌝ }
-    requires { ⌜ length (now on) ≡ length (roofsOf (slice sitePlace (sitePlace + n) (now s))) ⌝ }
-    requires { ⌜ out + length (recordsOver m (now s) (slice sitePlace (sitePlace + n) (now s)) (now bytes) head) ≤ length (now room) ⌝ }
-    ensures { λ _. ⌜ now (s .exit) ≡ leftBy m (now (s .entry)) n (now (bytes .entry)) head next ⌝ }
-    ensures { λ _. ⌜ now (room .exit) ≡ laid (now (room .entry)) out (recordsOver m (now (s .entry)) (slice sitePlace (sitePlace + n) (now (s .entry))) (now (bytes .entry)) head) ⌝ }
+    requires { ⌜ length (now on) ≡ length (roofsOf (slice sitePlace (sitePlace + c .site) (now s))) ⌝ }
+    requires { ⌜ c .out + length (recordsOver (c .mark) (now s) (slice sitePlace (sitePlace + c .site) (now s)) (now bytes) (c .head)) ≤ length (now room) ⌝ }
+    ensures { λ _. ⌜ now (s .exit) ≡ leftBy (c .mark) (now (s .entry)) (c .site) (now (bytes .entry)) (c .head) (c .next) ⌝ }
+    ensures { λ _. ⌜ now (room .exit) ≡ laid (now (room .entry)) (c .out)
+        (recordsOver (c .mark) (now (s .entry)) (slice sitePlace (sitePlace + c .site) (now (s .entry))) (now (bytes .entry)) (c .head)) ⌝ }
 {
+    let n = c.site;
+    let m = c.mark;
+    let next = c.next;
     stick::load(&s[SITE..SITE + n], rows);
     stand(s, m, rows, stored, requests, on);
-    let sun = m.sun;
-    let way = Way {
-        step: m.state.steps,
-        sun,
-    };
     let w = over(
         &s[SITE..SITE + n],
         rows,
         bytes,
-        head,
-        way,
+        c,
         stored,
         requests,
         on,
         room,
-        out,
     );
     let k = mark_after(m, next, n, w.sun, bytes.len());
     keep(s, k, bytes, stored, requests, on);
@@ -211,19 +206,22 @@ pub fn run(
     let mut stored = [0u64; 64];
     let mut requests = [0i32; 64];
     let mut on = [false; 64];
-    run_with(
-        s,
-        m,
-        n,
-        bytes,
+    let c = Course {
+        mark: m,
+        site: n,
         head,
         next,
+        out,
+    };
+    run_with(
+        s,
+        c,
+        bytes,
         &mut rows[0..units],
         &mut stored[0..units],
         &mut requests[0..units],
         &mut on[0..roofs],
         room,
-        out,
     );
     out + size
 }

@@ -17,8 +17,8 @@ use Rattle.stick.specs.declared.Reached.{Reached}
 use Rattle.stick.specs.Check.{reachOf, start}
 use Rattle.stick.specs.Site.{siteOf}
 use Rattle.kept.specs.Kept.{begunAt}
-use Rattle.kept.specs.Layout.{tailMost, siteMost, placeMost}
-use Rattle.kept.specs.Layout.{tailPlace, heldPlace, flagPlace, sitePlace, stateSize, numberIn, placeIn, stepsKept, stageIn, siteBytes, tailBytes, sitePart, tailPart, sunKept, stateIn, storeAt, requestAt, unitsKept, roofsKept, upTo}
+use Rattle.kept.specs.Layout.{tailPlace, heldPlace, flagPlace, sitePlace, stateSize, tailMost, siteMost, placeMost, numberIn, placeIn, stepsKept, stageIn, siteBytes, tailBytes}
+use Rattle.kept.specs.Layout.{sitePart, tailPart, sunKept, stateIn, storeAt, requestAt, unitsKept, roofsKept, upTo}
 
 -- the bytes from one place up to another are 0
 unfoldable pub clear : List ℕ → ℕ → ℕ → Bool

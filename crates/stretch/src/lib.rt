@@ -11,3 +11,12 @@ pub struct Way {
     pub step: u32,
     pub sun: Sun,
 }
+
+// Where a stretch goes on: where the inverters lie in the bytes of the site, where to read, where to
+// write, and the step under way.
+pub struct Track {
+    pub first: usize,
+    pub at: usize,
+    pub out: usize,
+    pub way: Way,
+}

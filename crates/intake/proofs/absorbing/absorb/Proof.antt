@@ -58,7 +58,8 @@ begun-at-requires c κs = search needs
 grown : (g : tie.After-grow) → let a = first (marked g) .args in Grown (a .s .now) (g .grow .last .0) (a .bytes .now) (a .next) (g .grow .result)
 grown g = g .grow .ensures
 
-ahead : (t : tie.Then1) → let g = t .before .before .before .before in let a = first (marked g) .args in Ahead (g .grow .last .0) (marked g .marked .result) (g .grow .result) (a .bytes .now) (g .before .before .head-end .result) (a .next)
+ahead : (t : tie.Then1) → let g = t .before .before .before .before in let a = first (marked g) .args in
+    Ahead (g .grow .last .0) (marked g .marked .result) (g .grow .result) (a .bytes .now) (g .before .before .head-end .result) (a .next)
 ahead t =
     let b = t .before in
     let g = b .before .before .before in
@@ -73,7 +74,8 @@ ahead t =
     (goes-ahead (a .s .now) o w (a .next) l (g .grow .last .0) (g .grow .result) (grown g) f (place-there (a .s .now) o) (omega (arith, place-fits (a .s .now) o, s .good))))
 
 records-are : (t : tie.Then1) → let g = t .before .before .before .before in let a = first (marked g) .args in
-    recordsOver (marked g .marked .result) (g .grow .last .0) (slice sitePlace (sitePlace + g .grow .result) (g .grow .last .0)) (a .bytes .now) (g .before .before .head-end .result) ≡ resultsBy (keptIn (a .s .now)) (a .bytes .now) (a .next)
+    recordsOver (marked g .marked .result) (g .grow .last .0) (slice sitePlace (sitePlace + g .grow .result) (g .grow .last .0)) (a .bytes .now) (g .before .before .head-end .result)
+    ≡ resultsBy (keptIn (a .s .now)) (a .bytes .now) (a .next)
 records-are t =
     let b = t .before in
     let g = b .before .before .before in

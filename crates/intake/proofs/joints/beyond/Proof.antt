@@ -7,8 +7,8 @@ use lib.ListN.{length}
 use Rattle.parts.specs.Header.{past}
 use Rattle.stick.specs.declared.Reached.{Reached}
 use Rattle.stick.specs.Check.{reachOf}
+use Rattle.chunks.specs.Holds.{moved}
 use Rattle.chunks.proofs.ReachChunks.{far-upto}
-use Rattle.intake.specs.Posts.{moved}
 use Rattle.intake.proofs.joints.beyond.Statement.{statement}
 use Rattle.intake.proofs.joints.beyond.Tie as tie
 

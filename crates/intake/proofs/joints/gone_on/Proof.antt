@@ -14,10 +14,10 @@ use Rattle.fields.specs.declared.Taken.the-variants.{Next, Stop}
 use Rattle.fields.specs.Fields.{headOf}
 use Rattle.stick.specs.Check.{fieldAt, reached, reachOf}
 use Rattle.chunks.specs.Sizes.{largest}
+use Rattle.chunks.specs.Holds.{moved}
 use Rattle.kept.specs.declared.Mark.{Mark}
 use Rattle.kept.specs.Layout.{tailPart, stateIn, markIn, keptIn}
 use Rattle.taking.specs.Chunk.{goneBy}
-use Rattle.intake.specs.Posts.{moved}
 use Rattle.intake.proofs.OpenLaws.{open-sized, open-tail, open-waits}
 use Rattle.intake.proofs.JointLaws.{take-most, stops-first, three, tail-first, past-within, goes-first}
 use Rattle.intake.proofs.joints.gone_on.Statement.{statement}

@@ -87,7 +87,9 @@ returns c =
     let few : length tail ≤ tailMost = omega (arith, t, short u) in (
       ap (λ (k : ℕ). k + n) (sym t) ∙ sym (joint-long tail chunk n few is) ∙ ap length (joint-is tail chunk n few is),
       ap (λ (k : ℕ). take (k + n) (second .copy2 .last .0)) (sym t)
-          ∙ joined tail chunk n few is (a .joint .now) (first .copy .last .0) (second .copy2 .last .0) j (first .copy .ensures ∙ ap (laid (a .joint .now) 0) (tail-read u)) (second .copy2 .ensures ∙ ap (λ (k : ℕ). laid (first .copy .last .0) k (slice 0 n chunk)) (sym t)),
+          ∙ joined tail chunk n few is (a .joint .now) (first .copy .last .0) (second .copy2 .last .0) j
+          (first .copy .ensures ∙ ap (laid (a .joint .now) 0) (tail-read u))
+          (second .copy2 .ensures ∙ ap (λ (k : ℕ). laid (first .copy .last .0) k (slice 0 n chunk)) (sym t)),
     )
 
 pub join-spec : {M : Type 1} → statement M

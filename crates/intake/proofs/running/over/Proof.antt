@@ -35,7 +35,7 @@ roofs-place-requires c κs = search needs
 
 along-requires : tie.Need-along-requires
 along-requires c κs =
-    let p = c .before .before .before .before in
+    let p = c .before .before .before .before .before in
     let m = p .before in
     let h = m .before in
     let s = start h in
@@ -58,7 +58,8 @@ along-requires c κs =
                 shines,
                 (
                   few,
-                  fit-alike (siteIn (m .framed .result) rows) (siteOf site) (roofsOf site) (length (a .on .now)) (a .out) (length (stepsFrom (a .bytes .now) (a .way .sun) (a .from))) (length (a .room .now)) same el fits,
+                  fit-alike (siteIn (m .framed .result) rows) (siteOf site) (roofsOf site) (length (a .on .now)) (a .c .out)
+                      (length (stepsFrom (a .bytes .now) (a .c .mark .sun) (a .c .head))) (length (a .room .now)) same el fits,
                 ),
               ),
             ),
@@ -82,7 +83,7 @@ same-length-4 c = search needs
 returns : tie.Need-returns
 returns c =
     let w = c .before .before .before .before .before .before .before in
-    let p = w .before .before .before .before .before in
+    let p = w .before .before .before .before .before .before in
     let m = p .before in
     let h = m .before in
     let s = start h in
@@ -93,7 +94,7 @@ returns c =
     let (ef, rd) = m .framed .ensures in
     let same : siteIn (m .framed .result) rows ≡ siteOf site = frame-site site rows eu (h .head .result) (h .head .ensures) (m .framed .result) ef in
     let here : roofsHere site (p .roofs-place .result) (length (a .on .now)) ≡ roofsOf site = roofs-read site ok (length (a .on .now)) (p .roofs-place .result) el (p .roofs-place .ensures) in
-    let steps = stepsFrom (a .bytes .now) (a .way .sun) (a .from) in
+    let steps = stepsFrom (a .bytes .now) (a .c .mark .sun) (a .c .head) in
     let now = standing (a .stored .now) (a .requests .now) in
     let (ek, (es, (eh, (et, (eo, er))))) = w .along .ensures in (
       ek,
@@ -103,7 +104,7 @@ returns c =
           et ∙ ap (λ (x : Site). standsAfter x now steps) same,
           (
             eo ∙ ap (λ (r : List Roof). onsAfter r (a .on .now) steps) here,
-            er ∙ ap₂ (λ (x : Site) (r : List Roof). laid (a .room .now) (a .out) (recordsFrom x r (a .way .step) now (a .on .now) steps)) same here,
+            er ∙ ap₂ (λ (x : Site) (r : List Roof). laid (a .room .now) (a .c .out) (recordsFrom x r (a .c .mark .state .steps) now (a .on .now) steps)) same here,
           ),
         ),
       ),

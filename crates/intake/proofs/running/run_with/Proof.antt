@@ -16,26 +16,26 @@ use Rattle.intake.proofs.running.run_with.Tie as tie
 
 -- from each call back to the one before it
 abbrev start : tie.After-load → tie.Start
-start l = l .before .before .before .before .before .before .before .before .before
+start l = l .before .before .before .before .before .before .before .before .before .before .before
 
 abbrev loaded : tie.After-stand → tie.After-load
 loaded t = t .before .before .before .before .before .before .before
 
 abbrev stood : tie.After-over → tie.After-stand
-stood o = o .before .before .before .before .before .before .before .before .before .before .before .before .before .before
+stood o = o .before .before .before .before .before .before .before .before .before .before .before .before .before
 
 abbrev gone : tie.After-mark-after → tie.After-over
 gone k = k .before .before .before .before .before .before .before .before
 
 -- what the lists hold is as long as they came
-stores-kept : (o : tie.After-over) → length (o .over .last .1 .1 .1 .1 .1 .0) ≡ length (start (loaded (stood o)) .args .stored .now)
-stores-kept o = o .over .kept .1 .1 .1 .1 .1 .0 ∙ stood o .stand .kept .1 .1 .1 .0
+stores-kept : (o : tie.After-over) → length (o .over .last .1 .1 .1 .1 .0) ≡ length (start (loaded (stood o)) .args .stored .now)
+stores-kept o = o .over .kept .1 .1 .1 .1 .0 ∙ stood o .stand .kept .1 .1 .1 .0
 
-asks-kept : (o : tie.After-over) → length (o .over .last .1 .1 .1 .1 .1 .1 .0) ≡ length (start (loaded (stood o)) .args .requests .now)
-asks-kept o = o .over .kept .1 .1 .1 .1 .1 .1 .0 ∙ stood o .stand .kept .1 .1 .1 .1 .0
+asks-kept : (o : tie.After-over) → length (o .over .last .1 .1 .1 .1 .1 .0) ≡ length (start (loaded (stood o)) .args .requests .now)
+asks-kept o = o .over .kept .1 .1 .1 .1 .1 .0 ∙ stood o .stand .kept .1 .1 .1 .1 .0
 
-flags-kept : (o : tie.After-over) → length (o .over .last .1 .1 .1 .1 .1 .1 .1 .0) ≡ length (start (loaded (stood o)) .args .on .now)
-flags-kept o = o .over .kept .1 .1 .1 .1 .1 .1 .1 .0 ∙ stood o .stand .kept .1 .1 .1 .1 .1 .0
+flags-kept : (o : tie.After-over) → length (o .over .last .1 .1 .1 .1 .1 .1 .0) ≡ length (start (loaded (stood o)) .args .on .now)
+flags-kept o = o .over .kept .1 .1 .1 .1 .1 .1 .0 ∙ stood o .stand .kept .1 .1 .1 .1 .1 .0
 
 add-load : tie.Need-add-load
 add-load c = search needs
@@ -51,13 +51,13 @@ part-load-end c = search needs
 
 load-requires : tie.Need-load-requires
 load-requires c κs =
-    let s = c .before .before .before .before .before .before .before .before in
+    let s = c .before .before .before .before .before .before .before .before .before .before in
     let a = s .args in
     let (h, (er, (es, (eq, (eo, f))))) = s .pre in
     let state = a .s .now in
-    let part = take (sitePlace + a .n - sitePlace) (drop sitePlace state) in
-    let ep = part-is sitePlace (a .n) state in
-    (part-accepted state (a .m) (a .n) (a .bytes .now) (a .head) (a .next) h part ep, er ∙ as-many state (a .m) (a .n) (a .bytes .now) (a .head) (a .next) h part ep)
+    let part = take (sitePlace + a .c .site - sitePlace) (drop sitePlace state) in
+    let ep = part-is sitePlace (a .c .site) state in
+    (part-accepted state (a .c .mark) (a .c .site) (a .bytes .now) (a .c .head) (a .c .next) h part ep, er ∙ as-many state (a .c .mark) (a .c .site) (a .bytes .now) (a .c .head) (a .c .next) h part ep)
 
 stand-requires : tie.Need-stand-requires
 stand-requires c κs =
@@ -66,10 +66,10 @@ stand-requires c κs =
     let a = s .args in
     let (h, (er, (es, (eq, (eo, f))))) = s .pre in
     let state = a .s .now in
-    let part = take (sitePlace + a .n - sitePlace) (drop sitePlace state) in
-    let ep = part-is sitePlace (a .n) state in
-    let few = few state (a .m) (a .n) (a .bytes .now) (a .head) (a .next) h part ep in
-    let fewer = fewer state (a .m) (a .n) (a .bytes .now) (a .head) (a .next) h part ep in
+    let part = take (sitePlace + a .c .site - sitePlace) (drop sitePlace state) in
+    let ep = part-is sitePlace (a .c .site) state in
+    let few = few state (a .c .mark) (a .c .site) (a .bytes .now) (a .c .head) (a .c .next) h part ep in
+    let fewer = fewer state (a .c .mark) (a .c .site) (a .bytes .now) (a .c .head) (a .c .next) h part ep in
     let same = l .load .kept .1 .0 in
     (h .long, (omega (arith, same, er, few), (es ∙ sym same, (eq ∙ sym same, omega (arith, eo, fewer)))))
 
@@ -87,27 +87,27 @@ part-over-end c = search needs
 
 over-requires : tie.Need-over-requires
 over-requires c κs =
-    let p = c .before .before .before .before .before .before .before .before .before .before .before .before .before in
+    let p = c .before .before .before .before .before .before .before .before .before .before .before .before in
     let l = loaded p in
     let s = start l in
     let a = s .args in
     let (h, (er, (es, (eq, (eo, f))))) = s .pre in
     let state = a .s .now in
-    let part = take (sitePlace + a .n - sitePlace) (drop sitePlace state) in
-    let ep = part-is sitePlace (a .n) state in
+    let part = take (sitePlace + a .c .site - sitePlace) (drop sitePlace state) in
+    let ep = part-is sitePlace (a .c .site) state in
     let rows = l .load .last .1 .0 in
     let (eu, rests) = l .load .ensures in
     let stored = p .stand .last .1 .1 .1 .0 in
     let rs = p .stand .last .1 .1 .1 .1 .0 in
     let on = p .stand .last .1 .1 .1 .1 .1 .0 in
-    let fits = fit state (a .m) (a .n) (a .bytes .now) (a .head) (a .next) h part ep (a .out) (length (a .room .now)) f in (
-      part-accepted state (a .m) (a .n) (a .bytes .now) (a .head) (a .next) h part ep,
+    let fits = fit state (a .c .mark) (a .c .site) (a .bytes .now) (a .c .head) (a .c .next) h part ep (a .c .out) (length (a .room .now)) f in (
+      part-accepted state (a .c .mark) (a .c .site) (a .bytes .now) (a .c .head) (a .c .next) h part ep,
       (
         eu,
         (
           rests,
           (
-            first-held state (a .m) (a .n) (a .bytes .now) (a .head) (a .next) h part ep rows eu stored rs (p .stand .ensures .0) (length (a .on .now)) eo on (p .stand .ensures .1),
+            first-held state (a .c .mark) (a .c .site) (a .bytes .now) (a .c .head) (a .c .next) h part ep rows eu stored rs (p .stand .ensures .0) (length (a .on .now)) eo on (p .stand .ensures .1),
             (
               p .stand .kept .1 .1 .1 .1 .1 .0 ∙ eo ∙ ap (λ (b : List ℕ). length (roofsOf b)) (sym ep),
               (h .upto, (h .there, (h .shines, (omega (arith, h .counted, h .few), fits)))),
@@ -131,10 +131,10 @@ keep-requires c κs =
     let a = s .args in
     let (h, (er, (es, (eq, (eo, f))))) = s .pre in
     let state = a .s .now in
-    let part = take (sitePlace + a .n - sitePlace) (drop sitePlace state) in
-    let ep = part-is sitePlace (a .n) state in
-    let few = few state (a .m) (a .n) (a .bytes .now) (a .head) (a .next) h part ep in
-    let fewer = fewer state (a .m) (a .n) (a .bytes .now) (a .head) (a .next) h part ep in
+    let part = take (sitePlace + a .c .site - sitePlace) (drop sitePlace state) in
+    let ep = part-is sitePlace (a .c .site) state in
+    let few = few state (a .c .mark) (a .c .site) (a .bytes .now) (a .c .head) (a .c .next) h part ep in
+    let fewer = fewer state (a .c .mark) (a .c .site) (a .bytes .now) (a .c .head) (a .c .next) h part ep in
     let site = ap (λ (x : Mark). x .site) (k .mark-after .ensures) in
     let tail = ap (λ (x : Mark). x .tail) (k .mark-after .ensures) in (
       h .long,
@@ -173,8 +173,8 @@ returns c =
     let a = s .args in
     let (h, (er, (es, (eq, (eo, f))))) = s .pre in
     let state = a .s .now in
-    let part = take (sitePlace + a .n - sitePlace) (drop sitePlace state) in
-    let ep = part-is sitePlace (a .n) state in
+    let part = take (sitePlace + a .c .site - sitePlace) (drop sitePlace state) in
+    let ep = part-is sitePlace (a .c .site) state in
     let rows = l .load .last .1 .0 in
     let (eu, rests) = l .load .ensures in
     let stored = p .stand .last .1 .1 .1 .0 in
@@ -182,9 +182,10 @@ returns c =
     let on = p .stand .last .1 .1 .1 .1 .1 .0 in
     let (ek, (esun, (et, (eo′, ew)))) = o .over .ensures in (
       w .keep .ensures
-          ∙ all-left state (a .m) (a .n) (a .bytes .now) (a .head) (a .next) h part ep rows eu stored rs (p .stand .ensures .0) (length (a .on .now)) eo on (p .stand .ensures .1)
-          (k .mark-after .result) (o .over .result .sun) (o .over .last .1 .1 .1 .1 .1 .0) (o .over .last .1 .1 .1 .1 .1 .1 .0) (o .over .last .1 .1 .1 .1 .1 .1 .1 .0) (k .mark-after .ensures) esun et eo′,
-      ew ∙ all-written state (a .m) (a .n) (a .bytes .now) (a .head) (a .next) h part ep rows eu stored rs (p .stand .ensures .0) (length (a .on .now)) eo on (p .stand .ensures .1) (a .room .now) (a .out),
+          ∙ all-left state (a .c .mark) (a .c .site) (a .bytes .now) (a .c .head) (a .c .next) h part ep rows eu stored rs (p .stand .ensures .0) (length (a .on .now)) eo on (p .stand .ensures .1)
+          (k .mark-after .result) (o .over .result .sun) (o .over .last .1 .1 .1 .1 .0) (o .over .last .1 .1 .1 .1 .1 .0) (o .over .last .1 .1 .1 .1 .1 .1 .0) (k .mark-after .ensures) esun et eo′,
+      ew ∙ all-written state (a .c .mark) (a .c .site) (a .bytes .now) (a .c .head) (a .c .next) h part ep rows eu stored rs (p .stand .ensures .0)
+          (length (a .on .now)) eo on (p .stand .ensures .1) (a .room .now) (a .c .out),
     )
 
 pub run-with-spec : {M : Type 1} → statement M

@@ -112,7 +112,7 @@ returns c =
     roofs-read file (n .accepted) (length (a .on .now)) (p .before .roofs-place .result) (ld .flags) (p .before .roofs-place .ensures) in
     let steps : stepsFrom file dark (p .steps-place .result) ≡ stepsOf file = steps-are file (a .count) n (p .steps-place .result) (p .steps-place .ensures) in
     let same : length (stepsOf file) ≡ a .count = same-steps file (a .count) n in
-    end-laid (a .room .now) (recordsFrom site (roofsOf file) 0 now (a .on .now) (stepsOf file)) (w .along .last .1 .1 .1 .1 .1 .1 .1 .1 .1 .1 .0) (e .put-end .last .0)
+    end-laid (a .room .now) (recordsFrom site (roofsOf file) 0 now (a .on .now) (stepsOf file)) (w .along .last .1 .1 .1 .1 .1 .1 .1 .1 .0) (e .put-end .last .0)
     ((40 * length (a .requests .now) + 29 * length (a .on .now)) * a .count) (a .count) (length (stepsOf file))
     (records-length site (roofsOf file) 0 now (a .on .now) (stepsOf file) ∙ ap₂ _*_ (sym (sized s)) same)
     same

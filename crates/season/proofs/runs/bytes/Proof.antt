@@ -25,7 +25,10 @@ mul-size : tie.Need-mul-size
 mul-size c = let s = c .before .before .before in omega (arith, few-roofs (s .args .file .now) (s .args .count) (s .pre), c .roofs .ensures)
 
 add-size : tie.Need-add-size
-add-size c = let s = c .before .before .before in omega (arith, few-units (s .args .file .now) (s .args .count) (s .pre), c .before .units .ensures, few-roofs (s .args .file .now) (s .args .count) (s .pre), c .roofs .ensures)
+add-size c =
+    let s = c .before .before .before in
+    let a = s .args in
+    omega (arith, few-units (a .file .now) (a .count) (s .pre), c .before .units .ensures, few-roofs (a .file .now) (a .count) (s .pre), c .roofs .ensures)
 
 mul-result : tie.Need-mul-result
 mul-result c = omega (arith, small c)

@@ -71,8 +71,18 @@ write-with-requires c κs =
     let e = u .units .ensures in
     let d = r .roofs .ensures in
     let l = few u in
-    let m = fewer r in
-    (n, (record { rows-there = simp length-take (omega (arith, e, l)); stored-there = simp length-take (omega (arith, e, l)); requests-there = simp length-take (omega (arith, e, l)); flags-there = simp length-take (omega (arith, d, m)) }, f))
+    let m = fewer r in (
+      n,
+      (
+        record {
+          rows-there = simp length-take (omega (arith, e, l));
+          stored-there = simp length-take (omega (arith, e, l));
+          requests-there = simp length-take (omega (arith, e, l));
+          flags-there = simp length-take (omega (arith, d, m));
+        },
+        f,
+      ),
+    )
 
 same-length : tie.Need-same-length
 same-length c = search needs
