@@ -1,10 +1,10 @@
--- The fleet that an accepted file says: a value for each unit in every list, 1 to 64 of them and each in its range; and rows that hold the units are
--- that fleet. Assumes nothing.
+-- The fleet that an accepted file says: a value for each unit in every list, 1 to 64 of them and each in its range, their connections with them; and rows
+-- that hold the units are that fleet. Assumes nothing.
 use mathlib.Core.Path.{_≡_, refl, sym, ap, ap₂, _∙_}
 use mathlib.Core.Bool.{Bool, true, false, _&&_}
 use mathlib.Core.List.{List, map}
 use Prim.Native.Nat.{ℕ, zero, suc, _≤_, _<_}
-use native.Mathlib.Nat.{le-refl, le-step}
+use native.Mathlib.Nat.{le-refl, le-step, le-trans, le-of-eq}
 use lib.ListN.{length, getD, length-map, List·getD-map}
 use borrow.Author.Tests.{le-leb, eq-eqb}
 use Rattle.whole.specs.Over.{allOf}
@@ -14,7 +14,7 @@ use Rattle.unit.specs.Ranges.{memberIn, unitIn}
 use Rattle.rows.specs.Rows.{unitsBy, storesBy}
 use Rattle.members.specs.Ranges.{fleetFor, memberAt, lengthsOk, lengthsIn}
 use Rattle.members.specs.Posts.{fleetBy}
-use Rattle.controller.proofs.SoundLaws.{same-lengths}
+use Rattle.controller.proofs.SoundLaws.{same-lengths, everywhere}
 use Rattle.site.specs.Site.{noUnit, count, unitOf}
 use Rattle.stick.specs.Site.{siteOf}
 use Rattle.stick.specs.Posts.{Accepted}
@@ -69,6 +69,9 @@ module _ (file : List ℕ) where
   long : (value : Unit → ℕ) → length (map value (siteOf file .units)) ≡ count (siteOf file)
   long value = length-map (siteOf file .units) value
 
+  pub links-long : length (fleetSaid file .link) ≡ length (fleetSaid file .rated)
+  links-long = long (λ (u : Unit). u .link) ∙ sym (long (λ (u : Unit). u .rated))
+
   lists-long : (n : ℕ) → n ≡ count (siteOf file) → lengthsIn (fleetSaid file) n ≡ lengthsOk n n n n n n
   lists-long n e =
       let rated = long (λ (u : Unit). u .rated) ∙ sym e in
@@ -83,7 +86,7 @@ module _ (file : List ℕ) where
   other-length n other = go (lengthsIn (fleetSaid file) n) refl
     where
       go : (b : Bool) → lengthsIn (fleetSaid file) n ≡ b → b ≡ false
-      go true e = absurd (other (sym (same-lengths (fleetSaid file) n e .rated) ∙ long (λ (u : Unit). u .rated)))
+      go true e = absurd (other (sym (same-lengths (fleetSaid file) n e links-long .rated) ∙ long (λ (u : Unit). u .rated)))
       go false e = refl
 
   -- ---- rows with the file's units, and a list of what they hold
@@ -101,3 +104,8 @@ module _ (file : List ℕ) where
     members-in n e =
         ap (λ (k : ℕ). allOf k (memberAt (fleetSaid file))) e
         ∙ all-of (count (siteOf file)) (memberAt (fleetSaid file)) (λ i l. member-is i ∙ member-in (unitOf (siteOf file) i) (sited file z .units i l))
+
+    pub links-small : (i : ℕ) → getD (fleetSaid file .link) i 0 ≤ 120000
+    links-small =
+        let link : Unit → ℕ = λ (u : Unit). u .link in
+        everywhere (map link (siteOf file .units)) (count (siteOf file)) 120000 (long link) (λ i l. le-trans (le-of-eq (value-at link refl i)) (sited file z .links i l))

@@ -1,10 +1,10 @@
 -- What is said of a file, by the check's number: of an accepted file what it says, of any other nothing or the number. Assumes nothing.
-use mathlib.Core.Path.{_≡_, sym, ap, _∙_}
-use mathlib.Core.Bool.{Bool, true, false, cond}
-use mathlib.Core.List.{List}
-use Prim.Native.Nat.{ℕ, _≤_, _<_}
-use lib.ListN.{length}
-use lib.Dec.{ltb, eqb}
+use mathlib.Core.Path.{_≡_, refl, sym, ap, ap₂, _∙_}
+use mathlib.Core.Bool.{Bool, true, false, cond, _&&_}
+use mathlib.Core.List.{List, [], _∷_}
+use Prim.Native.Nat.{ℕ, _+_, _≤_, _<_}
+use lib.ListN.{length, getD}
+use lib.Dec.{leb, ltb, eqb}
 use lib.IntN.{ℤ}
 use borrow.Author.Tests.{eq-eqb, ne-eqb, lt-ltb, le-ltb}
 use Rattle.unit.specs.declared.Unit.{Unit}
@@ -15,12 +15,17 @@ use Rattle.site.specs.declared.Head.{Head}
 use Rattle.site.specs.Site.{count, unitOf}
 use Rattle.stick.specs.declared.Answer.{Answer}
 use Rattle.stick.specs.Check.{checkOf}
-use Rattle.stick.specs.Site.{siteOf, roofsOf}
-use Rattle.stick.specs.Posts.{Accepted}
+use Rattle.stick.specs.Site.{connectionsOf, valueOfFirst, siteOf, roofsOf}
+use Rattle.stick.specs.Posts.{Accepted, connectionsPlace, connected}
+use Rattle.stick.proofs.SiteProved.{walk-accepted, connections-picked}
+use Rattle.parts.specs.Header.{header}
+use Rattle.fields.specs.Fields.{phasesIn, voltsIn}
+use Rattle.ask.specs.declared.ConnectionAnswer.{ConnectionAnswer}
+use Rattle.ask.specs.declared.ConnectionAnswer.the-variants.{ConnectionSaid, ConnectionRefused}
 use Rattle.ask.specs.declared.HeadAnswer.the-variants.{HeadSaid, HeadRefused}
 use Rattle.ask.specs.declared.UnitAnswer.{UnitAnswer}
 use Rattle.ask.specs.declared.UnitAnswer.the-variants.{UnitSaid, UnitRefused}
-use Rattle.ask.specs.Says.{unitsSaid, invertersSaid, secondsSaid, headAnswer, unitAnswer, fleetSaid, trialSaid, fileStudy, fileStudyLeaves}
+use Rattle.ask.specs.Says.{unitsSaid, invertersSaid, secondsSaid, headAnswer, unitAnswer, connectionOf, connectionAnswer, fleetSaid, trialSaid, fileStudy, fileStudyLeaves}
 
 -- a choice by whether a number is 0
 abbrev byNumber {ℓ} : {X : Type ℓ} → ℕ → X → X → X
@@ -66,6 +71,12 @@ module _ (file : List ℕ) (a : Answer) (is : a ≡ checkOf file) where
         ap UnitRefused number-is
         ∙ sym (other-number (checkOf file .number) (cond (ltb i (count (siteOf file))) (UnitSaid (unitOf (siteOf file) i)) (UnitRefused 10)) (UnitRefused (checkOf file .number)) refused)
 
+    pub no-connection : (i : ℕ) → ConnectionRefused (a .number) ≡ connectionAnswer file i
+    unfolding connectionAnswer
+    no-connection i =
+        let said = cond (ltb i (count (siteOf file)) && leb 1 (length (connectionsOf file))) (ConnectionSaid (connectionOf file i)) (ConnectionRefused 10) in
+        ap ConnectionRefused number-is ∙ sym (other-number (checkOf file .number) said (ConnectionRefused (checkOf file .number)) refused)
+
     pub no-study : (load : ℤ) (budget : ℕ) (rs : List ℤ) → (StudyRefused (a .number) ≡ fileStudy file load budget rs) × (rs ≡ fileStudyLeaves file load budget rs)
     unfolding fileStudy fileStudyLeaves
     no-study load budget rs = (
@@ -106,6 +117,45 @@ module _ (file : List ℕ) (z : Accepted file) where
 
   pub unit-outside : (i : ℕ) → count (siteOf file) ≤ i → UnitRefused 10 ≡ unitAnswer file i
   unit-outside i l = answered i false (le-ltb i (count (siteOf file)) l)
+
+  -- a unit's connection, by its number and by whether the file has connections: they stand where the code looks for them
+  there-is : (b : Bool) → connected file ≡ b → connectionsOf file ≡ cond b (connectionsPlace file ∷ []) []
+  unfolding connectionsOf
+  there-is b e = connections-picked file (walk-accepted file z) ∙ ap (λ (c : Bool). cond c (connectionsPlace file ∷ []) []) e
+
+  place-is : connected file ≡ true → valueOfFirst 10 file ≡ connectionsPlace file + header
+  unfolding connectionsOf
+  place-is e = ap (λ (ats : List ℕ). getD ats 0 0 + header) (there-is true e)
+
+  has-some : (b : Bool) → connected file ≡ b → leb 1 (length (connectionsOf file)) ≡ b
+  has-some true e = ap (λ (ats : List ℕ). leb 1 (length ats)) (there-is true e)
+  has-some false e = ap (λ (ats : List ℕ). leb 1 (length ats)) (there-is false e)
+
+  abbrev joined : ℕ → Bool → ConnectionAnswer
+  joined i b = cond b (ConnectionSaid (connectionOf file i)) (ConnectionRefused 10)
+
+  told : (i : ℕ) (b : Bool) → (ltb i (count (siteOf file)) && leb 1 (length (connectionsOf file))) ≡ b → joined i b ≡ connectionAnswer file i
+  unfolding connectionAnswer
+  told i b e =
+      let inside : Bool = ltb i (count (siteOf file)) && leb 1 (length (connectionsOf file)) in
+      sym (zero-number (checkOf file .number) (joined i inside) (ConnectionRefused (checkOf file .number)) (z .complete) ∙ ap (joined i) e)
+
+  pub connection-said : (i : ℕ) → i < count (siteOf file) → connected file ≡ true → (phases volts : ℕ)
+      → phases ≡ phasesIn file (connectionsPlace file + header) i → volts ≡ voltsIn file (connectionsPlace file + header) i
+      → ConnectionSaid (record { phases = phases; volts = volts }) ≡ connectionAnswer file i
+  unfolding connectionOf
+  connection-said i l e phases volts ep ev =
+      let at = sym (place-is e) in
+      let phases-are = ep ∙ ap (λ (v : ℕ). phasesIn file v i) at in
+      let volts-are = ev ∙ ap (λ (v : ℕ). voltsIn file v i) at in
+      (λ k. ConnectionSaid (record { phases = phases-are k; volts = volts-are k }))
+      ∙ told i true (ap₂ _&&_ (lt-ltb i (count (siteOf file)) l) (has-some true e))
+
+  pub connection-outside : (i : ℕ) → count (siteOf file) ≤ i → ConnectionRefused 10 ≡ connectionAnswer file i
+  connection-outside i l = told i false (ap (λ (b : Bool). b && leb 1 (length (connectionsOf file))) (le-ltb i (count (siteOf file)) l))
+
+  pub none-connected : (i : ℕ) → i < count (siteOf file) → connected file ≡ false → ConnectionRefused 10 ≡ connectionAnswer file i
+  none-connected i l e = told i false (ap₂ _&&_ (lt-ltb i (count (siteOf file)) l) (has-some false e))
 
   -- a study of the file is a study of its fleet
   pub study-said : (load : ℤ) (budget : ℕ) (rs after : List ℤ) (r : StudyAnswer)

@@ -21,7 +21,7 @@ use Rattle.stick.specs.Posts.{Accepted}
 use Rattle.ask.specs.Says.{fleetSaid, trialSaid, fileStudy, fileStudyLeaves}
 use Rattle.ask.specs.Posts.{Studying, Surveyed}
 use Rattle.ask.proofs.SaysLaws.{study-said}
-use Rattle.ask.proofs.FleetLaws.{other-length, own-length, members-in}
+use Rattle.ask.proofs.FleetLaws.{links-long, other-length, own-length, members-in, links-small}
 
 and-true : (a b : Bool) → b ≡ true → a ≡ (a && b)
 and-true true b e = sym e
@@ -31,7 +31,7 @@ and-true false b e = refl
 pub file-trying : (file : List ℕ) (q : Trial) (rs : List ℤ) → Studying file q rs → Trying q (fleetSaid file) (length rs)
 file-trying file q rs p =
     let ok = members-in file (p .accepted) (length rs) (p .requests-there) in
-    trying q (fleetSaid file) (length rs) (own-length file (p .accepted) (length rs) (p .requests-there)) (trialIn q) (and-true (trialIn q) (allOf (length rs) (memberAt (fleetSaid file))) ok)
+    trying q (fleetSaid file) (links-long file) (links-small file (p .accepted)) (length rs) (own-length file (p .accepted) (length rs) (p .requests-there)) (trialIn q) (and-true (trialIn q) (allOf (length rs) (memberAt (fleetSaid file))) ok)
     (ap not (p .trial))
 
 -- the trial that the code makes of the head's settings and of the call's numbers

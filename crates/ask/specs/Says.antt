@@ -1,9 +1,9 @@
--- What a file says, asked of any bytes (rules C8 to C12 and C18): of an accepted file its number of units and of inverters, its seconds, its head, a unit, and the study over its
--- fleet; of any other file nothing, or the check's refusal.
+-- What a file says, asked of any bytes (rules C8 to C12, C18 and C31): of an accepted file its number of units and of inverters, its seconds, its head, a unit, a unit's
+-- connection, and the study over its fleet; of any other file nothing, or the check's refusal.
 use Prim.Native.Nat.{ℕ}
-use mathlib.Core.Bool.{cond}
+use mathlib.Core.Bool.{cond, _&&_}
 use mathlib.Core.List.{List, map}
-use lib.Dec.{ltb, eqb}
+use lib.Dec.{leb, ltb, eqb}
 use lib.IntN.{ℤ}
 use lib.ListN.{length}
 use Rattle.whole.specs.Call.{Call, Gave, Refused, Refusal}
@@ -17,7 +17,12 @@ use Rattle.settling.specs.Answers.{studyAnswer, studyLeaves}
 use Rattle.site.specs.declared.Head.{Head}
 use Rattle.site.specs.Site.{count, unitOf}
 use Rattle.stick.specs.Check.{checkOf}
-use Rattle.stick.specs.Site.{siteOf, roofsOf}
+use Rattle.octets.specs.BigEndian.{be}
+use Rattle.fields.specs.Fields.{phasesIn, voltsIn}
+use Rattle.stick.specs.Site.{placesOf, having, valueOfFirst, connectionsOf, siteOf, roofsOf}
+use Rattle.ask.specs.declared.Connection.{Connection}
+use Rattle.ask.specs.declared.ConnectionAnswer.{ConnectionAnswer}
+use Rattle.ask.specs.declared.ConnectionAnswer.the-variants.{ConnectionSaid, ConnectionRefused}
 use Rattle.ask.specs.declared.HeadAnswer.{HeadAnswer}
 use Rattle.ask.specs.declared.HeadAnswer.the-variants.{HeadSaid, HeadRefused}
 use Rattle.ask.specs.declared.UnitAnswer.{UnitAnswer}
@@ -66,6 +71,22 @@ unitAnswer file i =
 abbrev pub unitCall : List ℕ → UnitAnswer → Call Unit
 unitCall file (UnitSaid u) = Gave u
 unitCall file (UnitRefused n) = Refused (refusalOver file n)
+
+-- a unit's connection, or the check's number, or 10 for a number outside the fleet or where the file has no connections
+unfoldable pub connectionOf : List ℕ → ℕ → Connection
+unfolding placesOf having be
+connectionOf file i = record { phases = phasesIn file (valueOfFirst 0x0A file) i; volts = voltsIn file (valueOfFirst 0x0A file) i }
+
+unfoldable pub connectionAnswer : List ℕ → ℕ → ConnectionAnswer
+unfolding checkOf siteOf connectionsOf connectionOf
+connectionAnswer file i =
+    let said = ConnectionSaid (connectionOf file i) in
+    cond (eqb (checkOf file .number) 0)
+    (cond (ltb i (count (siteOf file)) && leb 1 (length (connectionsOf file))) said (ConnectionRefused 10)) (ConnectionRefused (checkOf file .number))
+
+abbrev pub connectionCall : List ℕ → ConnectionAnswer → Call Connection
+connectionCall file (ConnectionSaid c) = Gave c
+connectionCall file (ConnectionRefused n) = Refused (refusalOver file n)
 
 -- ---- the study over a file's fleet, with what its units hold, and its settings: the check's number, then as a study without a file
 abbrev pub fleetSaid : List ℕ → Fleet

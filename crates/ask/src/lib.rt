@@ -3,6 +3,7 @@
 mod says;
 mod studies;
 
+pub use says::connection_of;
 pub use says::head;
 pub use says::inverters;
 pub use says::seconds;
@@ -16,6 +17,18 @@ use unit::Unit;
 pub enum HeadAnswer {
     HeadSaid(Head),
     HeadRefused(u8),
+}
+
+// A unit's connection: its phases, and its volts from phase to neutral.
+pub struct Connection {
+    pub phases: u8,
+    pub volts: u16,
+}
+
+// The connection of a unit of a file, or the check's number, or 10.
+pub enum ConnectionAnswer {
+    ConnectionSaid(Connection),
+    ConnectionRefused(u8),
 }
 
 // A unit of a file, or the check's number, or 10.

@@ -1,5 +1,7 @@
 ghost use mathlib.Core.Path.{_≡_};
-ghost use Rattle.ask.specs.Says.{unitsSaid, invertersSaid, secondsSaid, headAnswer, unitAnswer};
+ghost use Rattle.ask.specs.Says.{unitsSaid, invertersSaid, secondsSaid, headAnswer, unitAnswer, connectionAnswer};
+use super::Connection;
+use super::ConnectionAnswer;
 use super::HeadAnswer;
 use super::UnitAnswer;
 
@@ -57,4 +59,25 @@ pub fn unit(file: &[u8], i: u32) -> UnitAnswer
         return UnitAnswer::UnitSaid(stick::unit(file, place));
     }
     UnitAnswer::UnitRefused(10)
+}
+
+// The connection of unit i of a file.
+pub fn connection_of(file: &[u8], i: u32) -> ConnectionAnswer
+    ensures { λ r. ⌜ r ≡ connectionAnswer (now (file .entry)) i ⌝ }
+{
+    let n = stick::check(file).number;
+    if n != 0 {
+        return ConnectionAnswer::ConnectionRefused(n);
+    }
+    let place = i as usize;
+    if stick::units(file) <= place {
+        return ConnectionAnswer::ConnectionRefused(10);
+    }
+    if !stick::is_connected(file) {
+        return ConnectionAnswer::ConnectionRefused(10);
+    }
+    ConnectionAnswer::ConnectionSaid(Connection {
+        phases: stick::phases(file, place),
+        volts: stick::volts(file, place),
+    })
 }

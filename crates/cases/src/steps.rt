@@ -24,6 +24,7 @@ pub fn step(v: &[u8]) {
         provide: octets::u32_at(v, 32),
         absorb: octets::u32_at(v, 32),
         grid_loss: 0,
+        link: 0,
     };
     tell(storage::step(u, octets::u32_at(v, 0), octets::i32_at(v, 53)));
 }

@@ -16,7 +16,7 @@ use Rattle.octets.specs.BigEndian.{be}
 use Rattle.reading.specs.declared.Watts.{Watts}
 use Rattle.reading.specs.declared.Watts.the-variants.{Whole, Refused}
 use Rattle.reading.specs.Choice.{usableOf, refusalOf}
-use Rattle.reading.specs.Conversion.{wattsOf}
+use Rattle.reading.specs.Conversion.{wattsOf, milliOf}
 use Rattle.curve.specs.Layout.{curveIn}
 use Rattle.unit.specs.Ranges.{unitIn}
 use Rattle.rules.specs.Ranges.{settingsIn}
@@ -28,12 +28,12 @@ use Rattle.parts.specs.Header.{header, tagAt, lengthAt, past}
 use Rattle.fields.specs.declared.State.{State}
 use Rattle.fields.specs.declared.Taken.{Taken}
 use Rattle.fields.specs.declared.Taken.the-variants.{Stop}
-use Rattle.fields.specs.Fields.{kinds, sizeIn, sizeOf, headOf, allowed, fleetIn, unitAt, settingsAt, phaseAt, phasesAt, inverterAt, boundsFor, weatherAt, sixUnless, fiveUnless, valueOf, tooMany, refusedBy, takenBy}
-use Rattle.fields.proofs.FieldLaws.{size-else}
+use Rattle.fields.specs.Fields.{kinds, sizeIn, sizeOf, headOf, allowed, fleetIn, unitAt, settingsAt, phaseAt, phasesAt, inverterAt, boundsFor, weatherAt, sixUnless, fiveUnless, valueOf, tooMany, refusedBy, takenBy, connectionsIn}
+use Rattle.fields.proofs.FieldLaws.{by-tag, size-else}
 use Rattle.stick.specs.Check.{fieldAt}
 use Rattle.stick.proofs.WalkLaws.{field-stops, field-goes, Headed, headed}
 use Rattle.chunks.specs.Sizes.{largest}
-use Rattle.chunks.proofs.SameLaws.{Same, same-from, same-less, tag-same, length-same, by-tag, taken-same}
+use Rattle.chunks.proofs.SameLaws.{Same, same-from, same-less, tag-same, length-same, taken-same}
 
 -- ---- the bytes of a list behind another, and before another
 pub same-behind : (a b : List ℕ) (i n : ℕ) → Same (a ++ b) b (length a + i) i n
@@ -46,13 +46,17 @@ same-before a b i n h k l = sym (List·getD-append a b 0 (i + k) (omega arith))
 abbrev most : ℕ
 most = largest - header
 
-pub size-most : (st : State) (tag : ℕ) → (sizeOf st tag ≤ most) ⊎ (sizeOf st tag ≡ 65536)
+-- of a state with at most 64 units
+abbrev pub Few : State → Type 0
+Few st = st .units ≤ 64
+
+pub size-most : (st : State) → Few st → (tag : ℕ) → (sizeOf st tag ≤ most) ⊎ (sizeOf st tag ≡ 65536)
 unfolding sizeOf kinds sizeIn
-size-most st tag =
+size-most st few tag =
     by-tag (λ (t : ℕ). (sizeOf st t ≤ most) ⊎ (sizeOf st t ≡ 65536)) tag
     (inl (lit≤ tt)) (inl (by-test (λ (n : ℕ). n ≤ most) (leb 2 (st .edition)) 57 49 (λ t. lit≤ tt) (λ t. lit≤ tt)))
-    (inl (lit≤ tt)) (inl (lit≤ tt)) (inl (lit≤ tt)) (inl (lit≤ tt)) (inl (lit≤ tt)) (inl (lit≤ tt))
-    (λ n. subst⁻¹ (λ (k : ℕ). (k ≤ most) ⊎ (k ≡ 65536)) (size-else st tag (n .n₁) (n .n₂) (n .n₃) (n .n₄) (n .n₅) (n .n₆) (n .n₇) (n .n₈)) (last (eqb tag 127)))
+    (inl (lit≤ tt)) (inl (lit≤ tt)) (inl (lit≤ tt)) (inl (lit≤ tt)) (inl (lit≤ tt)) (inl (lit≤ tt)) (inl (lit≤ tt)) (inl (omega arith))
+    (λ n. subst⁻¹ (λ (k : ℕ). (k ≤ most) ⊎ (k ≡ 65536)) (size-else st tag n) (last (eqb tag 127)))
   where
     last : (b : Bool) → (cond b 4 65536 ≤ most) ⊎ (_≡_ {A = ℕ} (cond b 4 65536) 65536)
     last true = inl (lit≤ tt)
@@ -83,12 +87,16 @@ module _ (st : State) (tag : ℕ) (file : List ℕ) (at : ℕ) where
       by-test NotOne (eqb tag 1) _ _ (λ t. five-not-one (fleetIn file at))
       (λ t. by-test NotOne (eqb tag 2) _ _ (λ t. five-not-one (unitIn (unitAt (st .edition) file at)))
       (λ t. by-test NotOne (eqb tag 3) _ _ (λ t. five-not-one (settingsIn (settingsAt file at) && leb (phaseAt file at) 5))
-      (λ t. by-test NotOne (eqb tag 4) _ _ (λ t. usable-not-one (wattsOf (phasesAt file at .first)) (wattsOf (phasesAt file at .second)) (wattsOf (phasesAt file at .third)))
+      (λ t. by-test NotOne (eqb tag 4) _ _
+      (λ t. by-test NotOne (st .current) _ _ (λ t e. omega arith) (λ t. usable-not-one (wattsOf (phasesAt file at .first)) (wattsOf (phasesAt file at .second)) (wattsOf (phasesAt file at .third))))
       (λ t. by-test NotOne (eqb tag 5) _ _ (λ t e. omega arith)
       (λ t. by-test NotOne (eqb tag 6) _ _ (λ t. five-not-one (inverterIn (inverterAt file at)))
       (λ t. by-test NotOne (eqb tag 7) _ _ (λ t. five-not-one (curveIn (boundsFor st) file at))
       (λ t. by-test NotOne (eqb tag 8) _ _ (λ t. six-not-one (skyOf (weatherAt file at)))
-      (λ t. by-test NotOne (eqb (be 4 file at) (st .steps)) 0 7 (λ t e. omega arith) (λ t e. omega arith)))))))))
+      (λ t. by-test NotOne (eqb tag 9) _ _
+      (λ t. by-test NotOne (st .current) _ _ (λ t. usable-not-one (milliOf (phasesAt file at .first)) (milliOf (phasesAt file at .second)) (milliOf (phasesAt file at .third))) (λ t e. omega arith))
+      (λ t. by-test NotOne (eqb tag 10) _ _ (λ t. five-not-one (connectionsIn (st .units) file at))
+      (λ t. by-test NotOne (eqb (be 4 file at) (st .steps)) 0 7 (λ t e. omega arith) (λ t e. omega arith)))))))))))
 
   pub refused-not-one : refusedBy st tag file at ≡ 1 → ⊥
   unfolding refusedBy
@@ -233,8 +241,8 @@ module _ (st : State) (a b : List ℕ) (i : ℕ) where
       not-cut (inr c) = let l = c .1 .1 in omega (arith, length-at-append a b i (omega arith))
 
 -- ---- a field that is cut has fewer bytes than the largest field
-pub head-cut-short : (st : State) (a : List ℕ) (i : ℕ) → headOf st a i ≡ 1 → length a < i + largest
-head-cut-short st a i e = go (test-cut (sizeOf st (tagAt a i)) (lengthAt a i) (length a - i) (sym (head-by st a i) ∙ e)) (size-most st (tagAt a i))
+pub head-cut-short : (st : State) → Few st → (a : List ℕ) (i : ℕ) → headOf st a i ≡ 1 → length a < i + largest
+head-cut-short st few a i e = go (test-cut (sizeOf st (tagAt a i)) (lengthAt a i) (length a - i) (sym (head-by st a i) ∙ e)) (size-most st few (tagAt a i))
   where
     go : Cut (length a - i) (sizeOf st (tagAt a i)) (lengthAt a i)
         → (sizeOf st (tagAt a i) ≤ most) ⊎ (sizeOf st (tagAt a i) ≡ 65536) → length a < i + largest
@@ -242,13 +250,13 @@ head-cut-short st a i e = go (test-cut (sizeOf st (tagAt a i)) (lengthAt a i) (l
     go (inr c) (inl m) = let s = c .1 .0 in let l = c .1 .1 in omega arith
     go (inr c) (inr m) = absurd (c .0 m)
 
-pub field-take : (st : State) (b : List ℕ) (i n : ℕ) → i + largest ≤ n → fieldAt st (take n b) i ≡ fieldAt st b i
-field-take st b i n h = go (leb (length b) n) refl
+pub field-take : (st : State) → Few st → (b : List ℕ) (i n : ℕ) → i + largest ≤ n → fieldAt st (take n b) i ≡ fieldAt st b i
+field-take st few b i n h = go (leb (length b) n) refl
   where
     go : (t : Bool) → leb (length b) n ≡ t → fieldAt st (take n b) i ≡ fieldAt st b i
     go true e = ap (λ (l : List ℕ). fieldAt st l i) (take-all n b (leb-true (length b) n e))
     go false e =
         let l : n < length b = leb-false (length b) n e in
         let long : length (take n b) ≡ n = length-take-le n b (omega arith) in
-        sym (field-whole st (take n b) (drop n b) i (λ c. let s = head-cut-short st (take n b) i c in omega arith))
+        sym (field-whole st (take n b) (drop n b) i (λ c. let s = head-cut-short st few (take n b) i c in omega arith))
         ∙ ap (λ (l : List ℕ). fieldAt st l i) (take-append-drop n b)

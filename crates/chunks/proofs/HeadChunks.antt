@@ -1,7 +1,7 @@
 -- Where the fields before the steps end, where a list of bytes that ends between two fields is followed by another; and how far that can be: the fields
 -- before the steps have at most `headMost` bytes. Assumes nothing.
 use mathlib.Core.Path.{_≡_, refl, sym, ap, ap₂, _∙_, subst, subst⁻¹}
-use mathlib.Core.Bool.{Bool, true, false, cond, _&&_}
+use mathlib.Core.Bool.{Bool, true, false, not, cond}
 use mathlib.Core.List.{List, _++_}
 use mathlib.Core.Logic.{_⊎_, inl, inr}
 use Prim.Native.Nat.{ℕ, zero, suc, _+_, _-_, _*_, _≤_, _<_}
@@ -9,24 +9,22 @@ use native.Mathlib.Omega.{arith}
 use lib.Dec.{leb, eqb, lit≤}
 use lib.ListN.{length, length-append}
 use borrow.Author.Tests.{le-leb, lt-leb, leb-true, leb-false, eqb-true, eqb-false}
-use Rattle.whole.specs.Interval.{between}
 use Rattle.whole.proofs.Choice.{by-test, passed-failed}
 use Rattle.whole.proofs.OverLaws.{and-parts}
 use Rattle.octets.specs.BigEndian.{be}
-use Rattle.unit.specs.Ranges.{secondsIn, editionIn}
+use Rattle.rules.specs.Rules.{byCurrent}
 use Rattle.parts.specs.Header.{header, tagAt, lengthAt, past}
 use Rattle.fields.specs.declared.State.{State}
 use Rattle.fields.specs.declared.Taken.the-variants.{Next}
-use Rattle.fields.specs.Fields.{atFleet, atUnits, atSettings, atInverters, atTemperature, atEfficiency, kinds, sizeIn, sizeOf, standsIn, allowed, fleetIn, valueOf, stateOf, goneTo, roofAfter, stateAfter}
-use Rattle.fields.proofs.FieldLaws.{stands-nowhere, fleet-alone, units-alone, settings-alone, warm-alone, efficiency-alone}
+use Rattle.fields.specs.Fields.{atFleet, atUnits, atSettings, atInverters, atTemperature, atEfficiency, atConnections, kinds, sizeIn, sizeOf, standsIn, allowed, fleetIn, valueOf, stateOf, goneTo, roofAfter, stateAfter}
+use Rattle.fields.proofs.FieldLaws.{NoTag, by-tag, stands-nowhere, fleet-alone, units-alone, settings-alone, warm-alone, efficiency-alone}
 use Rattle.stick.specs.Check.{fieldAt, reachOf, start}
 use Rattle.stick.specs.Site.{ofSteps, headFrom}
 use Rattle.stick.proofs.WalkLaws.{Headed, field-cases}
 use Rattle.stick.proofs.SaidLaws.{free-parts, accepted-test}
-use Rattle.chunks.specs.Sizes.{headMost}
-use Rattle.chunks.proofs.SameLaws.{NoTag, by-tag}
-use Rattle.chunks.proofs.FieldChunks.{tag-shift, past-shift}
-use Rattle.chunks.proofs.ReachChunks.{over-shift, Went, there, passing, far, far-gone, far-all}
+use Rattle.chunks.specs.Sizes.{largest, headMost}
+use Rattle.chunks.proofs.FieldChunks.{Few, tag-shift, past-shift}
+use Rattle.chunks.proofs.ReachChunks.{fleet-counts, over-shift, Went, there, passing, far, far-gone, far-all}
 use Rattle.chunks.proofs.PlaceChunks.{Whole, whole-end, whole-field, at-end, there-tag, there-past}
 
 -- ---- one field after another, with fields enough allowed
@@ -122,49 +120,57 @@ module _ (a b : List ℕ) where
 -- ---- where a field before the steps stands at most, by the stage and by what is still to come
 pub data Placed : State → ℕ → Type 0 where
   fleet : {st : State} {i : ℕ} → st .stage ≡ atFleet → i ≡ 0 → Placed st i
-  units : {st : State} {i : ℕ} → st .stage ≡ atUnits → 1 ≤ st .left → i + 60 * st .left ≤ 3849 → Placed st i
-  settings : {st : State} {i : ℕ} → st .stage ≡ atSettings → i ≤ 3849 → Placed st i
+  units : {st : State} {i : ℕ} → st .stage ≡ atUnits → Few st → 1 ≤ st .left → i + 60 * st .left ≤ 3849 → Placed st i
+  settings : {st : State} {i : ℕ} → st .stage ≡ atSettings → Few st → i ≤ 3849 → Placed st i
+  connections : {st : State} {i : ℕ} → st .stage ≡ atConnections → Few st → i + 286 * st .left + largest ≤ headMost → Placed st i
   inverters : {st : State} {i : ℕ} → st .stage ≡ atInverters → i + 286 * st .left ≤ headMost → Placed st i
   warm : {st : State} {i : ℕ} → st .stage ≡ atTemperature → i + 286 * st .left + 264 ≤ headMost → Placed st i
   efficiency : {st : State} {i : ℕ} → st .stage ≡ atEfficiency → i + 286 * st .left + 132 ≤ headMost → Placed st i
 
 placed-most : {st : State} {i : ℕ} → Placed st i → i ≤ headMost
 placed-most (fleet e z) = omega arith
-placed-most (units e l h) = omega arith
-placed-most (settings e h) = omega arith
+placed-most (units e few l h) = omega arith
+placed-most (settings e few h) = omega arith
+placed-most (connections e few h) = omega arith
 placed-most (inverters e h) = omega arith
 placed-most (warm e h) = omega arith
 placed-most (efficiency e h) = omega arith
 
--- at the stage of the inverters a tag that no step has is an inverter's, and one may still come
-inverter-alone : (edition count left steps tag : ℕ) → allowed (stateOf atInverters edition count left steps) tag ≡ true → ofSteps tag ≡ false → (tag ≡ 6) × (1 ≤ left)
-unfolding allowed kinds standsIn
-inverter-alone edition count left steps tag =
-    by-tag (λ (t : ℕ). allowed (stateOf atInverters edition count left steps) t ≡ true → ofSteps t ≡ false → (t ≡ 6) × (1 ≤ left)) tag
-    (λ a o. absurd (passed-failed a refl)) (λ a o. absurd (passed-failed a refl)) (λ a o. absurd (passed-failed a refl))
-    (λ a o. absurd (passed-failed refl o)) (λ a o. absurd (passed-failed refl o))
-    (λ a o. (refl, leb-true 1 left a))
-    (λ a o. absurd (passed-failed a refl)) (λ a o. absurd (passed-failed refl o))
-    (λ n a o. absurd (go (eqb tag 127) refl n a o))
+-- a tag that no step has and that the table does not name, before 7F, stands nowhere
+no-other-tag : (st : State) (tag : ℕ) → NoTag tag → allowed st tag ≡ true → ofSteps tag ≡ false → ⊥
+no-other-tag st tag n a o = go (eqb tag 127) refl
   where
-    go : (b : Bool) → eqb tag 127 ≡ b → NoTag tag → allowed (stateOf atInverters edition count left steps) tag ≡ true → ofSteps tag ≡ false → ⊥
-    go true e n a o = passed-failed (ap ofSteps (eqb-true tag 127 e)) o
-    go false e n a o = passed-failed a (sym (stands-nowhere (stateOf atInverters edition count left steps) tag (n .n₁) (n .n₂) (n .n₃) (n .n₄) (n .n₅) (n .n₆) (n .n₇) (n .n₈) (eqb-false tag 127 e)))
+    go : (b : Bool) → eqb tag 127 ≡ b → ⊥
+    go true e = passed-failed (ap ofSteps (eqb-true tag 127 e)) o
+    go false e = passed-failed a (sym (stands-nowhere st tag n (eqb-false tag 127 e)))
+
+-- at the stage of the inverters a tag that no step has is an inverter's, and one may still come; at that of the connections it is theirs, or so too
+module _ (edition count left steps : ℕ) (current : Bool) (tag : ℕ) where
+  inverter-alone : allowed (stateOf atInverters edition count left steps current) tag ≡ true → ofSteps tag ≡ false → (tag ≡ 6) × (1 ≤ left)
+  unfolding allowed kinds standsIn
+  inverter-alone =
+      by-tag (λ (t : ℕ). allowed (stateOf atInverters edition count left steps current) t ≡ true → ofSteps t ≡ false → (t ≡ 6) × (1 ≤ left)) tag
+      (λ a o. absurd (passed-failed a refl)) (λ a o. absurd (passed-failed a refl)) (λ a o. absurd (passed-failed a refl))
+      (λ a o. absurd (passed-failed refl o)) (λ a o. absurd (passed-failed refl o))
+      (λ a o. (refl, leb-true 1 left a))
+      (λ a o. absurd (passed-failed a refl)) (λ a o. absurd (passed-failed refl o)) (λ a o. absurd (passed-failed refl o)) (λ a o. absurd (passed-failed a refl))
+      (λ n a o. absurd (no-other-tag (stateOf atInverters edition count left steps current) tag n a o))
+
+  connections-or-inverter : allowed (stateOf atConnections edition count left steps current) tag ≡ true → ofSteps tag ≡ false → (tag ≡ 10) ⊎ ((tag ≡ 6) × (1 ≤ left))
+  unfolding allowed kinds standsIn
+  connections-or-inverter =
+      by-tag (λ (t : ℕ). allowed (stateOf atConnections edition count left steps current) t ≡ true → ofSteps t ≡ false → (t ≡ 10) ⊎ ((t ≡ 6) × (1 ≤ left))) tag
+      (λ a o. absurd (passed-failed a refl)) (λ a o. absurd (passed-failed a refl)) (λ a o. absurd (passed-failed a refl))
+      (λ a o. absurd (passed-failed refl o)) (λ a o. absurd (passed-failed refl o))
+      (λ a o. inr (refl, leb-true 1 left (and-parts (not current) (leb 1 left) a .1)))
+      (λ a o. absurd (passed-failed a refl)) (λ a o. absurd (passed-failed refl o)) (λ a o. absurd (passed-failed refl o)) (λ a o. inl refl)
+      (λ n a o. absurd (no-other-tag (stateOf atConnections edition count left steps current) tag n a o))
 
 module _ (file : List ℕ) (st : State) (i : ℕ) where
-  fleet-counts : fleetIn file (i + header) ≡ true → (1 ≤ be 1 file (i + header + 1)) × (be 1 file (i + header + 1) ≤ 64)
-  unfolding fleetIn
-  fleet-counts e =
-      let n = be 1 file (i + header + 1) in
-      let form = editionIn (be 1 file (i + header)) in
-      let both = and-parts (form && between 1 64 n) (secondsIn (be 4 file (i + header + 2))) e in
-      let counted = and-parts (leb 1 n) (leb n 64) (and-parts form (between 1 64 n) (both .0) .1) in
-      (leb-true 1 n (counted .0), leb-true n 64 (counted .1))
-
   -- one field more
   module _ (hd : Headed st file i) (allows : allowed st (tagAt file i) ≡ true) (value : valueOf st (tagAt file i) file (i + header) ≡ 0) (other : ofSteps (tagAt file i) ≡ false) where
-    at-stage : (n : ℕ) → st .stage ≡ n → allowed (stateOf n (st .edition) (st .units) (st .left) (st .steps)) (tagAt file i) ≡ true
-    at-stage n e = ap (λ (n : ℕ). allowed (stateOf n (st .edition) (st .units) (st .left) (st .steps)) (tagAt file i)) (sym e) ∙ allows
+    at-stage : (n : ℕ) → st .stage ≡ n → allowed (stateOf n (st .edition) (st .units) (st .left) (st .steps) (st .current)) (tagAt file i) ≡ true
+    at-stage n e = ap (λ (n : ℕ). allowed (stateOf n (st .edition) (st .units) (st .left) (st .steps) (st .current)) (tagAt file i)) (sym e) ∙ allows
 
     at-tag : (k : ℕ) → tagAt file i ≡ k → (lengthAt file i ≡ sizeOf st k → valueOf st k file (i + header) ≡ 0 → Placed (stateAfter st k file (i + header)) (past file i))
         → Placed (stateAfter st (tagAt file i) file (i + header)) (past file i)
@@ -175,36 +181,42 @@ module _ (file : List ℕ) (st : State) (i : ℕ) where
     unit-most : cond (leb 2 (st .edition)) 57 49 ≤ 57
     unit-most = by-test (λ (n : ℕ). n ≤ 57) (leb 2 (st .edition)) 57 49 (λ t. lit≤ tt) (λ t. lit≤ tt)
 
-    after-unit : st .left ≤ 64 → (b : Bool) → leb (st .left) 1 ≡ b → past file i + 60 * (st .left - 1) ≤ 3849
+    after-unit : Few st → (b : Bool) → leb (st .left) 1 ≡ b → past file i + 60 * (st .left - 1) ≤ 3849
         → Placed (cond b (goneTo st atSettings 0 (st .steps)) (goneTo st atUnits (st .left - 1) (st .steps))) (past file i)
-    after-unit few true e h = settings {st = goneTo st atSettings 0 (st .steps)} {i = past file i} refl (omega arith)
-    after-unit few false e h = let l : 1 < st .left = leb-false (st .left) 1 e in units {st = goneTo st atUnits (st .left - 1) (st .steps)} refl (omega arith) h
+    after-unit few true e h = settings {st = goneTo st atSettings 0 (st .steps)} {i = past file i} refl few (omega arith)
+    after-unit few false e h = let l : 1 < st .left = leb-false (st .left) 1 e in units {st = goneTo st atUnits (st .left - 1) (st .steps)} refl few (omega arith) h
 
     pub placed-next : Placed st i → Placed (stateAfter st (tagAt file i) file (i + header)) (past file i)
     unfolding sizeOf kinds sizeIn valueOf stateAfter roofAfter
     placed-next (fleet e z) =
-        at-tag 1 (fleet-alone (st .edition) (st .units) (st .left) (st .steps) (tagAt file i) (at-stage atFleet e))
+        at-tag 1 (fleet-alone (st .edition) (st .units) (st .left) (st .steps) (st .current) (tagAt file i) (at-stage atFleet e))
         (λ size v.
         let n = be 1 file (i + header + 1) in
-        let c : (1 ≤ n) × (n ≤ 64) = fleet-counts (accepted-test (fleetIn file (i + header)) v) in
+        let c : (1 ≤ n) × (n ≤ 64) = fleet-counts file (i + header) (accepted-test (fleetIn file (i + header)) v) in
         let some = c .0 in
         let few = c .1 in
-        units {st = stateOf atUnits (be 1 file (i + header)) n n (st .steps)} {i = past file i} refl some (omega arith))
-    placed-next (units e l h) =
-        at-tag 2 (units-alone (st .edition) (st .units) (st .left) (st .steps) (tagAt file i) (at-stage atUnits e))
-        (λ size v. let m = unit-most in after-unit (omega arith) (leb (st .left) 1) refl (omega arith))
-    placed-next (settings e h) =
-        at-tag 3 (settings-alone (st .edition) (st .units) (st .left) (st .steps) (tagAt file i) (at-stage atSettings e))
-        (λ size v. inverters {st = goneTo st atInverters 64 (st .steps)} {i = past file i} refl (omega arith))
+        units {st = stateOf atUnits (be 1 file (i + header)) n n (st .steps) (st .current)} {i = past file i} refl few some (omega arith))
+    placed-next (units e few l h) =
+        at-tag 2 (units-alone (st .edition) (st .units) (st .left) (st .steps) (st .current) (tagAt file i) (at-stage atUnits e))
+        (λ size v. let m = unit-most in after-unit few (leb (st .left) 1) refl (omega arith))
+    placed-next (settings e few h) =
+        at-tag 3 (settings-alone (st .edition) (st .units) (st .left) (st .steps) (st .current) (tagAt file i) (at-stage atSettings e))
+        (λ size v. connections {st = stateOf atConnections (st .edition) (st .units) 64 (st .steps) (byCurrent (be 1 file (i + header)))} {i = past file i} refl few (omega arith))
+    placed-next (connections e few h) =
+        go (connections-or-inverter (st .edition) (st .units) (st .left) (st .steps) (st .current) (tagAt file i) (at-stage atConnections e) other)
+      where
+        go : (tagAt file i ≡ 10) ⊎ ((tagAt file i ≡ 6) × (1 ≤ st .left)) → Placed (stateAfter st (tagAt file i) file (i + header)) (past file i)
+        go (inl ten) = at-tag 10 ten (λ size v. inverters {st = goneTo st atInverters (st .left) (st .steps)} {i = past file i} refl (omega arith))
+        go (inr six) = let some = six .1 in at-tag 6 (six .0) (λ size v. warm {st = goneTo st atTemperature (st .left - 1) (st .steps)} {i = past file i} refl (omega arith))
     placed-next (inverters e h) =
-        let six = inverter-alone (st .edition) (st .units) (st .left) (st .steps) (tagAt file i) (at-stage atInverters e) other in
+        let six = inverter-alone (st .edition) (st .units) (st .left) (st .steps) (st .current) (tagAt file i) (at-stage atInverters e) other in
         let some = six .1 in
         at-tag 6 (six .0) (λ size v. warm {st = goneTo st atTemperature (st .left - 1) (st .steps)} {i = past file i} refl (omega arith))
     placed-next (warm e h) =
-        at-tag 7 (warm-alone (st .edition) (st .units) (st .left) (st .steps) (tagAt file i) (at-stage atTemperature e))
+        at-tag 7 (warm-alone (st .edition) (st .units) (st .left) (st .steps) (st .current) (tagAt file i) (at-stage atTemperature e))
         (λ size v. efficiency {st = stateAfter st 7 file (i + header)} {i = past file i} (ap (λ (n : ℕ). cond (eqb n 6) 7 5) e) (omega arith))
     placed-next (efficiency e h) =
-        at-tag 7 (efficiency-alone (st .edition) (st .units) (st .left) (st .steps) (tagAt file i) (at-stage atEfficiency e))
+        at-tag 7 (efficiency-alone (st .edition) (st .units) (st .left) (st .steps) (st .current) (tagAt file i) (at-stage atEfficiency e))
         (λ size v. inverters {st = stateAfter st 7 file (i + header)} {i = past file i} (ap (λ (n : ℕ). cond (eqb n 6) 7 5) e) (omega arith))
 
 -- ---- an accepted field before the steps, from such a place to the next
@@ -240,7 +252,7 @@ went-short file {s} {st} {j} {i} (passing m l e f w more) p = go (ofSteps (tagAt
         let on : headEnd file i ≡ headEnd file (past file i) = headFrom-field file i l ∙ ap (λ (b : Bool). cond b i (headEnd file (past file i))) o in
         subst⁻¹ (λ (n : ℕ). (n ≤ headMost) ⊎ (j ≤ headMost)) on (further (placed-on file st m i (omega arith) f o p))
 
--- of the bytes that the fields go over from the start on, the head has at most 9 + 60 * 64 + 15 + 286 * 64
+-- of the bytes that the fields go over from the start on, the head has at most 9 + 60 * 64 + 15 + 195 + 286 * 64
 pub head-most : (s : List ℕ) → headFrom (length s) s 0 ≤ reachOf (length s) start s 0 .at → headFrom (length s) s 0 ≤ headMost
 head-most s h = go (went-short s (far-gone s start 0 (omega arith) .went) (fleet refl refl))
   where

@@ -10,32 +10,31 @@ use lib.Dec.{leb, eqb}
 use lib.ListN.{length, take, length-append}
 use lib.Seq.{length-take-le, take-append-seam}
 use borrow.Author.Tests.{le-ltb, leb-false, eqb-true, eqb-false}
-use Rattle.whole.proofs.Choice.{passed-failed}
+use Rattle.whole.proofs.Choice.{by-test, passed-failed}
 use Rattle.octets.specs.BigEndian.{be}
 use Rattle.parts.specs.Header.{header, tagAt, past}
 use Rattle.site.specs.Site.{stepWith}
 use Rattle.solar.specs.declared.Sun.{Sun}
 use Rattle.solar.specs.Weather.{dark}
 use Rattle.fields.specs.declared.State.{State}
-use Rattle.fields.specs.Fields.{atEnd, atFleet, atUnits, atSettings, atSteps, atInverters, atTemperature, atEfficiency, atReading, unitSize, kinds, sizeIn}
-use Rattle.fields.specs.Fields.{sizeOf, headOf, standsIn, allowed, isReading, valueOf, refusedBy, curveNext, stateOf, goneTo, roofAfter, stateAfter, takenBy}
-use Rattle.fields.proofs.FieldLaws.{stands-nowhere, fleet-alone, units-alone, settings-alone, warm-alone, efficiency-alone, fewer, fewer-more}
+use Rattle.fields.specs.Fields.{atEnd, atFleet, atUnits, atSettings, atSteps, atInverters, atTemperature, atEfficiency, atConnections, unitSize, kinds, sizeIn}
+use Rattle.fields.specs.Fields.{sizeOf, headOf, standsIn, allowed, isReading, valueOf, refusedBy, stateOf, roofAfter, stateAfter, takenBy}
+use Rattle.fields.proofs.FieldLaws.{NoTag, by-tag, stands-nowhere, fleet-alone, units-alone, settings-alone, connections-alone, warm-alone, efficiency-alone, fewer, fewer-more}
 use Rattle.stick.specs.declared.Answer.{Answer}
 use Rattle.stick.specs.declared.Reached.{Reached}
 use Rattle.stick.specs.Check.{answer, fieldAt, reached, reachOf, ends, start}
 use Rattle.stick.specs.Site.{readingAt, sunAt, stepsFrom, ofSteps, headFrom}
-use Rattle.stick.specs.Posts.{answered, Accepted, fleetBytes, roofBytes, wide, editionAt, unitsAt, unitBytes, unitPlace, settingsPlace, roofPlace, stepsPlace}
+use Rattle.stick.specs.Posts.{answered, Accepted, fleetBytes, roofBytes, wide, editionAt, unitsAt, unitBytes, unitPlace, settingsPlace, connectionsPlace, connected, roofPlace, stepsPlace}
 use Rattle.stick.proofs.WalkLaws.{whole, OnTheWay, way-starts, not-too-large}
 use Rattle.stick.proofs.ReachLaws.{walk-reach}
 use Rattle.stick.proofs.SaidLaws.{bytes-follow, One, one, Waited, waited}
 use Rattle.stick.proofs.RoofLaws.{RoofThere}
-use Rattle.stick.proofs.SiteProved.{fleet-has, long, fleet-field, unit-fields, roof-fields, many, next-is, roofs-there}
-use Rattle.chunks.proofs.SameLaws.{NoTag, by-tag}
+use Rattle.stick.proofs.SiteProved.{currentAt, fleet-has, long, fleet-field, unit-fields, settings-field, connection-field, roof-fields, many, next-is, roofs-there}
 use Rattle.chunks.specs.Sizes.{headMost}
 use Rattle.chunks.specs.Holds.{moved}
 use Rattle.chunks.proofs.ReachChunks.{Went, there, passing, went-reach, went-append, went-take, reach-shift, far, far-gone, far-all}
 use Rattle.chunks.proofs.PlaceChunks.{steps-field}
-use Rattle.chunks.proofs.HeadChunks.{headEnd, headFrom-field, Placed, fleet, units, settings, inverters, warm, efficiency, FieldTaken, accepted-field, placed-on, head-most}
+use Rattle.chunks.proofs.HeadChunks.{headEnd, headFrom-field, Placed, fleet, units, settings, connections, inverters, warm, efficiency, FieldTaken, accepted-field, placed-on, head-most}
 
 -- ---- no step is before the end of the head
 no-reading : (tag : ℕ) → ofSteps tag ≡ false → (isReading tag ≡ false) × (eqb tag 8 ≡ false)
@@ -62,18 +61,18 @@ steps-head file s (suc k) at = go (leb (length file) at) refl (ofSteps (tagAt fi
         ∙ more
 
 -- ---- the head of an accepted walk, field by field
-pub steps-only : (edition count left steps tag : ℕ) → allowed (stateOf atSteps edition count left steps) tag ≡ true → ofSteps tag ≡ true
+pub steps-only : (edition count left steps : ℕ) (current : Bool) (tag : ℕ) → allowed (stateOf atSteps edition count left steps current) tag ≡ true → ofSteps tag ≡ true
 unfolding allowed kinds standsIn
-steps-only edition count left steps tag =
-    by-tag (λ (t : ℕ). allowed (stateOf atSteps edition count left steps) t ≡ true → ofSteps t ≡ true) tag
+steps-only edition count left steps current tag =
+    by-tag (λ (t : ℕ). allowed (stateOf atSteps edition count left steps current) t ≡ true → ofSteps t ≡ true) tag
     (λ a. absurd (passed-failed a refl)) (λ a. absurd (passed-failed a refl)) (λ a. absurd (passed-failed a refl))
     (λ a. refl) (λ a. refl)
-    (λ a. absurd (passed-failed a refl)) (λ a. absurd (passed-failed a refl)) (λ a. refl)
+    (λ a. absurd (passed-failed a refl)) (λ a. absurd (passed-failed a refl)) (λ a. refl) (λ a. refl) (λ a. absurd (passed-failed a refl))
     (λ n a. go (eqb tag 127) refl n a)
   where
-    go : (b : Bool) → eqb tag 127 ≡ b → NoTag tag → allowed (stateOf atSteps edition count left steps) tag ≡ true → ofSteps tag ≡ true
+    go : (b : Bool) → eqb tag 127 ≡ b → NoTag tag → allowed (stateOf atSteps edition count left steps current) tag ≡ true → ofSteps tag ≡ true
     go true e n a = ap ofSteps (eqb-true tag 127 e)
-    go false e n a = absurd (passed-failed a (sym (stands-nowhere (stateOf atSteps edition count left steps) tag (n .n₁) (n .n₂) (n .n₃) (n .n₄) (n .n₅) (n .n₆) (n .n₇) (n .n₈) (eqb-false tag 127 e))))
+    go false e n a = absurd (passed-failed a (sym (stands-nowhere (stateOf atSteps edition count left steps current) tag n (eqb-false tag 127 e))))
 
 module _ (file : List ℕ) where
   head-passes : (tag at next : ℕ) → ofSteps tag ≡ false → at < length file → tagAt file at ≡ tag → past file at ≡ next → headEnd file at ≡ headEnd file next
@@ -92,48 +91,62 @@ module _ (file : List ℕ) (ok : whole file .number ≡ 0) where
   pass tag st at next o e w v = head-passes file tag at next o (bytes-follow file ok st at w e) (v .passed .tagged) (v .behind)
 
   module _ (edition count size : ℕ) (wide-is : wide edition ≡ size) where
-    unit-waited : (left at next : ℕ) → at + size ≡ next → OnTheWay file (stateOf atUnits edition count left 0) at → Waited file ok 2 (stateOf atUnits edition count left 0) at next
+    unit-waited : (left at next : ℕ) → at + size ≡ next → OnTheWay file (stateOf atUnits edition count left 0 false) at → Waited file ok 2 (stateOf atUnits edition count left 0 false) at next
     unfolding sizeOf
     unit-waited left at next e w =
-        waited file ok 2 (stateOf atUnits edition count left 0) at next refl (units-alone edition count left 0 (tagAt file at))
-        (add-assoc at header (unitSize (stateOf atUnits edition count left 0)) ∙ ap (λ (n : ℕ). at + n) wide-is ∙ e) w
+        waited file ok 2 (stateOf atUnits edition count left 0 false) at next refl (units-alone edition count left 0 false (tagAt file at))
+        (add-assoc at header (unitSize (stateOf atUnits edition count left 0 false)) ∙ ap (λ (n : ℕ). at + n) wide-is ∙ e) w
 
-    units-heads : (m at next : ℕ) → at + size * suc m ≡ next → OnTheWay file (stateOf atUnits edition count (suc m) 0) at → headEnd file at ≡ headEnd file next
+    units-heads : (m at next : ℕ) → at + size * suc m ≡ next → OnTheWay file (stateOf atUnits edition count (suc m) 0 false) at → headEnd file at ≡ headEnd file next
     unfolding stateAfter
     units-heads zero at next e w =
         let long : at + size ≡ next = ap (λ (n : ℕ). at + n) (sym (mul-one size)) ∙ e in
-        pass 2 (stateOf atUnits edition count 1 0) at next refl refl w (unit-waited 1 at next long w)
+        pass 2 (stateOf atUnits edition count 1 0 false) at next refl refl w (unit-waited 1 at next long w)
     units-heads (suc m) at next e w =
-        let st : State = stateOf atUnits edition count (suc (suc m)) 0 in
+        let st : State = stateOf atUnits edition count (suc (suc m)) 0 false in
         let u : Waited file ok 2 st at (at + size) = unit-waited (suc (suc m)) at (at + size) refl w in
         let less : suc (suc m) - 1 ≡ suc m = omega arith in
-        let on : fewer st ≡ stateOf atUnits edition count (suc m) 0 =
-        sym (fewer-more st (omega arith)) ∙ ap (λ (n : ℕ). stateOf atUnits edition count n 0) less in
+        let on : fewer st ≡ stateOf atUnits edition count (suc m) 0 false =
+        sym (fewer-more st (omega arith)) ∙ ap (λ (n : ℕ). stateOf atUnits edition count n 0 false) less in
         let far : size * suc (suc m) ≡ size * suc m + size = mul-suc size (suc m) in
         pass 2 st at (at + size) refl refl w u
         ∙ units-heads m (at + size) next (omega arith) (subst (λ (s : State). OnTheWay file s (at + size)) on (u .rest))
 
-  all-heads : (n next : ℕ) → 1 ≤ n → unitPlace file n ≡ next → OnTheWay file (stateOf atUnits (editionAt file) (unitsAt file) n 0) fleetBytes → headEnd file fleetBytes ≡ headEnd file next
+  all-heads : (n next : ℕ) → 1 ≤ n → unitPlace file n ≡ next → OnTheWay file (stateOf atUnits (editionAt file) (unitsAt file) n 0 false) fleetBytes → headEnd file fleetBytes ≡ headEnd file next
   all-heads zero next h e w = absurd (omega arith)
   all-heads (suc m) next h e w = units-heads (editionAt file) (unitsAt file) (unitBytes file) (long file ok) m fleetBytes next e w
 
   fleet-head : headEnd file 0 ≡ headEnd file fleetBytes
   unfolding sizeOf
   fleet-head =
-      pass 1 start 0 fleetBytes refl refl (way-starts file) (waited file ok 1 start 0 fleetBytes refl (fleet-alone 0 0 0 0 (tagAt file 0)) refl (way-starts file))
+      pass 1 start 0 fleetBytes refl refl (way-starts file) (waited file ok 1 start 0 fleetBytes refl (fleet-alone 0 0 0 0 false (tagAt file 0)) refl (way-starts file))
 
   units-head : headEnd file fleetBytes ≡ headEnd file (settingsPlace file)
   unfolding unitsAt editionAt
   units-head = all-heads (unitsAt file) (settingsPlace file) (fleet-has file (fleet-field file ok .fleet) .some) refl (fleet-field file ok .rest)
 
-  settings-head : headEnd file (settingsPlace file) ≡ headEnd file (roofPlace file 0)
+  settings-head : headEnd file (settingsPlace file) ≡ headEnd file (connectionsPlace file)
   unfolding sizeOf
   settings-head =
-      let e : settingsPlace file + 3 + 12 ≡ roofPlace file 0 = omega arith in
-      let st : State = stateOf atSettings (editionAt file) (unitsAt file) 0 0 in
+      let e : settingsPlace file + 3 + 12 ≡ connectionsPlace file = omega arith in
+      let st : State = stateOf atSettings (editionAt file) (unitsAt file) 0 0 false in
       let w : OnTheWay file st (settingsPlace file) = unit-fields file ok .rest in
-      pass 3 st (settingsPlace file) (roofPlace file 0) refl refl w
-      (waited file ok 3 st (settingsPlace file) (roofPlace file 0) refl (settings-alone (editionAt file) (unitsAt file) 0 0 (tagAt file (settingsPlace file))) e w)
+      pass 3 st (settingsPlace file) (connectionsPlace file) refl refl w
+      (waited file ok 3 st (settingsPlace file) (connectionsPlace file) refl (settings-alone (editionAt file) (unitsAt file) 0 0 false (tagAt file (settingsPlace file))) e w)
+
+  connections-head : headEnd file (connectionsPlace file) ≡ headEnd file (roofPlace file 0)
+  unfolding connected
+  connections-head = go (connected file) refl
+    where
+      place : ℕ
+      place = connectionsPlace file
+
+      go : (b : Bool) → connected file ≡ b → headEnd file place ≡ headEnd file (roofPlace file 0)
+      go true e =
+          let st : State = stateOf atConnections (editionAt file) (unitsAt file) 64 0 (currentAt file) in
+          let below : place < length file = bytes-follow file ok st place (settings-field file ok .rest) refl in
+          head-passes file 10 place (roofPlace file 0) refl below (eqb-true (tagAt file place) 10 e) (connection-field file ok .behind e)
+      go false e = ap (headEnd file) (connection-field file ok .nothing e)
 
   roofs-heads : (i : ℕ) → i ≤ many file ok → headEnd file (roofPlace file 0) ≡ headEnd file (roofPlace file i)
   roofs-heads zero l = refl
@@ -145,17 +158,17 @@ module _ (file : List ℕ) (ok : whole file .number ≡ 0) where
   stops-there : headEnd file (roof-fields file ok .next) ≡ roof-fields file ok .next
   stops-there =
       let r = roof-fields file ok in
-      let st : State = stateOf atSteps (editionAt file) (unitsAt file) (r .said .remaining) 0 in
+      let st : State = stateOf atSteps (editionAt file) (unitsAt file) (r .said .remaining) 0 (currentAt file) in
       let o : One file ok st (r .next) = one file ok st (r .next) (r .said .rest) refl in
       headFrom-field file (r .next) (o .bytes)
       ∙ ap (λ (b : Bool). cond b (r .next) (headEnd file (past file (r .next))))
-      (steps-only (editionAt file) (unitsAt file) (r .said .remaining) 0 (tagAt file (r .next)) (o .allows))
+      (steps-only (editionAt file) (unitsAt file) (r .said .remaining) 0 (currentAt file) (tagAt file (r .next)) (o .allows))
 
   head-next : headEnd file 0 ≡ roof-fields file ok .next
   head-next =
       let r = roof-fields file ok in
       let e : roofPlace file (many file ok) ≡ r .next = let i = r .is in omega arith in
-      fleet-head ∙ units-head ∙ settings-head ∙ roofs-heads (many file ok) (omega arith) ∙ ap (headEnd file) e ∙ stops-there
+      fleet-head ∙ units-head ∙ settings-head ∙ connections-head ∙ roofs-heads (many file ok) (omega arith) ∙ ap (headEnd file) e ∙ stops-there
 
   -- so the head ends where the first step stands, within the file
   pub head-place : headFrom (length file) file 0 ≡ stepsPlace file
@@ -164,45 +177,50 @@ module _ (file : List ℕ) (ok : whole file .number ≡ 0) where
   pub head-within : headFrom (length file) file 0 < length file
   head-within = subst⁻¹ (λ (n : ℕ). n < length file) head-next (roof-fields file ok .said .bytes)
 
--- ---- the state where the head ends
-module _ (st : State) (tag : ℕ) where
-  at-stage : (n : ℕ) → st .stage ≡ n → allowed st tag ≡ true → allowed (stateOf n (st .edition) (st .units) (st .left) (st .steps)) tag ≡ true
-  at-stage n e a = ap (λ (n : ℕ). allowed (stateOf n (st .edition) (st .units) (st .left) (st .steps)) tag) (sym e) ∙ a
+-- ---- the state where the head ends: an inverter may stand there, after the connections or, by watts, without them
+pub data Opening (st : State) : Type 0 where
+  at-inverters : st .stage ≡ atInverters → Opening st
+  at-connections : st .stage ≡ atConnections → st .current ≡ false → Opening st
 
-  no-step : (k : ℕ) → ofSteps k ≡ false → tag ≡ k → ofSteps tag ≡ true → st .stage ≡ atInverters
+module _ (st : State) (tag : ℕ) where
+  at-stage : (n : ℕ) → st .stage ≡ n → allowed st tag ≡ true → allowed (stateOf n (st .edition) (st .units) (st .left) (st .steps) (st .current)) tag ≡ true
+  at-stage n e a = ap (λ (n : ℕ). allowed (stateOf n (st .edition) (st .units) (st .left) (st .steps) (st .current)) tag) (sym e) ∙ a
+
+  no-step : (k : ℕ) → ofSteps k ≡ false → tag ≡ k → ofSteps tag ≡ true → Opening st
   no-step k o e s = absurd (passed-failed s (ap ofSteps e ∙ o))
 
   -- a field of a step stands first only where an inverter may
-  placed-stage : {i : ℕ} → Placed st i → allowed st tag ≡ true → ofSteps tag ≡ true → st .stage ≡ atInverters
-  placed-stage (fleet e z) a = no-step 1 refl (fleet-alone (st .edition) (st .units) (st .left) (st .steps) tag (at-stage atFleet e a))
-  placed-stage (units e l h) a = no-step 2 refl (units-alone (st .edition) (st .units) (st .left) (st .steps) tag (at-stage atUnits e a))
-  placed-stage (settings e h) a = no-step 3 refl (settings-alone (st .edition) (st .units) (st .left) (st .steps) tag (at-stage atSettings e a))
-  placed-stage (inverters e h) a = λ s. e
-  placed-stage (warm e h) a = no-step 7 refl (warm-alone (st .edition) (st .units) (st .left) (st .steps) tag (at-stage atTemperature e a))
-  placed-stage (efficiency e h) a = no-step 7 refl (efficiency-alone (st .edition) (st .units) (st .left) (st .steps) tag (at-stage atEfficiency e a))
+  placed-stage : {i : ℕ} → Placed st i → allowed st tag ≡ true → ofSteps tag ≡ true → Opening st
+  placed-stage (fleet e z) a = no-step 1 refl (fleet-alone (st .edition) (st .units) (st .left) (st .steps) (st .current) tag (at-stage atFleet e a))
+  placed-stage (units e few l h) a = no-step 2 refl (units-alone (st .edition) (st .units) (st .left) (st .steps) (st .current) tag (at-stage atUnits e a))
+  placed-stage (settings e few h) a = no-step 3 refl (settings-alone (st .edition) (st .units) (st .left) (st .steps) (st .current) tag (at-stage atSettings e a))
+  placed-stage (connections e few h) a = go (st .current) refl
+    where
+      go : (c : Bool) → st .current ≡ c → ofSteps tag ≡ true → Opening st
+      go true c =
+          no-step 10 refl
+          (connections-alone (st .edition) (st .units) (st .left) (st .steps) tag
+          (subst (λ (b : Bool). allowed (stateOf atConnections (st .edition) (st .units) (st .left) (st .steps) b) tag ≡ true) c (at-stage atConnections e a)))
+      go false c = λ s. at-connections e c
+  placed-stage (inverters e h) a = λ s. at-inverters e
+  placed-stage (warm e h) a = no-step 7 refl (warm-alone (st .edition) (st .units) (st .left) (st .steps) (st .current) tag (at-stage atTemperature e a))
+  placed-stage (efficiency e h) a = no-step 7 refl (efficiency-alone (st .edition) (st .units) (st .left) (st .steps) (st .current) tag (at-stage atEfficiency e a))
 
   -- no other field counts as a step
   pub steps-kept : (file : List ℕ) (at : ℕ) → isReading tag ≡ false → stateAfter st tag file at .steps ≡ st .steps
   unfolding stateAfter roofAfter
-  steps-kept file at r = go (eqb tag 1) (eqb tag 2) (leb (st .left) 1) (eqb tag 3) (isReading tag) r (eqb tag 6) (eqb tag 7) (eqb tag 8)
+  steps-kept file at r =
+      by-test Kept (eqb tag 1) _ _ (λ t. refl)
+      (λ t. by-test Kept (eqb tag 2) _ _ (λ t. by-test Kept (leb (st .left) 1) _ _ (λ t. refl) (λ t. refl))
+      (λ t. by-test Kept (eqb tag 3) _ _ (λ t. refl)
+      (λ t. by-test Kept (isReading tag) _ _ (λ t. absurd (passed-failed t r))
+      (λ t. by-test Kept (eqb tag 6) _ _ (λ t. refl)
+      (λ t. by-test Kept (eqb tag 7) _ _ (λ t. refl)
+      (λ t. by-test Kept (eqb tag 8) _ _ (λ t. refl)
+      (λ t. by-test Kept (eqb tag 10) _ _ (λ t. refl) (λ t. refl))))))))
     where
-      go : (a b l c d : Bool) → d ≡ false → (e f g : Bool)
-          → (cond a (stateOf atUnits (be 1 file at) (be 1 file (at + 1)) (be 1 file (at + 1)) (st .steps))
-          (cond b (cond l (goneTo st atSettings 0 (st .steps)) (goneTo st atUnits (st .left - 1) (st .steps)))
-          (cond c (goneTo st atInverters 64 (st .steps))
-          (cond d (goneTo st atSteps (st .left) (st .steps + 1))
-          (cond e (goneTo st atTemperature (st .left - 1) (st .steps))
-          (cond f (goneTo st (curveNext st) (st .left) (st .steps))
-          (cond g (goneTo st atReading (st .left) (st .steps)) (goneTo st atEnd (st .left) (st .steps))))))))) .steps ≡ st .steps
-      go true b l c d r e f g = refl
-      go false true true c d r e f g = refl
-      go false true false c d r e f g = refl
-      go false false l true d r e f g = refl
-      go false false l false true r e f g = absurd (passed-failed refl r)
-      go false false l false false r true f g = refl
-      go false false l false false r false true g = refl
-      go false false l false false r false false true = refl
-      go false false l false false r false false false = refl
+      Kept : State → Type 0
+      Kept s = s .steps ≡ st .steps
 
 pub headFrom-least : (file : List ℕ) (k at : ℕ) → at ≤ headFrom k file at
 unfolding headFrom
@@ -217,7 +235,7 @@ headFrom-least file (suc k) at = go (leb (length file) at) (ofSteps (tagAt file 
 pub record HeadWent (file : List ℕ) (st : State) (i : ℕ) : Type 0 where
   pub middle : State
   pub went : Went file middle (headEnd file i) st i
-  pub stage : middle .stage ≡ atInverters
+  pub stage : Opening middle
   pub none : middle .steps ≡ 0
 
 pub went-head : (file : List ℕ) {s st : State} {j i : ℕ} → Went file s j st i → Placed st i → st .steps ≡ 0 → headEnd file i < j → HeadWent file st i
@@ -246,20 +264,36 @@ went-head file {s} {st} {j} {i} (passing m l e f w more) p z h = go (ofSteps (ta
 abbrev pub endField : List ℕ
 endField = 0x7F ∷ 0x00 ∷ 0x04 ∷ 0x00 ∷ 0x00 ∷ 0x00 ∷ 0x00 ∷ []
 
-end-reached : (edition count left : ℕ) → reachOf 7 (stateOf atInverters edition count left 0) endField 0 ≡ reached 0 7 (stateOf atEnd edition count left 0)
+end-reached : (edition count left : ℕ) (current : Bool)
+    → reachOf 7 (stateOf atInverters edition count left 0 current) endField 0 ≡ reached 0 7 (stateOf atEnd edition count left 0 current)
 unfolding reachOf fieldAt headOf sizeOf kinds sizeIn be takenBy refusedBy allowed standsIn valueOf stateAfter roofAfter
-end-reached edition count left = refl
+end-reached edition count left current = refl
+
+end-reached-early : (edition count left : ℕ)
+    → reachOf 7 (stateOf atConnections edition count left 0 false) endField 0 ≡ reached 0 7 (stateOf atEnd edition count left 0 false)
+unfolding reachOf fieldAt headOf sizeOf kinds sizeIn be takenBy refusedBy allowed standsIn valueOf stateAfter roofAfter
+end-reached-early edition count left = refl
 
 -- ---- bytes with whole fields up to where a step may stand first, and the end field of no steps behind them, are an accepted file
 pub went-of-reach : (a : List ℕ) (m : State) → reachOf (length a) start a 0 ≡ reached 0 (length a) m → Went a m (length a) start 0
 went-of-reach a m e = subst (λ (r : Reached). Went a (r .state) (r .at) start 0) e (far-gone a start 0 (omega arith) .went)
 
-module _ (a : List ℕ) (m : State) (w : Went a m (length a) start 0) (stage : m .stage ≡ atInverters) (none : m .steps ≡ 0) where
+module _ (a : List ℕ) (m : State) (w : Went a m (length a) start 0) (stage : Opening m) (none : m .steps ≡ 0) where
   abbrev ended : State
-  ended = stateOf atEnd (m .edition) (m .units) (m .left) 0
+  ended = stateOf atEnd (m .edition) (m .units) (m .left) 0 (m .current)
 
-  state-is : m ≡ stateOf atInverters (m .edition) (m .units) (m .left) 0
-  state-is = ap₂ (λ (n k : ℕ). stateOf n (m .edition) (m .units) (m .left) k) stage none
+  closes : reachOf 7 m endField 0 ≡ reached 0 7 ended
+  closes = go stage
+    where
+      go : Opening m → reachOf 7 m endField 0 ≡ reached 0 7 ended
+      go (at-inverters e) =
+          ap₂ (λ (n k : ℕ). reachOf 7 (stateOf n (m .edition) (m .units) (m .left) k (m .current)) endField 0) e none
+          ∙ end-reached (m .edition) (m .units) (m .left) (m .current)
+      go (at-connections e c) =
+          ap₂ (λ (n k : ℕ). reachOf 7 (stateOf n (m .edition) (m .units) (m .left) k (m .current)) endField 0) e none
+          ∙ ap (λ (b : Bool). reachOf 7 (stateOf atConnections (m .edition) (m .units) (m .left) 0 b) endField 0) c
+          ∙ end-reached-early (m .edition) (m .units) (m .left)
+          ∙ ap (λ (b : Bool). reached 0 7 (stateOf atEnd (m .edition) (m .units) (m .left) 0 b)) (sym c)
 
   pub closed-reached : reachOf (length (a ++ endField)) start (a ++ endField) 0 ≡ reached 0 (length a + 7) ended
   closed-reached =
@@ -268,8 +302,7 @@ module _ (a : List ℕ) (m : State) (w : Went a m (length a) start 0) (stage : m
       went-reach (a ++ endField) (went-append a endField w) (length (a ++ endField)) 7 (omega arith) (omega arith)
       ∙ ap (reachOf 7 m (a ++ endField)) place
       ∙ reach-shift a endField 7 m 0
-      ∙ ap (λ (s : State). moved (length a) (reachOf 7 s endField 0)) state-is
-      ∙ ap (moved (length a)) (end-reached (m .edition) (m .units) (m .left))
+      ∙ ap (moved (length a)) closes
 
   pub closed-walked : whole (a ++ endField) ≡ answer 0 (length a + 7) 0
   unfolding ends

@@ -19,13 +19,13 @@ use Rattle.solar.specs.Weather.{dark}
 use Rattle.fields.specs.declared.State.{State}
 use Rattle.fields.specs.declared.Taken.the-variants.{Next}
 use Rattle.fields.specs.Fields.{isReading, kinds, sizeIn, sizeOf}
-use Rattle.fields.proofs.FieldLaws.{size-else}
+use Rattle.fields.proofs.FieldLaws.{by-tag, size-else}
 use Rattle.stick.specs.Check.{fieldAt, start}
 use Rattle.stick.specs.Site.{placesFrom, readingAt, sunAt, stepsIn, sunIn, stepsFrom, sunFrom}
 use Rattle.stick.proofs.WalkLaws.{field-cases}
 use Rattle.stick.proofs.PlaceLaws.{from, from-over, from-field}
 use Rattle.stick.proofs.PlaceLaws.{same as places-fuel}
-use Rattle.chunks.proofs.SameLaws.{Same, by-tag, reading-same, sun-same}
+use Rattle.chunks.proofs.SameLaws.{Same, reading-same, sun-same}
 use Rattle.chunks.proofs.FieldChunks.{same-behind, same-before, tag-shift, past-shift, tag-append, past-append}
 use Rattle.chunks.proofs.ReachChunks.{over-shift, Went, there, passing, went-take, far, far-gone, far-upto}
 
@@ -42,15 +42,15 @@ pub whole-upto : {a : List ℕ} {i : ℕ} → Whole a i → i ≤ length a
 whole-upto (whole-end e) = omega arith
 whole-upto (whole-field f w) = let l = f .all in omega arith
 
--- at the start a unit is not longer than at any other time
+-- at the start a unit is not longer than at any other time, nor are the connections
 pub size-least : (st : State) (tag : ℕ) → sizeOf start tag ≤ sizeOf st tag
 unfolding sizeOf kinds sizeIn
 size-least st tag =
     by-tag (λ (t : ℕ). sizeOf start t ≤ sizeOf st t) tag
-    (lit≤ tt) (by-test (λ (n : ℕ). 49 ≤ n) (leb 2 (st .edition)) 57 49 (λ t. lit≤ tt) (λ t. lit≤ tt)) (lit≤ tt) (lit≤ tt) (lit≤ tt) (lit≤ tt) (lit≤ tt) (lit≤ tt)
+    (lit≤ tt) (by-test (λ (n : ℕ). 49 ≤ n) (leb 2 (st .edition)) 57 49 (λ t. lit≤ tt) (λ t. lit≤ tt)) (lit≤ tt) (lit≤ tt) (lit≤ tt) (lit≤ tt) (lit≤ tt) (lit≤ tt) (lit≤ tt) (omega arith)
     (λ n.
-    let a = size-else start tag (n .n₁) (n .n₂) (n .n₃) (n .n₄) (n .n₅) (n .n₆) (n .n₇) (n .n₈) in
-    let b = size-else st tag (n .n₁) (n .n₂) (n .n₃) (n .n₄) (n .n₅) (n .n₆) (n .n₇) (n .n₈) in
+    let a = size-else start tag n in
+    let b = size-else st tag n in
     let c = a ∙ sym b in
     omega (arith, c))
 
@@ -160,7 +160,7 @@ module _ (a b : List ℕ) where
   steps-moved s [] = refl
   steps-moved s (i ∷ ats) =
       let tag = tag-shift a b i in
-      let reading = reading-same (a ++ b) b (length a + i) i (same-behind a b i 1) (λ e. same-behind a b i 27) in
+      let reading = reading-same (a ++ b) b (length a + i) i (same-behind a b i 1) (λ k l e. same-behind a b i 27) in
       let lit = sun-same (a ++ b) b (length a + i) i (same-behind a b i 19) in
       let closed = steps-moved dark ats in
       let on = ap (λ (s : Sun). stepsIn (a ++ b) s (behind a b ats)) lit ∙ steps-moved (sunAt b i) ats in
@@ -201,8 +201,7 @@ module _ (a b : List ℕ) where
     there-past = past-append a b i there-below
 
     there-reading : readingAt (a ++ b) i ≡ readingAt a i
-    unfolding sizeOf kinds sizeIn
-    there-reading = sym (reading-same a (a ++ b) i i (same-before a b i 1 (let l = there-below in omega arith)) (λ e. there-long 27 (subst⁻¹ (λ (t : ℕ). 27 ≤ 3 + sizeOf start t) e (lit≤ tt))))
+    there-reading = sym (reading-same a (a ++ b) i i (same-before a b i 1 (let l = there-below in omega arith)) (λ k l e. there-long 27 (let size = ap (sizeOf start) e ∙ l in omega arith)))
 
     there-sun : tagAt a i ≡ 8 → sunAt (a ++ b) i ≡ sunAt a i
     unfolding sizeOf kinds sizeIn

@@ -1,7 +1,7 @@
 -- How far the fields of a list of bytes go, where the list is a part of a longer one: the fields that are gone over stay as they are, whatever follows; a
 -- refusal stands; and where the bytes ended, between two fields or within one, the fields go on from there. Assumes nothing.
 use mathlib.Core.Path.{_≡_, refl, sym, ap, ap₂, _∙_, subst, subst⁻¹}
-use mathlib.Core.Bool.{Bool, true, false, cond}
+use mathlib.Core.Bool.{Bool, true, false, cond, _&&_}
 use mathlib.Core.List.{List, _++_, append-assoc}
 use Prim.Native.Nat.{ℕ, zero, suc, _+_, _≤_, _<_}
 use native.Mathlib.Omega.{arith}
@@ -9,19 +9,56 @@ use lib.Dec.{leb, eqb}
 use lib.ListN.{length, take, drop, length-append, take-append-drop}
 use lib.Seq.{length-take-le}
 use borrow.Author.Tests.{le-leb, lt-leb, leb-true, leb-false, eqb-true, eqb-false}
+use Rattle.whole.specs.Interval.{between}
+use Rattle.whole.proofs.Choice.{by-test}
+use Rattle.whole.proofs.OverLaws.{and-parts}
+use Rattle.octets.specs.BigEndian.{be}
+use Rattle.unit.specs.Ranges.{secondsIn, editionIn}
 use Rattle.parts.specs.Header.{header, tagAt, past}
 use Rattle.fields.specs.declared.State.{State}
 use Rattle.fields.specs.declared.Taken.{Taken}
 use Rattle.fields.specs.declared.Taken.the-variants.{Next, Stop}
-use Rattle.fields.specs.Fields.{headOf, refusedBy, stateAfter, takenBy}
+use Rattle.fields.specs.Fields.{headOf, fleetIn, isReading, valueOf, refusedBy, roofAfter, stateAfter, takenBy}
 use Rattle.fields.proofs.TakenLaws.{stops, goes-on}
 use Rattle.stick.specs.declared.Reached.{Reached}
 use Rattle.stick.specs.Check.{fieldAt, reached, onward, reachOf}
 use Rattle.stick.proofs.ReachLaws.{never-zero}
 use Rattle.stick.proofs.WalkLaws.{field-stops, field-goes, field-cases}
+use Rattle.stick.proofs.SaidLaws.{free-parts, accepted-test}
 use Rattle.chunks.specs.Sizes.{largest}
 use Rattle.chunks.specs.Holds.{moved}
-use Rattle.chunks.proofs.FieldChunks.{refused-not-one, headOf-shift, field-shift, past-shift, past-append, field-append, field-cut, head-cut-short}
+use Rattle.chunks.proofs.FieldChunks.{Few, refused-not-one, headOf-shift, field-shift, past-shift, past-append, field-append, field-cut, head-cut-short}
+
+-- ---- no accepted field leads to more than 64 units: only the fleet says how many there are
+pub fleet-counts : (file : List ℕ) (at : ℕ) → fleetIn file at ≡ true → (1 ≤ be 1 file (at + 1)) × (be 1 file (at + 1) ≤ 64)
+unfolding fleetIn
+fleet-counts file at e =
+    let n = be 1 file (at + 1) in
+    let form = editionIn (be 1 file at) in
+    let both = and-parts (form && between 1 64 n) (secondsIn (be 4 file (at + 2))) e in
+    let counted = and-parts (leb 1 n) (leb n 64) (and-parts form (between 1 64 n) (both .0) .1) in
+    (leb-true 1 n (counted .0), leb-true n 64 (counted .1))
+
+few-after : (st : State) (tag : ℕ) (file : List ℕ) (at : ℕ) → valueOf st tag file at ≡ 0 → Few st → Few (stateAfter st tag file at)
+unfolding valueOf stateAfter roofAfter
+few-after st tag file at v few =
+    by-test Few (eqb tag 1) _ _
+    (λ t. fleet-counts file at (accepted-test (fleetIn file at) (subst (λ (k : ℕ). valueOf st k file at ≡ 0) (eqb-true tag 1 t) v)) .1)
+    (λ t. by-test Few (eqb tag 2) _ _ (λ t. by-test Few (leb (st .left) 1) _ _ (λ t. few) (λ t. few))
+    (λ t. by-test Few (eqb tag 3) _ _ (λ t. few)
+    (λ t. by-test Few (isReading tag) _ _ (λ t. few)
+    (λ t. by-test Few (eqb tag 6) _ _ (λ t. few)
+    (λ t. by-test Few (eqb tag 7) _ _ (λ t. few)
+    (λ t. by-test Few (eqb tag 8) _ _ (λ t. few)
+    (λ t. by-test Few (eqb tag 10) _ _ (λ t. few) (λ t. few))))))))
+
+pub few-next : (st m : State) (file : List ℕ) (at : ℕ) → at ≤ length file → fieldAt st file at ≡ Next m → Few st → Few m
+few-next st m file at upto f few =
+    field-cases st file at upto
+    (λ n z e. let o : _≡_ {A = ℕ} 0 1 = cc in absurd (omega arith))
+    (λ hd z e.
+    let is : stateAfter st (tagAt file at) file (at + header) ≡ m = cc in
+    subst Few is (few-after st (tagAt file at) file (at + header) (free-parts st (tagAt file at) file (at + header) z .1) few))
 
 -- ---- a field is not both accepted and refused, and is refused by one number
 pub apart : {t : Taken} {s : State} {n : ℕ} → t ≡ Next s → t ≡ Stop n → ⊥
@@ -78,6 +115,10 @@ module _ (file : List ℕ) where
   pub went-upto : {s st : State} {j i : ℕ} → Went s j st i → i ≤ length file → (i ≤ j) × (j ≤ length file)
   went-upto (there e f) h = (omega arith, omega arith)
   went-upto (passing m l e f w more) h = let r = went-upto more w in (omega (arith, r .0), r .1)
+
+  pub went-few : {s st : State} {j i : ℕ} → Went s j st i → Few st → Few s
+  went-few (there e f) few = subst Few e few
+  went-few {s} {st} {j} {i} (passing m l e f w more) few = went-few more (few-next st m file i (omega arith) f few)
 
   pub went-reach : {s st : State} {j i : ℕ} → Went s j st i → (k n : ℕ) → length file ≤ i + k → length file ≤ j + n → reachOf k st file i ≡ reachOf n s file j
   went-reach {s} {st} {j} {i} (there e f) k n h l =
@@ -205,13 +246,16 @@ module _ (p : List ℕ) (st : State) (i : ℕ) (upto : i ≤ length p) where
     pub bytes : r .at < length p
     pub short : length p < r .at + largest
 
-  pub far-cut : far .number ≡ 1 → CutField far
-  far-cut z = go far (far-gone .ending) z
+  pub far-few : Few st → Few (far .state)
+  far-few few = went-few p (far-gone .went) few
+
+  pub far-cut : Few st → far .number ≡ 1 → CutField far
+  far-cut few z = go far (far-gone .ending) (far-few few) z
     where
-      go : (r : Reached) → Ending p r → r .number ≡ 1 → CutField r
-      go r (all-gone n e) z = absurd (omega (arith, n, z))
-      go r (after-end n l b) z = absurd (omega (arith, n, z))
-      go r (refused l b f) z =
+      go : (r : Reached) → Ending p r → Few (r .state) → r .number ≡ 1 → CutField r
+      go r (all-gone n e) few z = absurd (omega (arith, n, z))
+      go r (after-end n l b) few z = absurd (omega (arith, n, z))
+      go r (refused l b f) few z =
           let one : headOf (r .state) p (r .at) ≡ 1 = field-one (r .state) p (r .at) (f ∙ ap Stop z) in
           let long : length (take (r .at) p) ≡ r .at = length-take-le (r .at) p (omega arith) in
           let place : length (take (r .at) p) + 0 ≡ r .at = omega arith in
@@ -222,7 +266,7 @@ module _ (p : List ℕ) (st : State) (i : ℕ) (upto : i ≤ length p) where
                 ∙ one;
             going = b;
             bytes = l;
-            short = head-cut-short (r .state) p (r .at) one;
+            short = head-cut-short (r .state) few p (r .at) one;
           }
 
   -- the bytes up to there, by themselves

@@ -11,28 +11,33 @@ use lib.Ieee.{binary64, ofBits}
 use lib.ListN.{length, getD}
 use mir.Syntax.{w32}
 use mir.Val.{toZ}
-use borrow.Author.Tests.{leb-true, leb-false, lt-leb, eqb-true, eqb-false}
+use borrow.Author.Tests.{leb-true, leb-false, lt-leb, eqb-true, ne-eqb}
 use Rattle.whole.specs.Over.{allOf}
 use Rattle.whole.proofs.Choice.{by-test}
 use Rattle.octets.specs.BigEndian.{be}
 use Rattle.octets.proofs.ByteLaws.{be-same}
-use Rattle.reading.specs.declared.Reading.the-variants.{Missing, Power}
+use Rattle.reading.specs.declared.Phases.{Phases}
+use Rattle.reading.specs.declared.Reading.{Reading}
+use Rattle.reading.specs.declared.Reading.the-variants.{Missing, Power, Current}
 use Rattle.reading.specs.Choice.{refusalOf}
 use Rattle.curve.specs.declared.Bounds.{Bounds}
 use Rattle.curve.specs.Curve.{Point, point}
 use Rattle.curve.specs.Ranges.{pointIn, pointsIn}
 use Rattle.curve.specs.Layout.{curveBytes, countAt, xAt, yAt, pointsFrom, pointsAt, restIn, curveIn}
 use Rattle.curve.proofs.PointLaws.{points-count}
-use Rattle.unit.specs.Ranges.{ownLimits, directIn, gridIn, unitIn}
+use Rattle.unit.specs.Ranges.{ownLimits, directIn, gridIn, unitIn, connectionIn}
+use Rattle.rules.specs.Rules.{byCurrent}
 use Rattle.rules.specs.Ranges.{settingsIn}
 use Rattle.solar.specs.Roof.{inverterIn}
 use Rattle.solar.specs.Weather.{skyOf, sunOr}
 use Rattle.parts.specs.Header.{header, tagAt, lengthAt, past}
 use Rattle.fields.specs.declared.State.{State}
 use Rattle.fields.specs.declared.Taken.the-variants.{Next, Stop}
-use Rattle.fields.specs.Fields.{atUnits, boundsFor, kinds, sizeIn, sizeOf, allowed, fleetIn, unitAt, settingsAt, phaseAt}
-use Rattle.fields.specs.Fields.{phasesAt, inverterAt, weatherAt, sixUnless, fiveUnless, valueOf, tooMany, refusedBy, stateOf, stateAfter, takenBy}
+use Rattle.fields.specs.Fields.{atUnits, atConnections, boundsFor, kinds, sizeIn, sizeOf, allowed, fleetIn, unitAt, settingsAt, phaseAt}
+use Rattle.fields.specs.Fields.{phasesAt, inverterAt, weatherAt, sixUnless, fiveUnless, valueOf, tooMany, refusedBy, stateOf, stateAfter, takenBy, phasesIn, voltsIn, connectionsIn}
+use Rattle.fields.proofs.FieldLaws.{by-tag}
 use Rattle.fields.proofs.TakenLaws.{room-end, value-end}
+use Rattle.stick.specs.Check.{start}
 use Rattle.stick.specs.Site.{headBy, roofAt, readingAt, sunAt}
 
 -- ---- n bytes of F from p on are those of G from q on
@@ -68,7 +73,7 @@ module _ (F G : List ℕ) (p q : ℕ) where
   pub be-within : (n : ℕ) → Same F G p q n → (o m : ℕ) → o + m ≤ n → be m F (p + o) ≡ be m G (q + o)
   be-within n h o m l = be-same m F G (p + o) (q + o) (same-from n h o m l)
 
-  be-deep : (n : ℕ) → Same F G p q n → (o u m : ℕ) → o + u + m ≤ n → be m F (p + o + u) ≡ be m G (q + o + u)
+  pub be-deep : (n : ℕ) → Same F G p q n → (o u m : ℕ) → o + u + m ≤ n → be m F (p + o + u) ≡ be m G (q + o + u)
   be-deep n h o u m l = rw (add-assoc p o u, add-assoc q o u) (be-within n h (o + u) m l)
 
   -- ---- tag, length, and how far off the next field is
@@ -120,6 +125,7 @@ module _ (F G : List ℕ) (p q : ℕ) where
         provide = provide i;
         absorb = absorb i;
         «grid_loss» = gridIn edition (loss i);
+        link = 0;
       }
     where
       limit : (o : ℕ) → o + 4 ≤ 57 → (own : Bool) → Same F G p q (cond own 57 49) → {k l : ℕ} → k ≡ l → cond own (be 4 F (p + o)) k ≡ cond own (be 4 G (q + o)) l
@@ -145,6 +151,13 @@ module _ (F G : List ℕ) (p q : ℕ) where
       let second = be-within 24 h 8 8 (lit≤ tt) in
       let third = be-within 24 h 16 8 (lit≤ tt) in
       λ i. record { first = ofBits binary64 (first i); second = ofBits binary64 (second i); third = ofBits binary64 (third i) }
+
+  -- of so many units, three bytes each
+  pub connections-same : (n : ℕ) → Same F G p q (3 * n) → connectionsIn n F p ≡ connectionsIn n G q
+  unfolding connectionsIn
+  connections-same n h =
+      all-same n (λ (i : ℕ). connectionIn (phasesIn F p i) (voltsIn F p i)) (λ (i : ℕ). connectionIn (phasesIn G q i) (voltsIn G q i))
+      (λ i l. ap₂ connectionIn (be-within (3 * n) h (3 * i) 1 (omega arith)) (be-deep (3 * n) h (3 * i) 1 2 (omega arith)))
 
   pub inverter-same : Same F G p q 19 → inverterAt F p ≡ inverterAt G q
   unfolding inverterAt
@@ -202,36 +215,6 @@ module _ (F G : List ℕ) (p q : ℕ) where
           ap (λ (t : Bool). t && restIn F p) (too-many b (pointsAt F p) (subst⁻¹ (λ (n : ℕ). 16 < n) (points-count F p) m))
           ∙ sym (ap (λ (t : Bool). t && restIn G q) (too-many b (pointsAt G q) (subst⁻¹ (λ (n : ℕ). 16 < n) (points-count G q) l)))
 
--- ---- a tag: each that a value is told apart by, or none of them
-pub record NoTag (tag : ℕ) : Type 0 where
-  pub n₁ : tag ≡ 1 → ⊥
-  pub n₂ : tag ≡ 2 → ⊥
-  pub n₃ : tag ≡ 3 → ⊥
-  pub n₄ : tag ≡ 4 → ⊥
-  pub n₅ : tag ≡ 5 → ⊥
-  pub n₆ : tag ≡ 6 → ⊥
-  pub n₇ : tag ≡ 7 → ⊥
-  pub n₈ : tag ≡ 8 → ⊥
-
-pub by-tag : (P : ℕ → Type 0) (tag : ℕ) → P 1 → P 2 → P 3 → P 4 → P 5 → P 6 → P 7 → P 8 → (NoTag tag → P tag) → P tag
-by-tag P tag p₁ p₂ p₃ p₄ p₅ p₆ p₇ p₈ other =
-    row 1 p₁ (λ n₁.
-    row 2 p₂ (λ n₂.
-    row 3 p₃ (λ n₃.
-    row 4 p₄ (λ n₄.
-    row 5 p₅ (λ n₅.
-    row 6 p₆ (λ n₆.
-    row 7 p₇ (λ n₇.
-    row 8 p₈ (λ n₈.
-    other (record { n₁ = n₁; n₂ = n₂; n₃ = n₃; n₄ = n₄; n₅ = n₅; n₆ = n₆; n₇ = n₇; n₈ = n₈ })))))))))
-  where
-    row : (k : ℕ) → P k → ((tag ≡ k → ⊥) → P tag) → P tag
-    row k here below = go (eqb tag k) refl
-      where
-        go : (b : Bool) → eqb tag k ≡ b → P tag
-        go true e = subst⁻¹ P (eqb-true tag k e) here
-        go false e = below (eqb-false tag k e)
-
 module _ (F G : List ℕ) (p q : ℕ) where
   -- ---- what a value is refused by, the next state, and what becomes of the field
   pub value-same : (st : State) (tag : ℕ) → Same F G p q (sizeOf st tag) → valueOf st tag F p ≡ valueOf st tag G q
@@ -241,16 +224,18 @@ module _ (F G : List ℕ) (p q : ℕ) where
       (λ h. ap fiveUnless (fleet-same F G p q h))
       (λ h. ap (λ u. fiveUnless (unitIn u)) (unit-same F G p q (st .edition) h))
       (λ h. ap₂ (λ s n. fiveUnless (settingsIn s && leb n 5)) (settings-same F G p q h) (phase-same F G p q h))
-      (λ h. ap (λ r. refusalOf (Power r)) (phases-same F G p q h))
+      (λ h. ap (λ r. cond (st .current) 5 (refusalOf (Power r))) (phases-same F G p q h))
       (λ h. refl)
       (λ h. ap (λ v. fiveUnless (inverterIn v)) (inverter-same F G p q h))
       (λ h. ap fiveUnless (curve-same F G p q (boundsFor st) h))
       (λ h. ap (λ w. sixUnless (skyOf w)) (weather-same F G p q h))
+      (λ h. ap (λ r. cond (st .current) (refusalOf (Current r)) 5) (phases-same F G p q h))
+      (λ h. ap fiveUnless (connections-same F G p q (st .units) h))
       (λ n h.
-      let four : 0 + 4 ≤ sizeOf st tag = room-end st tag 0 (sizeOf st tag) (omega arith) (n .n₁) (n .n₂) (n .n₃) (n .n₄) (n .n₅) (n .n₆) (n .n₇) (n .n₈) in
-      sym (value-end st tag F p (n .n₁) (n .n₂) (n .n₃) (n .n₄) (n .n₅) (n .n₆) (n .n₇) (n .n₈))
+      let four : 0 + 4 ≤ sizeOf st tag = room-end st tag 0 (sizeOf st tag) (omega arith) n in
+      sym (value-end st tag F p n)
       ∙ ap (λ (k : ℕ). cond (eqb k (st .steps)) 0 7) (be-front F G p q (sizeOf st tag) h 4 (omega arith))
-      ∙ value-end st tag G q (n .n₁) (n .n₂) (n .n₃) (n .n₄) (n .n₅) (n .n₆) (n .n₇) (n .n₈))
+      ∙ value-end st tag G q n)
 
   pub refused-same : (st : State) (tag : ℕ) → Same F G p q (sizeOf st tag) → refusedBy st tag F p ≡ refusedBy st tag G q
   unfolding refusedBy
@@ -258,35 +243,38 @@ module _ (F G : List ℕ) (p q : ℕ) where
 
   pub after-same : (st : State) (tag : ℕ) → Same F G p q (sizeOf st tag) → stateAfter st tag F p ≡ stateAfter st tag G q
   unfolding stateAfter sizeOf kinds sizeIn
-  after-same st tag h = go (eqb tag 1) refl
-    where
-      fleet : Same F G p q 6 → stateOf atUnits (be 1 F p) (be 1 F (p + 1)) (be 1 F (p + 1)) (st .steps) ≡ stateOf atUnits (be 1 G q) (be 1 G (q + 1)) (be 1 G (q + 1)) (st .steps)
-      fleet h = ap₂ (λ (e u : ℕ). stateOf atUnits e u u (st .steps)) (be-front F G p q 6 h 1 (lit≤ tt)) (be-within F G p q 6 h 1 1 (lit≤ tt))
-
-      go : (b : Bool) → eqb tag 1 ≡ b → stateAfter st tag F p ≡ stateAfter st tag G q
-      go true e =
-          let one : tag ≡ 1 = eqb-true tag 1 e in
-          ap (λ (t : ℕ). stateAfter st t F p) one
-          ∙ fleet (subst (λ (t : ℕ). Same F G p q (sizeOf st t)) one h)
-          ∙ sym (ap (λ (t : ℕ). stateAfter st t G q) one)
-      go false e = simp e
+  after-same st tag =
+      by-tag (λ (t : ℕ). Same F G p q (sizeOf st t) → stateAfter st t F p ≡ stateAfter st t G q) tag
+      (λ h. ap₂ (λ (e u : ℕ). stateOf atUnits e u u (st .steps) (st .current)) (be-front F G p q 6 h 1 (lit≤ tt)) (be-within F G p q 6 h 1 1 (lit≤ tt)))
+      (λ h. refl)
+      (λ h. ap (λ (m : ℕ). stateOf atConnections (st .edition) (st .units) 64 (st .steps) (byCurrent m)) (be-front F G p q 12 h 1 (lit≤ tt)))
+      (λ h. refl) (λ h. refl) (λ h. refl) (λ h. refl) (λ h. refl) (λ h. refl) (λ h. refl)
+      (λ n h. simp (ne-eqb tag 1 (n .n₁), ne-eqb tag 3 (n .n₃)))
 
   pub taken-same : (st : State) (tag : ℕ) → Same F G p q (sizeOf st tag) → takenBy st tag F p ≡ takenBy st tag G q
   unfolding takenBy
   taken-same st tag h = ap₂ (λ (n : ℕ) (s : State). cond (eqb n 0) (Next s) (Stop n)) (refused-same st tag h) (after-same st tag h)
 
-  -- ---- what a field says, from its tag on: a reading, whose bytes need be there only where it has powers; a sun
-  pub reading-same : Same F G p q 1 → (tagAt F p ≡ 4 → Same F G p q 27) → readingAt F p ≡ readingAt G q
-  unfolding readingAt
-  reading-same t h = go (eqb (tagAt F p) 4) refl
+  -- ---- what a field says, from its tag on: a reading, whose bytes need be there only where it has powers or currents; a sun
+  pub reading-same : Same F G p q 1 → ((k : ℕ) → sizeOf start k ≡ 24 → tagAt F p ≡ k → Same F G p q 27) → readingAt F p ≡ readingAt G q
+  unfolding readingAt sizeOf kinds sizeIn
+  reading-same t h =
+      ap (λ (n : ℕ). reading n (phasesAt F (p + header))) (tag-same F G p q t) ∙ go (eqb (tagAt F p) 4) (eqb (tagAt F p) 9) refl refl
     where
-      go : (b : Bool) → eqb (tagAt F p) 4 ≡ b → cond (eqb (tagAt F p) 4) (Power (phasesAt F (p + header))) Missing ≡ cond (eqb (tagAt G q) 4) (Power (phasesAt G (q + header))) Missing
-      go true e =
-          ap₂ (λ (n : ℕ) r. cond (eqb n 4) (Power r) Missing) (tag-same F G p q t)
-          (phases-same F G (p + 3) (q + 3) (same-from F G p q 27 (h (eqb-true (tagAt F p) 4 e)) 3 24 (lit≤ tt)))
-      go false e =
-          ap (λ (b : Bool). cond b (Power (phasesAt F (p + header))) Missing) e
-          ∙ sym (ap (λ (b : Bool). cond b (Power (phasesAt G (q + header))) Missing) (sym (ap (λ (n : ℕ). eqb n 4) (tag-same F G p q t)) ∙ e))
+      reading : ℕ → Phases → Reading
+      reading n r = cond (eqb n 4) (Power r) (cond (eqb n 9) (Current r) Missing)
+
+      said : (k : ℕ) → sizeOf start k ≡ 24 → tagAt F p ≡ k → reading (tagAt G q) (phasesAt F (p + header)) ≡ reading (tagAt G q) (phasesAt G (q + header))
+      said k l e = ap (reading (tagAt G q)) (phases-same F G (p + 3) (q + 3) (same-from F G p q 27 (h k l e) 3 24 (lit≤ tt)))
+
+      go : (a b : Bool) → eqb (tagAt F p) 4 ≡ a → eqb (tagAt F p) 9 ≡ b → reading (tagAt G q) (phasesAt F (p + header)) ≡ reading (tagAt G q) (phasesAt G (q + header))
+      go true b ea eb = said 4 refl (eqb-true (tagAt F p) 4 ea)
+      go false true ea eb = said 9 refl (eqb-true (tagAt F p) 9 eb)
+      go false false ea eb =
+          let same = sym (tag-same F G p q t) in
+          let four : eqb (tagAt G q) 4 ≡ false = ap (λ (n : ℕ). eqb n 4) same ∙ ea in
+          let nine : eqb (tagAt G q) 9 ≡ false = ap (λ (n : ℕ). eqb n 9) same ∙ eb in
+          simp (four, nine)
 
   pub sun-same : Same F G p q 19 → sunAt F p ≡ sunAt G q
   unfolding sunAt

@@ -6,12 +6,15 @@ use mathlib.Core.List.{List, [], _∷_, _++_, map}
 use Prim.Native.Nat.{ℕ, zero, suc, _+_, _*_, _≤_, _<_}
 use native.Mathlib.Nat.{mul-suc, mul-zero, mul-le-mul-left}
 use native.Mathlib.Omega.{arith}
-use lib.Dec.{leb, lit≤}
+use lib.Dec.{leb, eqb, lit≤}
 use lib.ListN.{length, getD, take, drop, take-append-drop}
+use lib.Seq.{ext-getD}
 use borrow.Author.Tests.{leb-true, leb-false}
-use Rattle.whole.proofs.OverLaws.{and-parts}
+use Rattle.whole.specs.Over.{each}
+use Rattle.whole.proofs.OverLaws.{and-parts, each-length, each-at}
 use Rattle.octets.specs.BigEndian.{be}
-use Rattle.unit.specs.Ranges.{ownLimits}
+use Rattle.unit.specs.declared.Unit.{Unit}
+use Rattle.unit.specs.Ranges.{ownLimits, linkOf, linked}
 use Rattle.curve.specs.declared.Bounds.{Bounds}
 use Rattle.curve.specs.Ranges.{pointsIn}
 use Rattle.curve.specs.Layout.{countAt, pointsAt, restIn, curveIn}
@@ -19,17 +22,18 @@ use Rattle.curve.proofs.PointLaws.{points-count}
 use Rattle.curve.proofs.RangeLaws.{points-some}
 use Rattle.solar.specs.Roof.{warmBounds, efficiencyBounds}
 use Rattle.solar.specs.declared.Sun.{Sun}
-use Rattle.parts.specs.Header.{header}
+use Rattle.parts.specs.Header.{header, tagAt}
 use Rattle.site.specs.declared.Head.{Head}
-use Rattle.fields.specs.Fields.{unitAt}
-use Rattle.stick.specs.Site.{placesFrom, placesOf, having, headBy, siteOf, roofAt, roofsOf, stepsIn, stepsFrom, headFrom}
-use Rattle.stick.specs.Posts.{Accepted, fleetBytes, settingsBytes, roofBytes, wide, editionAt, unitsAt, unitBytes, settingsPlace, roofPlace, stepsPlace}
+use Rattle.site.specs.Site.{noUnit}
+use Rattle.fields.specs.Fields.{unitAt, phasesIn, voltsIn}
+use Rattle.stick.specs.Site.{placesFrom, placesOf, having, headBy, connectionsOf, linkIn, siteOf, roofAt, roofsOf, stepsIn, stepsFrom, headFrom}
+use Rattle.stick.specs.Posts.{Accepted, fleetBytes, settingsBytes, roofBytes, wide, editionAt, unitsAt, unitBytes, settingsPlace, connectionsPlace, connected, connectionsBytes, roofPlace, stepsPlace}
 use Rattle.stick.proofs.WalkLaws.{whole}
 use Rattle.stick.proofs.SaidLaws.{every}
 use Rattle.stick.proofs.RoofLaws.{RoofThere}
-use Rattle.stick.proofs.SiteProved.{walk-accepted, fleets-picked, units-picked, settings-picked, roofs-picked, many, many-is, roofs-there}
+use Rattle.stick.proofs.SiteProved.{walk-accepted, fleets-picked, units-picked, settings-picked, roofs-picked, link-is, every-long, many, many-is, roofs-there}
 use Rattle.chunks.specs.Sizes.{headMost}
-use Rattle.chunks.proofs.SameLaws.{Same, be-front, unit-same, head-same, roof-same}
+use Rattle.chunks.proofs.SameLaws.{Same, be-front, be-within, be-deep, tag-same, unit-same, head-same, roof-same}
 use Rattle.chunks.proofs.FieldChunks.{same-before}
 use Rattle.chunks.proofs.PlaceChunks.{Whole, went-whole, steps-shift}
 use Rattle.chunks.proofs.HeadChunks.{headEnd, HeadAppend, headFrom-append}
@@ -48,6 +52,12 @@ map-every {A} f g size (suc m) at h =
     next : (at size i : ℕ) → at + size * suc i ≡ at + size + size * i
     next at size i = omega (arith, mul-suc size i)
 
+-- functions that agree on the places of a list's elements
+each-same : {A : Type 0} (f g : ℕ → A → A) (d : A) (l : List A) → ((i : ℕ) → i < length l → (x : A) → f i x ≡ g i x) → each f l ≡ each g l
+each-same f g d l h =
+    ext-getD d (each f l) (each g l) (each-length f l ∙ sym (each-length g l))
+    (λ i b. let j : i < length l = subst (λ (n : ℕ). i < n) (each-length f l) b in each-at f l i d j ∙ h i j (getD l i d) ∙ sym (each-at g l i d j))
+
 -- ---- the site and the roofs, by the places of their fields, of any file whose walk is accepted
 module _ (file : List ℕ) (ok : whole file .number ≡ 0) where
   pub head-told : siteOf file .head ≡ headBy file header (settingsPlace file + header)
@@ -61,11 +71,14 @@ module _ (file : List ℕ) (ok : whole file .number ≡ 0) where
   unfolding headBy editionAt
   edition-told = ap (λ (h : Head). h .edition) head-told
 
-  pub units-told : siteOf file .units ≡ map (λ (at : ℕ). unitAt (editionAt file) file (at + header)) (every (unitBytes file) (unitsAt file) fleetBytes [])
+  abbrev pub linking : ℕ → Unit → Unit
+  linking i u = linked u (linkIn file (connectionsOf file) i)
+
+  pub units-told : siteOf file .units ≡ each linking (map (λ (at : ℕ). unitAt (editionAt file) file (at + header)) (every (unitBytes file) (unitsAt file) fleetBytes []))
   unfolding siteOf
   units-told =
-      ap (λ (n : ℕ). map (λ (at : ℕ). unitAt n file (at + header)) (having 2 file (placesOf file))) edition-told
-      ∙ ap (map (λ (at : ℕ). unitAt (editionAt file) file (at + header))) (units-picked file ok)
+      ap (λ (n : ℕ). each linking (map (λ (at : ℕ). unitAt n file (at + header)) (having 2 file (placesOf file)))) edition-told
+      ∙ ap (λ (ats : List ℕ). each linking (map (λ (at : ℕ). unitAt (editionAt file) file (at + header)) ats)) (units-picked file ok)
 
   pub roofs-told : roofsOf file ≡ map (roofAt file) (every roofBytes (many file ok) (roofPlace file 0) [])
   unfolding roofsOf
@@ -147,6 +160,40 @@ module _ (file : List ℕ) (ok : whole file .number ≡ 0) where
           let s : headEnd (a ++ drop h file) 0 ≡ headEnd a 0 = whole-file .within l in
           absurd (omega (arith, long))
 
+  -- ---- the connections: their bytes lie before the head's end, in the file and in its head
+  place-kept : connectionsPlace file ≡ connectionsPlace G
+  place-kept = ap (λ (n : ℕ). n + settingsBytes) settings-kept
+
+  far-enough-too : roofPlace G 0 ≤ h
+  unfolding stepsPlace
+  far-enough-too = let e = head-place G okG in let s = head-end-same in omega arith
+
+  tag-kept : connectionsPlace file + 1 ≤ h → tagAt file (connectionsPlace file) ≡ tagAt G (connectionsPlace G)
+  tag-kept l = tag-same file G (connectionsPlace file) (connectionsPlace file) (same-head (connectionsPlace file) 1 l) ∙ ap (tagAt G) place-kept
+
+  connected-kept : connected file ≡ connected G
+  unfolding connected connectionsBytes
+  connected-kept = go (connected file) (connected G) refl refl
+    where
+      go : (a b : Bool) → connected file ≡ a → connected G ≡ b → connected file ≡ connected G
+      go true b ea eb =
+          let bytes : connectionsBytes file ≡ header + 3 * unitsAt file = ap (λ (b : Bool). cond b (header + 3 * unitsAt file) 0) ea in
+          let l = far-enough in
+          ap (λ (t : ℕ). eqb t 10) (tag-kept (omega arith))
+      go false true ea eb =
+          let bytes : connectionsBytes G ≡ header + 3 * unitsAt G = ap (λ (b : Bool). cond b (header + 3 * unitsAt G) 0) eb in
+          let l = far-enough-too in
+          let e = place-kept in
+          ap (λ (t : ℕ). eqb t 10) (tag-kept (omega arith))
+      go false false ea eb = ea ∙ sym eb
+
+  link-bytes-kept : connectionsBytes file ≡ connectionsBytes G
+  unfolding connectionsBytes
+  link-bytes-kept = ap₂ (λ (b : Bool) (n : ℕ). cond b (header + 3 * n) 0) connected-kept units-kept
+
+  first-kept : roofPlace file 0 ≡ roofPlace G 0
+  first-kept = ap₂ (λ (n b : ℕ). n + b + roofBytes * 0) place-kept link-bytes-kept
+
   -- so there are as many roofs
   many-kept : many file ok ≡ many G okG
   unfolding stepsPlace
@@ -154,7 +201,7 @@ module _ (file : List ℕ) (ok : whole file .number ≡ 0) where
       let e : h ≡ stepsPlace file = head-place file ok in
       let g : headFrom (length G) G 0 ≡ stepsPlace G = head-place G okG in
       let s = head-end-same in
-      let p = settings-kept in
+      let p = first-kept in
       let m = many-is file ok in
       let n = many-is G okG in
       omega arith
@@ -181,11 +228,33 @@ module _ (file : List ℕ) (ok : whole file .number ≡ 0) where
       let m : unitBytes file * suc i ≤ unitBytes file * unitsAt file = mul-le-mul-left (unitBytes file) l in
       unit-same file G p p (editionAt file) (same-head p (cond (ownLimits (editionAt file)) 57 49) (omega arith))
 
+  link-kept : (i : ℕ) → i < unitsAt file → linkIn file (connectionsOf file) i ≡ linkIn G (connectionsOf G) i
+  unfolding connectionsBytes
+  link-kept i l = go (connected file) refl
+    where
+      at : ℕ
+      at = connectionsPlace file + header
+
+      go : (b : Bool) → connected file ≡ b → linkIn file (connectionsOf file) i ≡ linkIn G (connectionsOf G) i
+      go true e =
+          let bytes : connectionsBytes file ≡ header + 3 * unitsAt file = ap (λ (b : Bool). cond b (header + 3 * unitsAt file) 0) e in
+          let f = far-enough in
+          let all : Same file G at at (3 * unitsAt file) = same-head at (3 * unitsAt file) (omega arith) in
+          link-is file ok true e i
+          ∙ ap₂ linkOf (be-within file G at at (3 * unitsAt file) all (3 * i) 1 (omega arith)) (be-deep file G at at (3 * unitsAt file) all (3 * i) 1 2 (omega arith))
+          ∙ ap (λ (p : ℕ). linkOf (phasesIn G (p + header) i) (voltsIn G (p + header) i)) place-kept
+          ∙ sym (link-is G okG true (sym connected-kept ∙ e) i)
+      go false e = link-is file ok false e i ∙ sym (link-is G okG false (sym connected-kept ∙ e) i)
+
   all-units-kept : siteOf file .units ≡ siteOf G .units
   all-units-kept =
+      let plain : List Unit = map (λ (at : ℕ). unitAt (editionAt file) G (at + header)) (every (unitBytes file) (unitsAt file) fleetBytes []) in
+      let long : length plain ≡ unitsAt file = every-long (λ (at : ℕ). unitAt (editionAt file) G (at + header)) (unitBytes file) (unitsAt file) fleetBytes in
       units-told file ok
-      ∙ map-every (λ (at : ℕ). unitAt (editionAt file) file (at + header)) (λ (at : ℕ). unitAt (editionAt file) G (at + header)) (unitBytes file) (unitsAt file) fleetBytes unit-kept
-      ∙ (λ i. map (λ (at : ℕ). unitAt (edition-kept i) G (at + header)) (every (bytes-kept i) (units-kept i) fleetBytes []))
+      ∙ ap (each (linking file ok))
+      (map-every (λ (at : ℕ). unitAt (editionAt file) file (at + header)) (λ (at : ℕ). unitAt (editionAt file) G (at + header)) (unitBytes file) (unitsAt file) fleetBytes unit-kept)
+      ∙ each-same (linking file ok) (linking G okG) noUnit plain (λ i l u. ap (linked u) (link-kept i (subst (λ (n : ℕ). i < n) long l)))
+      ∙ (λ i. each (linking G okG) (map (λ (at : ℕ). unitAt (edition-kept i) G (at + header)) (every (bytes-kept i) (units-kept i) fleetBytes [])))
       ∙ sym (units-told G okG)
 
   pub site-same : siteOf (headFile file) ≡ siteOf file
@@ -210,7 +279,7 @@ module _ (file : List ℕ) (ok : whole file .number ≡ 0) where
   roofs-same =
       sym (roofs-told file ok
       ∙ map-every (roofAt file) (roofAt G) roofBytes (many file ok) (roofPlace file 0) roof-kept
-      ∙ ap₂ (λ (n s : ℕ). map (roofAt G) (every roofBytes n (s + settingsBytes + roofBytes * 0) [])) many-kept settings-kept
+      ∙ ap₂ (λ (n p : ℕ). map (roofAt G) (every roofBytes n p [])) many-kept first-kept
       ∙ sym (roofs-told G okG))
 
   -- ---- no steps are in the head

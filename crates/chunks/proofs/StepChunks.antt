@@ -15,7 +15,7 @@ use Rattle.solar.specs.declared.Sun.{Sun}
 use Rattle.solar.specs.Weather.{dark}
 use Rattle.fields.specs.declared.State.{State}
 use Rattle.fields.specs.Fields.{atEnd, atSteps, atReading, kinds, sizeIn, sizeOf, allowed, isReading, stateOf, roofAfter, stateAfter}
-use Rattle.fields.proofs.FieldLaws.{reading-alone, after-reading}
+use Rattle.fields.proofs.FieldLaws.{NoTag, by-tag, reading-alone, after-reading}
 use Rattle.stick.specs.declared.Answer.{Answer}
 use Rattle.stick.specs.declared.Reached.{Reached}
 use Rattle.stick.specs.Check.{answer, ends, reachOf}
@@ -24,7 +24,6 @@ use Rattle.stick.specs.Posts.{answered, ReadingThere}
 use Rattle.stick.proofs.ReachLaws.{walk-reach}
 use Rattle.stick.proofs.SaidLaws.{most-steps}
 use Rattle.stick.proofs.StepLaws.{usable, no-other, sized-alike}
-use Rattle.chunks.proofs.SameLaws.{NoTag, by-tag}
 use Rattle.chunks.proofs.ReachChunks.{Went, there, passing, far}
 use Rattle.chunks.proofs.PlaceChunks.{reach-whole, steps-over, steps-field, steps-append, sun-append}
 use Rattle.chunks.proofs.HeadChunks.{headEnd, headFrom-field, FieldTaken, accepted-field}
@@ -64,13 +63,13 @@ stepping-after st tag file at =
     by-tag (λ (t : ℕ). ofSteps t ≡ true → Stepping (stateAfter st t file at)) tag
     (λ o. absurd (passed-failed o refl)) (λ o. absurd (passed-failed o refl)) (λ o. absurd (passed-failed o refl))
     (λ o. at-steps refl) (λ o. at-steps refl)
-    (λ o. absurd (passed-failed o refl)) (λ o. absurd (passed-failed o refl)) (λ o. at-reading refl)
+    (λ o. absurd (passed-failed o refl)) (λ o. absurd (passed-failed o refl)) (λ o. at-reading refl) (λ o. at-steps refl) (λ o. absurd (passed-failed o refl))
     (λ n o. go (eqb tag 127) refl n o)
   where
     go : (b : Bool) → eqb tag 127 ≡ b → NoTag tag → ofSteps tag ≡ true → Stepping (stateAfter st tag file at)
     go true e n o = subst⁻¹ (λ (t : ℕ). Stepping (stateAfter st t file at)) (eqb-true tag 127 e) (at-end refl)
     go false e n o =
-        let none : ofSteps tag ≡ false = simp (ne-eqb tag 4 (n .n₄), ne-eqb tag 5 (n .n₅), ne-eqb tag 8 (n .n₈), e) in
+        let none : ofSteps tag ≡ false = simp (ne-eqb tag 4 (n .n₄), ne-eqb tag 5 (n .n₅), ne-eqb tag 9 (n .n₉), ne-eqb tag 8 (n .n₈), e) in
         absurd (passed-failed o none)
 
 -- and there no other field is allowed
@@ -79,10 +78,10 @@ reading-only tag r = ap (λ (b : Bool). b || eqb tag 8 || eqb tag 127) r
 
 stepping-tag : (st : State) (tag : ℕ) → Stepping st → eqb (st .stage) 0 ≡ false → allowed st tag ≡ true → ofSteps tag ≡ true
 stepping-tag st tag (at-steps e) g a =
-    steps-only (st .edition) (st .units) (st .left) (st .steps) tag (ap (λ (n : ℕ). allowed (stateOf n (st .edition) (st .units) (st .left) (st .steps)) tag) (sym e) ∙ a)
+    steps-only (st .edition) (st .units) (st .left) (st .steps) (st .current) tag (ap (λ (n : ℕ). allowed (stateOf n (st .edition) (st .units) (st .left) (st .steps) (st .current)) tag) (sym e) ∙ a)
 stepping-tag st tag (at-reading e) g a =
     reading-only tag
-    (reading-alone (st .edition) (st .units) (st .left) (st .steps) tag (ap (λ (n : ℕ). allowed (stateOf n (st .edition) (st .units) (st .left) (st .steps)) tag) (sym e) ∙ a))
+    (reading-alone (st .edition) (st .units) (st .left) (st .steps) (st .current) tag (ap (λ (n : ℕ). allowed (stateOf n (st .edition) (st .units) (st .left) (st .steps) (st .current)) tag) (sym e) ∙ a))
 stepping-tag st tag (at-end e) g a = absurd (passed-failed (ap (λ (n : ℕ). eqb n 0) e) g)
 
 module _ (a : List ℕ) where

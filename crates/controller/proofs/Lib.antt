@@ -5,3 +5,4 @@ pub mod SoundLaws
 pub mod AnswerLaws
 pub mod OneSign
 pub mod StandsLaws
+pub mod OneNeedProved

@@ -15,7 +15,7 @@ use Rattle.members.specs.Ranges.{Fleet, someAbove, someBelow}
 use Rattle.controller.specs.OneSign.{OneSign, OneSignLaw}
 use Rattle.rules.specs.Rules.{charges, shareOf, limited, withMode}
 use Rattle.members.specs.Sums.{total, unableAt}
-use Rattle.controller.specs.Pass.{needOf, rests, spent, allInBand, requestAfter, passOf}
+use Rattle.controller.specs.Pass.{ownNeed, ownBand, rests, spent, allInBand, requestAfter, passBy, passOf}
 
 left-none : (a b : Bool) → a ≡ false → (a && b) ≡ false
 left-none a b e = ap (λ (x : Bool). x && b) e
@@ -54,33 +54,35 @@ or-none : (P : ℤ → Type 0) (b : Bool) (z : ℤ) → P (pos 0) → P z → P 
 or-none P b z x y = by-test P b (pos 0) z (λ t. x) (λ t. y)
 
 -- what rule 6 makes of the requests
-mode-rules : (s : Settings) (n : ℕ) (f : Fleet) (need : ℤ) (i : ℕ) (r : ℤ)
-    → requestAfter s n f need i r
-    ≡ cond (unableAt (charges (s .mode)) f i) (pos 0) (withMode (charges (s .mode)) (limited (getD (f .rating) i 0) (r +ℤ shareOf (s .factor) need (getD (f .weight) i 0) (total n (f .weight)))))
+mode-rules : (s : Settings) (n : ℕ) (f : Fleet) (needs : ℕ → ℤ) (i : ℕ) (r : ℤ)
+    → requestAfter s n f needs i r
+    ≡ cond (unableAt (charges (s .mode)) f i) (pos 0) (withMode (charges (s .mode)) (limited (getD (f .rating) i 0) (r +ℤ shareOf (s .factor) (needs i) (getD (f .weight) i 0) (total n (f .weight)))))
 unfolding requestAfter
-mode-rules s n f need i r = refl
+mode-rules s n f needs i r = refl
 
-shared : (s : Settings) (n : ℕ) (f : Fleet) (need : ℤ) (rs : List ℤ) (c : Bool) → charges (s .mode) ≡ c → OneSign (each (requestAfter s n f need) rs)
-shared s n f need rs true e =
-    none-above (requestAfter s n f need) rs
+shared : (s : Settings) (n : ℕ) (f : Fleet) (needs : ℕ → ℤ) (rs : List ℤ) (c : Bool) → charges (s .mode) ≡ c → OneSign (each (requestAfter s n f needs) rs)
+shared s n f needs rs true e =
+    none-above (requestAfter s n f needs) rs
     (λ i r.
-    let z = limited (getD (f .rating) i 0) (r +ℤ shareOf (s .factor) need (getD (f .weight) i 0) (total n (f .weight))) in
-    ap (ltZ (pos 0)) (mode-rules s n f need i r)
+    let z = limited (getD (f .rating) i 0) (r +ℤ shareOf (s .factor) (needs i) (getD (f .weight) i 0) (total n (f .weight))) in
+    ap (ltZ (pos 0)) (mode-rules s n f needs i r)
     ∙ or-none (λ (x : ℤ). ltZ (pos 0) x ≡ false) (unableAt (charges (s .mode)) f i) (withMode (charges (s .mode)) z) refl (ap (λ (b : Bool). ltZ (pos 0) (withMode b z)) e ∙ not-above z))
-shared s n f need rs false e =
-    none-below (requestAfter s n f need) rs
+shared s n f needs rs false e =
+    none-below (requestAfter s n f needs) rs
     (λ i r.
-    let z = limited (getD (f .rating) i 0) (r +ℤ shareOf (s .factor) need (getD (f .weight) i 0) (total n (f .weight))) in
-    ap (λ (x : ℤ). ltZ x (pos 0)) (mode-rules s n f need i r)
+    let z = limited (getD (f .rating) i 0) (r +ℤ shareOf (s .factor) (needs i) (getD (f .weight) i 0) (total n (f .weight))) in
+    ap (λ (x : ℤ). ltZ x (pos 0)) (mode-rules s n f needs i r)
     ∙ or-none (λ (x : ℤ). ltZ x (pos 0) ≡ false) (unableAt (charges (s .mode)) f i) (withMode (charges (s .mode)) z) refl (ap (λ (b : Bool). ltZ (withMode b z) (pos 0)) e ∙ not-below z))
 
 pub one-sign : OneSignLaw
-unfolding passOf
+unfolding passOf passBy
 one-sign s m f rs h =
-    by-test OneSign (rests s (needOf s m rs) rs) rs
-    (cond (spent (charges (s .mode)) (length rs) f) (each (λ (i : ℕ) (r : ℤ). pos 0) rs) (cond (allInBand s (length rs) (needOf s m rs)) rs (each (requestAfter s (length rs) f (needOf s m rs)) rs)))
-    (λ t. h)
+    let needs : ℕ → ℤ = ownNeed s m f rs in
+    let cleared : List ℤ = each (λ (i : ℕ) (r : ℤ). pos 0) rs in
+    let after : List ℤ = each (requestAfter s (length rs) f needs) rs in
+    let close : Bool = allInBand (length rs) (ownBand s f) needs in
+    let empty : Bool = spent (charges (s .mode)) (length rs) f in
+    by-test OneSign (rests s needs rs) rs (cond empty cleared (cond close rs after)) (λ t. h)
     (λ t.
-    by-test OneSign (spent (charges (s .mode)) (length rs) f) (each (λ (i : ℕ) (r : ℤ). pos 0) rs) (cond (allInBand s (length rs) (needOf s m rs)) rs (each (requestAfter s (length rs) f (needOf s m rs)) rs))
-    (λ u. none-above (λ (i : ℕ) (r : ℤ). pos 0) rs (λ i r. refl))
-    (λ u. by-test OneSign (allInBand s (length rs) (needOf s m rs)) rs (each (requestAfter s (length rs) f (needOf s m rs)) rs) (λ v. h) (λ v. shared s (length rs) f (needOf s m rs) rs (charges (s .mode)) refl)))
+    by-test OneSign empty cleared (cond close rs after) (λ u. none-above (λ (i : ℕ) (r : ℤ). pos 0) rs (λ i r. refl))
+    (λ u. by-test OneSign close rs after (λ v. h) (λ v. shared s (length rs) f needs rs (charges (s .mode)) refl)))

@@ -1,32 +1,34 @@
 -- A pass as the code goes through it: each way out leaves what the definition says. Assumes nothing.
-use mathlib.Core.Path.{_≡_, refl, sym, ap, ap₂, _∙_, subst⁻¹, subst₂}
+use mathlib.Core.Path.{_≡_, refl, sym, ap, _∙_, subst⁻¹, subst₂}
 use mathlib.Core.Bool.{Bool, true, false, not, cond, _&&_}
 use mathlib.Core.List.{List}
-use Prim.Native.Nat.{ℕ, _*_, _≤_}
-use native.Mathlib.Nat.{le-trans, lt-of-le-of-lt}
+use Prim.Native.Nat.{ℕ, _*_, _^_, _≤_, _<_}
+use native.Mathlib.Nat.{lt-of-le-of-lt}
 use native.Mathlib.Omega.{arith}
-use lib.Dec.{leb, eqb, lit<, lit≤}
-use lib.IntN.{ℤ, pos, natAbs, _+ℤ_}
+use lib.Dec.{lit<}
+use lib.IntN.{ℤ, pos, _+ℤ_}
 use lib.ListN.{length, getD}
-use lib.Signed.{leZ}
+use lib.Signed.{mag}
+use mir.Syntax.{w64}
 use Rattle.whole.specs.Over.{each}
 use Rattle.whole.proofs.OverLaws.{sum-upto, none-of}
+use Rattle.whole.proofs.SignLaws.{read}
 use Rattle.unit.specs.declared.Unit.{Unit}
 use Rattle.rows.proofs.RowLaws.{column-count}
 use Rattle.rules.specs.declared.Settings.{Settings}
 use Rattle.rules.specs.declared.Asked.{Asked}
+use Rattle.rules.specs.declared.Wanted.{Wanted}
 use Rattle.controller.specs.declared.Passed.{Passed}
 use Rattle.members.specs.declared.Totals.{Totals}
 use Rattle.members.specs.Ranges.{Fleet, someAbove, someBelow}
-use Rattle.rules.specs.Rules.{charges, plainNeed, unable, inBand}
+use Rattle.rules.specs.Rules.{charges, byCurrent, plainNeed, unable}
 use Rattle.members.specs.Sums.{total, sumOfAll, differ, changedOf}
-use Rattle.controller.specs.Pass.{needOf, rests, spent, allInBand, requestAfter, passOf}
-use Rattle.rules.specs.Posts.{needFrom, restsBy}
-use Rattle.members.specs.Posts.{AskedOf, SameLengths, TotalsOf, Sharing, fleetBy, columnBy, spentBy, sharedBy}
-use Rattle.controller.specs.Posts.{Sound, DonePass}
+use Rattle.controller.specs.Pass.{otherState, withSum, ownNeed, ownBand, needOf, rests, spent, allInBand, requestAfter, passBy, passOf}
+use Rattle.rules.specs.Posts.{wantedBy, needBy, reportedBy, Modest}
+use Rattle.members.specs.Posts.{AskedOf, SameLengths, TotalsOf, Linked, Sharing, fleetBy, columnBy, spentBy, ownBy, sharedBy, noneCallsBy, allInBandBy}
+use Rattle.controller.specs.Posts.{Sound, DonePass, restsBy}
 use Rattle.members.proofs.DifferLaws.{same-same}
-use Rattle.controller.proofs.AlikeLaws.{rests-is, band-is}
-use Rattle.rules.proofs.RuleLaws.{back64, read-sized, need-size}
+use Rattle.rules.proofs.RuleLaws.{back64, read-sized, modest}
 
 -- a fleet's sums
 pub record TotalsFor (f : Fleet) (n : ℕ) (t : Totals) : Type 0 where
@@ -58,116 +60,95 @@ pub no-change : (rs : List ℤ) → changedOf rs rs ≡ false
 unfolding changedOf
 no-change rs = none-of (length rs) (λ (i : ℕ). differ (getD rs i (pos 0)) (getD rs i (pos 0))) (λ i h. same-same (getD rs i (pos 0)))
 
-module _ (s : Settings) (m : ℤ) (f : Fleet) (rs : List ℤ) (sound : Sound s m f (length rs)) (a : Asked) (ea : AskedOf rs a)
-    (need : ℤ) (en : need ≡ needFrom s (back64 m) a) (t : Totals) (et : TotalsFor f (length rs) t) where
+-- ---- what the code works out first: where each unit's need comes from, the direction, and the need that is reported
+abbrev askedBy : List ℤ → Asked
+askedBy rs = record { sum = sumOfAll rs; above = someAbove rs; below = someBelow rs }
+
+asked-is : (rs : List ℤ) (a : Asked) → AskedOf rs a → a ≡ askedBy rs
+asked-is rs a e = λ j. record { sum = e .sum j; above = e .above j; below = e .below j }
+
+pub record Worked (s : Settings) (m : ℤ) (f : Fleet) (rs : List ℤ) (w : Wanted) (charging : Bool) (need : ℤ) : Type 0 where
+  pub wanted : w ≡ wantedBy s m (askedBy rs)
+  pub mode : charging ≡ charges (s .mode)
+  pub reported : back64 need ≡ needOf s m rs
+
+-- they are the definition's
+own-is : (s : Settings) (m : ℤ) (f : Fleet) (rs : List ℤ) (i : ℕ) → ownBy (wantedBy s m (askedBy rs)) f i ≡ ownNeed s m f rs i
+unfolding ownBy needBy wantedBy ownNeed withSum
+own-is s m f rs i = refl
+
+reported-is : (s : Settings) (m : ℤ) (rs : List ℤ) → reportedBy (wantedBy s m (askedBy rs)) ≡ needOf s m rs
+unfolding reportedBy wantedBy needOf withSum
+reported-is s m rs = go (byCurrent (s .mode)) (otherState (charges (s .mode)) rs) (plainNeed s m +ℤ sumOfAll rs) (plainNeed s m)
+  where
+    go : (c o : Bool) (x y : ℤ) → cond (o && not c) x y ≡ cond c y (cond o x y)
+    go true true x y = refl
+    go true false x y = refl
+    go false true x y = refl
+    go false false x y = refl
+
+module _ (s : Settings) (m : ℤ) (f : Fleet) (rs : List ℤ) (sound : Sound s m f (length rs)) (a : Asked) (ea : AskedOf rs a) (w : Wanted) (ew : w ≡ wantedBy s (back64 m) a) where
+  here : w ≡ wantedBy s m a
+  here = ew ∙ ap (λ (z : ℤ). wantedBy s z a) (measure-read s m f (length rs) sound)
+
+  pub linked : Linked w f
+  linked = record {
+    modest = subst⁻¹ Modest here (modest s m a (sound .measure-small) (sound .target-small) (sound .current-small) (ea .bounded));
+    link-small = sound .link-small;
+  }
+
+  pub worked : (charging : Bool) → charging ≡ charges (s .mode) → (need : ℤ) → mag need < 2 ^ 63 → need ≡ reportedBy w → Worked s m f rs w charging need
+  worked charging eg need hn en =
+      let is = here ∙ ap (wantedBy s m) (asked-is rs a ea) in
+      record { wanted = is; mode = eg; reported = read w64 need hn ∙ en ∙ ap reportedBy is ∙ reported-is s m rs }
+
+module _ {s : Settings} {m : ℤ} {f : Fleet} {rs : List ℤ} {w : Wanted} {charging : Bool} {need : ℤ} (k : Worked s m f rs w charging need) where
   -- ---- the code's rules are the definition's
-  em : back64 m ≡ m
-  em = measure-read s m f (length rs) sound
+  pub rests-is : (a : Asked) → AskedOf rs a → (n : ℕ) → n ≡ length rs → restsBy charging w a f n ≡ rests s (ownNeed s m f rs) rs
+  unfolding restsBy noneCallsBy ownBy needBy wantedBy rests ownNeed withSum
+  rests-is a ea n e = λ j. restsBy (k .mode j) (k .wanted j) (asked-is rs a ea j) f (e j)
 
-  from-is : needFrom s m a ≡ needOf s m rs
-  unfolding needFrom needOf
-  from-is = agree (a .above) (a .below) (a .sum) (ea .above) (ea .below) (ea .sum)
-    where
-      agree : (u d : Bool) (z : ℤ) → u ≡ someAbove rs → d ≡ someBelow rs → z ≡ sumOfAll rs
-          → cond (cond (charges (s .mode)) u d) (plainNeed s m +ℤ z) (plainNeed s m)
-          ≡ cond (cond (charges (s .mode)) (someAbove rs) (someBelow rs)) (plainNeed s m +ℤ sumOfAll rs) (plainNeed s m)
-      agree u d z eu ed ez = cc
+  pub spent-is : (t : Totals) → TotalsFor f (length rs) t → length (f .stored) ≡ length rs → spentBy charging (t .rated) (t .reserve) (f .stored) ≡ spent (charges (s .mode)) (length rs) f
+  unfolding spentBy spent
+  spent-is t et e = λ j. unable (k .mode j) (et .rated j) (et .reserve j) (total (e j) (f .stored))
 
-  need-agrees : need ≡ needOf s m rs
-  need-agrees = en ∙ ap (λ (z : ℤ). needFrom s z a) em ∙ from-is
+  pub band-is : (n : ℕ) → n ≡ length rs → allInBandBy (s .band) w f n ≡ allInBand (length rs) (ownBand s f) (ownNeed s m f rs)
+  unfolding allInBandBy ownBy needBy wantedBy allInBand ownBand ownNeed withSum
+  band-is n e = λ j. allInBandBy (s .band) (k .wanted j) f (e j)
 
-  small : natAbs need ≤ 400000000000
-  small =
-      subst⁻¹ (λ (z : ℤ). natAbs z ≤ 400000000000) (en ∙ ap (λ (z : ℤ). needFrom s z a) em)
-      (need-size s m a (sound .measure-small) (le-trans (ea .bounded) (lit≤ tt)) (sound .target-small) (plainNeed s (back64 m)) refl (ea .bounded))
+  shared-is : (t : Totals) → TotalsFor f (length rs) t → each (sharedBy charging (s .factor) w (t .weight) f) rs ≡ each (requestAfter s (length rs) f (ownNeed s m f rs)) rs
+  unfolding sharedBy ownBy needBy wantedBy requestAfter ownNeed withSum
+  shared-is t et = λ j. each (sharedBy (k .mode j) (s .factor) (k .wanted j) (et .weight j) f) rs
 
-  need-read : back64 need ≡ need
-  need-read = read-sized need (lt-of-le-of-lt small (lit< tt))
+  -- ---- rules 3 to 6, each with what it leaves
+  goes : passOf s m f rs
+      ≡ cond (rests s (ownNeed s m f rs) rs) rs
+      (cond (spent (charges (s .mode)) (length rs) f) (each (λ (i : ℕ) (r : ℤ). pos 0) rs)
+      (cond (allInBand (length rs) (ownBand s f) (ownNeed s m f rs)) rs (each (requestAfter s (length rs) f (ownNeed s m f rs)) rs)))
+  unfolding passOf passBy
+  goes = refl
 
-  pub need-small : natAbs (back64 need) ≤ 400000000000
-  need-small = subst⁻¹ (λ (z : ℤ). natAbs z ≤ 400000000000) need-read small
+  pub done-rests : rests s (ownNeed s m f rs) rs ≡ true → DonePass s m f rs rs (record { need = back64 need; changed = false })
+  done-rests x = record { requests = sym (goes ∙ cc); need = k .reported; changed = sym (no-change rs) }
 
-  both : back64 need ≡ needOf s m rs
-  both = need-read ∙ need-agrees
+  module _ (x : rests s (ownNeed s m f rs) rs ≡ false) where
+    pub done-clear : spent (charges (s .mode)) (length rs) f ≡ true → (after : List ℤ) (changed : Bool) → after ≡ each (λ (i : ℕ) (r : ℤ). pos 0) rs → changed ≡ changedOf rs after
+        → DonePass s m f rs after (record { need = back64 need; changed = changed })
+    done-clear y after changed e h = record { requests = e ∙ sym (goes ∙ cc); need = k .reported; changed = h }
 
-  module _ (resting : Bool) (er : resting ≡ restsBy (eqb (s .mode) 3) (back64 need) a) where
-    rests-agrees : resting ≡ rests s (needOf s m rs) rs
-    unfolding restsBy
-    rests-agrees = er ∙ agree (a .above) (a .below) (back64 need) (ea .above) (ea .below) both ∙ sym (rests-is s (needOf s m rs) rs (sound .some))
-      where
-        agree : (u d : Bool) (z : ℤ) → u ≡ someAbove rs → d ≡ someBelow rs → z ≡ needOf s m rs
-            → (not (cond (charges (s .mode)) d u) && cond (charges (s .mode)) (leZ (pos 0) z) (leZ z (pos 0)))
-            ≡ (not (cond (charges (s .mode)) (someBelow rs) (someAbove rs)) && cond (charges (s .mode)) (leZ (pos 0) (needOf s m rs)) (leZ (needOf s m rs) (pos 0)))
-        agree u d z eu ed ez = cc
+    module _ (y : spent (charges (s .mode)) (length rs) f ≡ false) where
+      pub done-band : allInBand (length rs) (ownBand s f) (ownNeed s m f rs) ≡ true → DonePass s m f rs rs (record { need = back64 need; changed = false })
+      done-band z = record { requests = sym (goes ∙ cc); need = k .reported; changed = sym (no-change rs) }
 
-    -- ---- rule 3
-    pub done-rests : resting ≡ true → DonePass s m f rs rs (record { need = back64 need; changed = false })
-    unfolding passOf
-    done-rests t = record {
-      requests = sym (ap (λ (b : Bool). cond b rs (cond (spent (charges (s .mode)) (length rs) f) (each (λ (i : ℕ) (r : ℤ). pos 0) rs) (cond (allInBand s (length rs) (needOf s m rs)) rs (each (requestAfter s (length rs) f (needOf s m rs)) rs)))) (sym rests-agrees ∙ t));
-      need = both;
-      changed = sym (no-change rs);
-    }
-
-    module _ (going : resting ≡ false) (empty : Bool) (ee : empty ≡ spentBy (eqb (s .mode) 3) (t .rated) (t .reserve) (f .stored)) where
-      goes : passOf s m f rs
-          ≡ cond (spent (charges (s .mode)) (length rs) f) (each (λ (i : ℕ) (r : ℤ). pos 0) rs) (cond (allInBand s (length rs) (needOf s m rs)) rs (each (requestAfter s (length rs) f (needOf s m rs)) rs))
-      unfolding passOf
-      goes = ap (λ (b : Bool). cond b rs (cond (spent (charges (s .mode)) (length rs) f) (each (λ (i : ℕ) (r : ℤ). pos 0) rs) (cond (allInBand s (length rs) (needOf s m rs)) rs (each (requestAfter s (length rs) f (needOf s m rs)) rs)))) (sym rests-agrees ∙ going)
-
-      spent-agrees : empty ≡ spent (charges (s .mode)) (length rs) f
-      unfolding spentBy spent
-      spent-agrees = ee ∙ agree (t .rated) (t .reserve) (length (f .stored)) (et .rated) (et .reserve) (sound .lengths .stored)
-        where
-          agree : (x y z : ℕ) → x ≡ total (length rs) (f .rated) → y ≡ total (length rs) (f .reserve) → z ≡ length rs
-              → unable (charges (s .mode)) x y (total z (f .stored))
-              ≡ unable (charges (s .mode)) (total (length rs) (f .rated)) (total (length rs) (f .reserve)) (total (length rs) (f .stored))
-          agree x y z ex ey ez = cc
-
-      -- ---- rule 4
-      pub done-clear : empty ≡ true → (after : List ℤ) (changed : Bool) → after ≡ each (λ (i : ℕ) (r : ℤ). pos 0) rs → changed ≡ changedOf rs after
+      pub done-shares : allInBand (length rs) (ownBand s f) (ownNeed s m f rs) ≡ false → (t : Totals) → TotalsFor f (length rs) t → (after : List ℤ) (changed : Bool)
+          → after ≡ each (sharedBy charging (s .factor) w (t .weight) f) rs → changed ≡ changedOf rs after
           → DonePass s m f rs after (record { need = back64 need; changed = changed })
-      done-clear t after changed e h = record {
-        requests = e ∙ sym (goes ∙ ap (λ (b : Bool). cond b (each (λ (i : ℕ) (r : ℤ). pos 0) rs) (cond (allInBand s (length rs) (needOf s m rs)) rs (each (requestAfter s (length rs) f (needOf s m rs)) rs))) (sym spent-agrees ∙ t));
-        need = both;
-        changed = h;
-      }
-
-      module _ (able : empty ≡ false) (close : Bool) (ec : close ≡ inBand (s .band) (back64 need)) where
-        goes-on : passOf s m f rs ≡ cond close rs (each (requestAfter s (length rs) f (needOf s m rs)) rs)
-        goes-on =
-            goes
-            ∙ ap (λ (b : Bool). cond b (each (λ (i : ℕ) (r : ℤ). pos 0) rs) (cond (allInBand s (length rs) (needOf s m rs)) rs (each (requestAfter s (length rs) f (needOf s m rs)) rs))) (sym spent-agrees ∙ able)
-            ∙ ap (λ (b : Bool). cond b rs (each (requestAfter s (length rs) f (needOf s m rs)) rs)) (sym (ec ∙ ap (inBand (s .band)) both ∙ sym (band-is s (length rs) (needOf s m rs) (sound .some))))
-
-        -- ---- rule 5
-        pub done-band : close ≡ true → DonePass s m f rs rs (record { need = back64 need; changed = false })
-        done-band t = record {
-          requests = sym (goes-on ∙ ap (λ (b : Bool). cond b rs (each (requestAfter s (length rs) f (needOf s m rs)) rs)) t);
-          need = both;
-          changed = sym (no-change rs);
-        }
-
-        -- ---- rule 6
-        shared-is : each (sharedBy (eqb (s .mode) 3) (s .factor) (back64 need) (t .weight) f) rs ≡ each (requestAfter s (length rs) f (needOf s m rs)) rs
-        unfolding requestAfter
-        shared-is =
-            ap₂ (λ (z : ℤ) (w : ℕ). each (sharedBy (eqb (s .mode) 3) (s .factor) z w f) rs) both (et .weight)
-
-        pub done-shares : close ≡ false → (after : List ℤ) (changed : Bool)
-            → after ≡ each (sharedBy (eqb (s .mode) 3) (s .factor) (back64 need) (t .weight) f) rs → changed ≡ changedOf rs after
-            → DonePass s m f rs after (record { need = back64 need; changed = changed })
-        done-shares t after changed e h = record {
-          requests = e ∙ shared-is ∙ sym (goes-on ∙ ap (λ (b : Bool). cond b rs (each (requestAfter s (length rs) f (needOf s m rs)) rs)) t);
-          need = both;
-          changed = h;
-        }
+      done-shares z t et after changed e h = record { requests = e ∙ shared-is t et ∙ sym (goes ∙ cc); need = k .reported; changed = h }
 
 -- what rule 6 asks for
-pub sharing : (s : Settings) (m : ℤ) (f : Fleet) (n : ℕ) → Sound s m f n → (t : Totals) → TotalsFor f n t → (need : ℤ) → natAbs need ≤ 400000000000
-    → Sharing (s .factor) need (t .weight) f n
-sharing s m f n sound t et need h = record {
-  need-small = h;
+pub sharing : (s : Settings) (m : ℤ) (f : Fleet) (n : ℕ) → Sound s m f n → (t : Totals) → TotalsFor f n t → (w : Wanted) → Linked w f → Sharing (s .factor) w (t .weight) f n
+sharing s m f n sound t et w linked = record {
+  linked = linked;
   factor-small = sound .factor-small;
   weights-small =
       let sum : total n (f .weight) ≤ n * 10000 = sum-upto n 10000 (λ (i : ℕ). getD (f .weight) i 0) (λ i l. sound .weight-small i) in

@@ -10,7 +10,7 @@ use Rattle.whole.proofs.OverLaws.{each-length}
 use Rattle.rules.specs.declared.Settings.{Settings}
 use Rattle.members.specs.Ranges.{Fleet}
 use Rattle.rules.specs.Rules.{charges}
-use Rattle.controller.specs.Pass.{needOf, rests, spent, allInBand, requestAfter, passOf}
+use Rattle.controller.specs.Pass.{ownNeed, ownBand, rests, spent, allInBand, requestAfter, passBy, passOf}
 
 kept-length : (a b c : Bool) (rs x y : List ℤ) → length x ≡ length rs → length y ≡ length rs → length (cond a rs (cond b x (cond c rs y))) ≡ length rs
 kept-length true b c rs x y p q = refl
@@ -19,11 +19,10 @@ kept-length false false true rs x y p q = refl
 kept-length false false false rs x y p q = q
 
 pub pass-length : (s : Settings) (m : ℤ) (f : Fleet) (rs : List ℤ) → length (passOf s m f rs) ≡ length rs
-unfolding passOf
+unfolding passOf passBy
 pass-length s m f rs =
-    let need : ℤ = needOf s m rs in
-    let charging : Bool = charges (s .mode) in
+    let needs : ℕ → ℤ = ownNeed s m f rs in
     let none : ℕ → ℤ → ℤ = λ i r. pos 0 in
-    kept-length (rests s need rs) (spent charging (length rs) f) (allInBand s (length rs) need) rs (each none rs) (each (requestAfter s (length rs) f need) rs)
+    kept-length (rests s needs rs) (spent (charges (s .mode)) (length rs) f) (allInBand (length rs) (ownBand s f) needs) rs (each none rs) (each (requestAfter s (length rs) f needs) rs)
     (each-length none rs)
-    (each-length (requestAfter s (length rs) f need) rs)
+    (each-length (requestAfter s (length rs) f needs) rs)

@@ -1,13 +1,17 @@
 -- Nobody has to believe this file: the parts of contracts by name, and what a pass may count on.
 use Prim.Native.Nat.{ℕ, _≤_}
+use mathlib.Core.Bool.{Bool, true, not, cond, _&&_}
 use mathlib.Core.List.{List}
 use mathlib.Core.Path.{_≡_}
 use lib.IntN.{ℤ, natAbs}
 use lib.ListN.{getD}
+use Rattle.rules.specs.declared.Asked.{Asked}
 use Rattle.rules.specs.declared.Settings.{Settings}
+use Rattle.rules.specs.declared.Wanted.{Wanted}
+use Rattle.rules.specs.Rules.{byCurrent}
 use Rattle.members.specs.Ranges.{Fleet}
 use Rattle.members.specs.Sums.{changedOf}
-use Rattle.members.specs.Posts.{SameLengths, Addable}
+use Rattle.members.specs.Posts.{SameLengths, Addable, noneCallsBy}
 use Rattle.controller.specs.declared.Passed.{Passed}
 use Rattle.controller.specs.Pass.{needOf, passOf}
 
@@ -28,6 +32,14 @@ pub record Sound (s : Settings) (measure : ℤ) (f : Fleet) (n : ℕ) : Type 0 w
   pub energies : Energies (f .rated) (f .reserve) (f .stored)
   pub rating-small : (i : ℕ) → getD (f .rating) i 0 ≤ 100000000
   pub weight-small : (i : ℕ) → getD (f .weight) i 0 ≤ 10000
+  -- by current a measure is a meter's
+  pub current-small : byCurrent (s .mode) ≡ true → natAbs measure ≤ 300000000
+  pub link-small : (i : ℕ) → getD (f .link) i 0 ≤ 120000
+
+-- P3, as the code has it
+unfoldable pub restsBy : Bool → Wanted → Asked → Fleet → ℕ → Bool
+unfolding noneCallsBy
+restsBy charging w a f n = not (cond charging (a .below) (a .above)) && noneCallsBy charging w f n
 
 -- what a pass leaves: the definition's requests, need and whether a request changed
 pub record DonePass (s : Settings) (m : ℤ) (f : Fleet) (before after : List ℤ) (p : Passed) : Type 0 where

@@ -1,20 +1,36 @@
 ghost use mathlib.Core.Path.{_≡_};
+ghost use Prim.Native.Nat.{_≤_};
 ghost use lib.ListN.{length};
-ghost use Rattle.members.specs.Ranges.{fleetOf};
-ghost use Rattle.members.specs.Posts.{TotalsOf, fleetBy};
-ghost use Rattle.controller.specs.Posts.{Sound, DonePass};
+ghost use Rattle.members.specs.Ranges.{fleetOf, fleetLinked};
+ghost use Rattle.members.specs.Posts.{TotalsOf, Linked, fleetBy};
+ghost use Rattle.controller.specs.Posts.{Sound, DonePass, restsBy};
 ghost use Rattle.controller.specs.Answers.{passAnswer, passLeaves};
+use super::Aim;
 use super::PassAnswer;
 use super::Passed;
 use members::Totals;
+use rules::Asked;
 use rules::Settings;
+use rules::Wanted;
+
+// P3: a fleet that is not in the mode's own state rests where no unit's own need calls.
+fn rests(charging: bool, w: Wanted, a: Asked, units: &[[u64; 18]], stored: &[u64]) -> bool
+    requires { ⌜ 1 ≤ length (now units) ⌝ }
+    requires { ⌜ Linked w (fleetBy (now units) (now stored)) ⌝ }
+    ensures { λ r. ⌜ r ≡ restsBy charging w a (fleetBy (now (units .entry)) (now (stored .entry))) (length (now (units .entry))) ⌝ }
+{
+    if rules::in_own_state(charging, a) {
+        return false;
+    }
+    members::none_calls(charging, w, units, stored)
+}
 
 // One pass over a fleet in its ranges, P1 to P6: its units as rows, their sums, and what each holds.
 pub fn pass_within(
     s: Settings,
     measure: i64,
     t: Totals,
-    units: &[[u64; 17]],
+    units: &[[u64; 18]],
     stored: &[u64],
     requests: &mut [i32],
 ) -> Passed
@@ -23,9 +39,10 @@ pub fn pass_within(
     ensures { λ r. ⌜ DonePass s measure (fleetBy (now (units .entry)) (now (stored .entry))) (now (requests .entry)) (now (requests .exit)) r ⌝ }
 {
     let a = members::asked_of(requests);
-    let need = rules::need(s, measure, a);
-    let charging = s.mode == 3;
-    if rules::rests(charging, need, a) {
+    let charging = rules::charges(s.mode);
+    let w = rules::wanted_by(s, measure, a);
+    let need = rules::reported(w);
+    if rests(charging, w, a, units, stored) {
         return Passed {
             need,
             changed: false,
@@ -35,67 +52,72 @@ pub fn pass_within(
         let changed = members::clear(requests);
         return Passed { need, changed };
     }
-    if rules::in_band(s.band, need) {
+    if members::all_in_band(s.band, w, units, stored) {
         return Passed {
             need,
             changed: false,
         };
     }
-    let changed = members::share_all(charging, s.factor, need, t.weight, units, stored, requests);
+    let changed = members::share_all(charging, s.factor, w, t.weight, units, stored, requests);
     Passed { need, changed }
 }
 
 // The same over lists, with rows to fill.
 fn pass_with(
-    s: Settings,
-    measure: i64,
+    aim: Aim,
     rated: &[u64],
     reserve: &[u64],
     stored: &[u64],
     rating: &[u32],
     weight: &[u16],
-    units: &mut [[u64; 17]],
+    links: &[u32],
+    units: &mut [[u64; 18]],
     requests: &mut [i32],
 ) -> Passed
-    requires { ⌜ Sound s measure (fleetOf (now rated) (now reserve) (now stored) (now rating) (now weight)) (length (now requests)) ⌝ }
+    requires { ⌜ Sound (aim .settings) (aim .measure) (fleetLinked (now rated) (now reserve) (now stored) (now rating) (now weight) (now links)) (length (now requests)) ⌝ }
     requires { ⌜ length (now units) ≡ length (now requests) ⌝ }
-    ensures { λ r. ⌜ DonePass s measure (fleetOf (now (rated .entry)) (now (reserve .entry)) (now (stored .entry)) (now (rating .entry)) (now (weight .entry))) (now (requests .entry)) (now (requests .exit)) r ⌝ }
+    ensures { λ r. ⌜ DonePass (aim .settings) (aim .measure)
+        (fleetLinked (now (rated .entry)) (now (reserve .entry)) (now (stored .entry)) (now (rating .entry)) (now (weight .entry)) (now (links .entry)))
+        (now (requests .entry)) (now (requests .exit)) r ⌝ }
 {
-    members::fill(rated, reserve, stored, rating, weight, units);
+    members::fill(rated, reserve, stored, rating, weight, links, units);
     let t = members::summed(units);
-    pass_within(s, measure, t, units, stored, requests)
+    let s = aim.settings;
+    pass_within(s, aim.measure, t, units, stored, requests)
 }
 
 // The same, over lists.
-fn pass_over(
-    s: Settings,
-    measure: i64,
+pub fn pass_over(
+    aim: Aim,
     rated: &[u64],
     reserve: &[u64],
     stored: &[u64],
     rating: &[u32],
     weight: &[u16],
+    links: &[u32],
     requests: &mut [i32],
 ) -> Passed
-    requires { ⌜ Sound s measure (fleetOf (now rated) (now reserve) (now stored) (now rating) (now weight)) (length (now requests)) ⌝ }
-    ensures { λ r. ⌜ DonePass s measure (fleetOf (now (rated .entry)) (now (reserve .entry)) (now (stored .entry)) (now (rating .entry)) (now (weight .entry))) (now (requests .entry)) (now (requests .exit)) r ⌝ }
+    requires { ⌜ Sound (aim .settings) (aim .measure) (fleetLinked (now rated) (now reserve) (now stored) (now rating) (now weight) (now links)) (length (now requests)) ⌝ }
+    ensures { λ r. ⌜ DonePass (aim .settings) (aim .measure)
+        (fleetLinked (now (rated .entry)) (now (reserve .entry)) (now (stored .entry)) (now (rating .entry)) (now (weight .entry)) (now (links .entry)))
+        (now (requests .entry)) (now (requests .exit)) r ⌝ }
 {
     let n = requests.len();
-    let mut units = [[0u64; 17]; 64];
+    let mut units = [[0u64; 18]; 64];
     pass_with(
-        s,
-        measure,
+        aim,
         rated,
         reserve,
         stored,
         rating,
         weight,
+        links,
         &mut units[0..n],
         requests,
     )
 }
 
-// One pass of any numbers. Refused are lists of unequal length, none or above 64 (10), values out
+// One pass by watts, of any numbers. Refused are lists of unequal length, none or above 64 (10), values out
 // of range (5), and then a request beyond its rating or requests of both signs (10); on a refusal
 // the requests are as they were.
 pub fn pass(
@@ -122,12 +144,26 @@ pub fn pass(
     ) {
         return PassAnswer::PassRefused(10);
     }
-    let fine = rules::settings_in(s) & rules::measure_in(measure);
+    let fine = rules::settings_in(s) & (s.mode <= 3) & rules::measure_in(measure);
     if !(fine & members::units_in(rated, reserve, stored, rating, weight)) {
         return PassAnswer::PassRefused(5);
     }
     if !members::requests_in(rating, requests) {
         return PassAnswer::PassRefused(10);
     }
-    PassAnswer::PassDone(pass_over(s, measure, rated, reserve, stored, rating, weight, requests))
+    let links = [0u32; 64];
+    let aim = Aim {
+        settings: s,
+        measure,
+    };
+    PassAnswer::PassDone(pass_over(
+        aim,
+        rated,
+        reserve,
+        stored,
+        rating,
+        weight,
+        &links[0..n],
+        requests,
+    ))
 }

@@ -114,7 +114,7 @@ module _ (file : List ℕ) where
 
   gone-cut : goneBy atStart file .number ≡ 1 → goneBy atStart file .at < length file
   unfolding goneBy
-  gone-cut z = far-cut file start 0 (omega arith) z .bytes
+  gone-cut z = far-cut file start 0 (omega arith) (omega arith) z .bytes
 
   end-told : goneBy atStart file .number ≤ 1 → endFault (fedBy atStart file) ≡ walk (length file) start file 0 .number
   unfolding endFault

@@ -1,44 +1,30 @@
 -- Between any two fields of a run at most 64 units are said and at most 64 units or inverters are still to come: the fleet field says at most 64, the
 -- settings leave 64 inverters, and every other field leaves as many or one less. Assumes nothing.
 use mathlib.Core.Path.{_≡_, refl, ap, subst}
-use mathlib.Core.Bool.{true, _&&_}
 use mathlib.Core.List.{List, _++_}
 use Prim.Native.Nat.{ℕ, _+_, _-_, _*_, _≤_}
 use native.Mathlib.Nat.{mul-le-mul}
 use native.Mathlib.Omega.{arith}
 use lib.Dec.{leb}
 use lib.ListN.{length, take}
-use borrow.Author.Tests.{leb-true}
-use Rattle.whole.specs.Interval.{between}
 use Rattle.whole.proofs.Choice.{by-test}
-use Rattle.whole.proofs.OverLaws.{and-parts}
 use Rattle.octets.specs.BigEndian.{be}
-use Rattle.unit.specs.Ranges.{secondsIn, editionIn}
 use Rattle.parts.specs.Header.{header}
 use Rattle.fields.specs.declared.State.{State}
-use Rattle.fields.specs.Fields.{fleetIn, goneTo}
+use Rattle.fields.specs.Fields.{goneTo}
 use Rattle.fields.proofs.FieldLaws.{fewer}
-use Rattle.chunks.proofs.ReachChunks.{Went, there, passing}
+use Rattle.chunks.proofs.ReachChunks.{fleet-counts, Went, there, passing}
 use Rattle.kept.specs.Kept.{Kept}
 use Rattle.kept.specs.Layout.{knownBy}
 use Rattle.kept.specs.Posts.{WellKept}
 use Rattle.taking.specs.Chunk.{goneBy}
-use Rattle.taking.proofs.TookLaws.{Took, fleet, unit, settings, inverter, warm, efficiency, reading, weather, end, took}
+use Rattle.taking.proofs.TookLaws.{Took, fleet, unit, settings, connections, inverter, warm, efficiency, reading, weather, end, took}
 use Rattle.taking.proofs.LedLaws.{led}
 use Rattle.taking.proofs.FedLaws.{gone-leads}
 
 pub record Few (st : State) : Type 0 where
   pub units : st .units ≤ 64
   pub left : st .left ≤ 64
-
--- the fleet field's range
-fleet-few : (file : List ℕ) (at : ℕ) → fleetIn file at ≡ true → be 1 file (at + 1) ≤ 64
-unfolding fleetIn
-fleet-few file at e =
-    let n = be 1 file (at + 1) in
-    let form = editionIn (be 1 file at) in
-    let both = and-parts (form && between 1 64 n) (secondsIn (be 4 file (at + 2))) e in
-    leb-true n 64 (and-parts (leb 1 n) (leb n 64) (and-parts form (between 1 64 n) (both .0) .1) .1)
 
 -- one field
 module _ (file : List ℕ) (st : State) (i : ℕ) (m : State) (few : Few st) where
@@ -52,7 +38,7 @@ module _ (file : List ℕ) (st : State) (i : ℕ) (m : State) (few : Few st) whe
 
   took-few : Took file st i m → Few m
   took-few (fleet t s p v is) =
-      let n = fleet-few file (i + header) v in
+      let n = fleet-counts file (i + header) v .1 in
       let u : m .units ≡ be 1 file (i + header + 1) = ap (λ (s : State). s .units) is in
       let l : m .left ≡ be 1 file (i + header + 1) = ap (λ (s : State). s .left) is in
       record { units = omega arith; left = omega arith }
@@ -69,6 +55,7 @@ module _ (file : List ℕ) (st : State) (i : ℕ) (m : State) (few : Few st) whe
       let l : m .left ≡ 64 = ap (λ (s : State). s .left) is in
       let a = few .units in
       record { units = omega arith; left = omega arith }
+  took-few (connections t s is) = same 5 (st .steps) is
   took-few (inverter t s some is) =
       let u : m .units ≡ st .units = ap (λ (s : State). s .units) is in
       let l : m .left ≡ st .left - 1 = ap (λ (s : State). s .left) is in

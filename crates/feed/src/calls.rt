@@ -6,7 +6,6 @@ ghost use lib.ListN.{length};
 ghost use Rattle.feed.specs.Answers.{ownNumber, startNumber, startLeaves, roomFor, endNumber, endLeaves, endWrites, placeTold, stepsTold};
 use super::Fed;
 use fields::AT_END;
-use fields::AT_FLEET;
 use fields::State;
 use kept::Mark;
 use kept::SITE;
@@ -112,13 +111,7 @@ pub fn start(s: &mut [u8]) -> u8
     let none = [0u8; 1];
     let m = Mark {
         place: 0,
-        state: State {
-            stage: AT_FLEET,
-            edition: 0,
-            units: 0,
-            left: 0,
-            steps: 0,
-        },
+        state: fields::first(),
         site: 0,
         tail: 0,
         sun: Sun {

@@ -1,5 +1,5 @@
 -- Every row is as it is stated: the definitions compute it. Assumes nothing.
-use mathlib.Core.List.{_++_, map}
+use mathlib.Core.List.{List, _++_, map}
 use mathlib.Core.Path.{_≡_, refl}
 use lib.Ieee.{toBits, div, ofInt}
 use Rattle.reading.specs.Conversion.{wattsOf}
@@ -9,7 +9,11 @@ use Rattle.figures.specs.Table.{table}
 use Rattle.figures.specs.Further.{further}
 use Rattle.figures.specs.Roofs.{roofs}
 use Rattle.figures.specs.Limits.{limits}
+use Rattle.figures.specs.Currents.{currents}
 
-pub figures-hold : map (λ (r : Row). r .given) (table ++ further ++ roofs ++ limits) ≡ map (λ (r : Row). r .stated) (table ++ further ++ roofs ++ limits)
-unfolding table further roofs limits toBits div ofInt wattsOf choiceOf
+abbrev all : List Row
+all = table ++ further ++ roofs ++ limits ++ currents
+
+pub figures-hold : map (λ (r : Row). r .given) all ≡ map (λ (r : Row). r .stated) all
+unfolding table further roofs limits currents toBits div ofInt wattsOf choiceOf
 figures-hold = refl

@@ -4,3 +4,4 @@ pub mod Table
 pub mod Further
 pub mod Roofs
 pub mod Limits
+pub mod Currents

@@ -4,7 +4,7 @@ use mathlib.Core.List.{List, [], _∷_, _++_, map}
 use Prim.Native.Nat.{ℕ}
 use lib.IntN.{ℤ, pos}
 use lib.Ieee.{binary64, ofBits}
-use mathlib.Core.Bool.{Bool, cond}
+use mathlib.Core.Bool.{Bool, false, cond}
 use lib.ListN.{replicate}
 use Rattle.whole.specs.Call.{Call, Gave, Refused}
 use Rattle.octets.specs.BigEndian.{bytesOf}
@@ -13,8 +13,9 @@ use Rattle.reading.specs.Conversion.{wattsOf, wattsCall}
 use Rattle.reading.specs.Choice.{measureOf, measureCall}
 use Rattle.rules.specs.declared.Settings.{Settings}
 use Rattle.controller.specs.declared.Passed.{Passed}
-use Rattle.members.specs.Ranges.{Fleet}
-use Rattle.controller.specs.Answers.{passAnswer, passLeaves, passCall}
+use Rattle.members.specs.Ranges.{Fleet, fleetLinked, linksOf}
+use Rattle.controller.specs.declared.PassAnswer.{PassAnswer}
+use Rattle.controller.specs.Answers.{passAnswer, passLeaves, currentAnswer, currentLeaves, passCall}
 use Rattle.settling.specs.declared.Trial.{Trial}
 use Rattle.settling.specs.declared.Studied.{Studied}
 use Rattle.settling.specs.Answers.{studyAnswer, studyLeaves, studyCall}
@@ -68,10 +69,19 @@ measures [] a b c = []
 measures (phase ∷ phases) a b c =
     said one (measureCall (measureOf (record { first = ofBits binary64 a; second = ofBits binary64 b; third = ofBits binary64 c }) phase)) ++ measures phases a b c
 
--- a pass: need, 1 where a request changed, and then what the requests are
+-- a pass: need, 1 where a request changed, and then what the requests are; one by current, of units with these phases and volts
+abbrev pub passed : PassAnswer → List ℤ → List ℤ
+passed a rs = said (λ (p : Passed). p .need ∷ flag (p .changed) ∷ []) (passCall a) ++ rs
+
 unfoldable pub pass : Settings → ℤ → Fleet → List ℤ → List ℤ
 unfolding passAnswer passLeaves
-pass s m f rs = said (λ (p : Passed). p .need ∷ flag (p .changed) ∷ []) (passCall (passAnswer s m f rs)) ++ passLeaves s m f rs
+pass s m f rs = passed (passAnswer s m f rs) (passLeaves s m f rs)
+
+unfoldable pub passCurrent : Settings → ℤ → Fleet → List ℕ → List ℕ → List ℤ → List ℤ
+unfolding currentAnswer currentLeaves linksOf
+passCurrent s m f phases volts rs =
+    let g = fleetLinked (f .rated) (f .reserve) (f .stored) (f .rating) (f .weight) (linksOf phases volts) in
+    passed (currentAnswer s m g phases volts rs) (currentLeaves s m g phases volts rs)
 
 -- a study: 1 where it settled, the changing passes, and then what the requests are
 unfoldable pub study : Trial → Fleet → List ℤ → List ℤ
@@ -86,7 +96,7 @@ step u seconds request = said (λ (o : Outcome). o .watts ∷ o .vars ∷ pos (o
 -- the first field of these bytes, where a step is waited for and so many are accepted: the steps then
 unfoldable pub field : ℕ → List ℕ → List ℤ
 unfolding fieldAt
-field steps file = said (λ (s : State). pos (s .steps) ∷ []) (takenCall 0 steps (fieldAt (stateOf atSteps 1 1 0 steps) file 0))
+field steps file = said (λ (s : State). pos (s .steps) ∷ []) (takenCall 0 steps (fieldAt (stateOf atSteps 1 1 0 steps false) file 0))
 
 -- the check of a file; and a run into a room of n bytes, all 255: the answer, and what the room then holds
 abbrev pub answered : Answer → List ℤ
@@ -127,6 +137,7 @@ unit stored kva idle vars inverter charge discharge priority = record {
   provide = kva;
   absorb = kva;
   «grid_loss» = 0;
+  link = 0;
 }
 
 -- with var limits of its own
@@ -147,4 +158,5 @@ limited u provide absorb = record {
   provide = provide;
   absorb = absorb;
   «grid_loss» = u .«grid_loss»;
+  link = u .link;
 }

@@ -18,11 +18,11 @@ use Rattle.octets.specs.BigEndian.{laid}
 use Rattle.octets.proofs.LaidLaws.{laid-length}
 use Rattle.reading.specs.declared.Phases.{Phases}
 use Rattle.reading.specs.declared.Reading.{Reading}
-use Rattle.reading.specs.declared.Reading.the-variants.{Missing, Power}
+use Rattle.reading.specs.declared.Reading.the-variants.{Missing, Power, Current}
 use Rattle.reading.specs.declared.Measure.{Measure}
 use Rattle.reading.specs.declared.Measure.the-variants.{Chosen, RefusedBy}
-use Rattle.reading.specs.Choice.{measureOf, measureCall}
-use Rattle.reading.proofs.MeasureLaws.{measure-small}
+use Rattle.reading.specs.Choice.{measureOf, currentOf, measureCall}
+use Rattle.reading.proofs.MeasureLaws.{measure-small, current-small}
 use Rattle.unit.specs.declared.Unit.{Unit}
 use Rattle.unit.specs.Ranges.{holding}
 use Rattle.rows.specs.Rows.{unitBy}
@@ -42,28 +42,48 @@ use Rattle.site.specs.Ranges.{Sited}
 use Rattle.records.specs.Records.{recordOf}
 use Rattle.records.proofs.LayLaws.{behind, both, nothing, record-length}
 use Rattle.fleet.specs.Step.{standing, passedOn, askedBy, given, storedAfter, recordsOf, after, recordsBy}
-use Rattle.fleet.specs.Posts.{Held, siteBy}
-use Rattle.fleet.proofs.SiteLaws.{held-ranged, rows-count, row-unit, rows-in, rows-some, rows-few}
+use Rattle.fleet.specs.Posts.{Held, siteBy, measuredBy}
+use Rattle.fleet.proofs.SiteLaws.{held-ranged, rows-count, row-unit, rows-below, rows-in, rows-some, rows-few}
 
 -- ---- the pass, or none
-pub asked-length : (site : Site) (stored : List ℕ) (rs : List ℤ) (r : Reading) → length (askedBy site stored rs r) ≡ length rs
-unfolding askedBy
-asked-length site stored rs Missing = refl
-asked-length site stored rs (Power p) = go (measureOf p (site .head .phase))
-  where
-    go : (m : Measure) → length (passedOn site stored rs (measureCall m)) ≡ length rs
-    go (Chosen m) = pass-length (site .head .settings) m (fleetFor (site .units) stored) rs
-    go (RefusedBy n) = refl
+-- what holds of the requests as they are, and after every pass, holds after a reading
+module _ (P : List ℤ → Type 0) (site : Site) (stored : List ℕ) (rs : List ℤ) (h : P rs) (after : (m : ℤ) → P (passOf (site .head .settings) m (fleetFor (site .units) stored) rs)) where
+  passed-keeps : (m : Measure) → P (passedOn site stored rs (measureCall m))
+  passed-keeps (Chosen m) = after m
+  passed-keeps (RefusedBy n) = h
 
--- by the reading: missing; power, and the measure that it gives
-pub ask-none : (site : Site) (stored : List ℕ) (rs : List ℤ) (r : Reading) → r ≡ Missing → rs ≡ askedBy site stored rs r
-unfolding askedBy
-ask-none site stored rs r e = ap (askedBy site stored rs) (sym e)
-
-module _ (site : Site) (stored : List ℕ) (rs : List ℤ) (r : Reading) (p : Phases) (e : r ≡ Power p) (x : Measure) (ex : x ≡ measureOf p (site .head .phase)) where
-  asked-is : passedOn site stored rs (measureCall x) ≡ askedBy site stored rs r
+  pub asked-keeps : (r : Reading) → P (askedBy site stored rs r)
   unfolding askedBy
-  asked-is = ap (λ (y : Measure). passedOn site stored rs (measureCall y)) ex ∙ ap (askedBy site stored rs) (sym e)
+  asked-keeps Missing = h
+  asked-keeps (Power p) = passed-keeps (measureOf p (site .head .phase))
+  asked-keeps (Current p) = passed-keeps (currentOf p (site .head .phase))
+
+pub asked-length : (site : Site) (stored : List ℕ) (rs : List ℤ) (r : Reading) → length (askedBy site stored rs r) ≡ length rs
+asked-length site stored rs =
+    asked-keeps (λ (l : List ℤ). length l ≡ length rs) site stored rs refl (λ m. pass-length (site .head .settings) m (fleetFor (site .units) stored) rs)
+
+-- by the measure of the reading; a missing one has none
+asked-by : (site : Site) (stored : List ℕ) (rs : List ℤ) (r : Reading) → passedOn site stored rs (measureCall (measuredBy r (site .head .phase))) ≡ askedBy site stored rs r
+unfolding askedBy measuredBy
+asked-by site stored rs Missing = refl
+asked-by site stored rs (Power p) = refl
+asked-by site stored rs (Current p) = refl
+
+pub measured-missing : (r : Reading) (phase : ℕ) → r ≡ Missing → RefusedBy 0 ≡ measuredBy r phase
+unfolding measuredBy
+measured-missing r phase e = ap (λ (y : Reading). measuredBy y phase) (sym e)
+
+pub measured-power : (r : Reading) (p : Phases) (phase : ℕ) (x : Measure) → r ≡ Power p → x ≡ measureOf p phase → x ≡ measuredBy r phase
+unfolding measuredBy
+measured-power r p phase x e ex = ex ∙ ap (λ (y : Reading). measuredBy y phase) (sym e)
+
+pub measured-current : (r : Reading) (p : Phases) (phase : ℕ) (x : Measure) → r ≡ Current p → x ≡ currentOf p phase → x ≡ measuredBy r phase
+unfolding measuredBy
+measured-current r p phase x e ex = ex ∙ ap (λ (y : Reading). measuredBy y phase) (sym e)
+
+module _ (site : Site) (stored : List ℕ) (rs : List ℤ) (r : Reading) (x : Measure) (ex : x ≡ measuredBy r (site .head .phase)) where
+  asked-is : passedOn site stored rs (measureCall x) ≡ askedBy site stored rs r
+  asked-is = ap (λ (y : Measure). passedOn site stored rs (measureCall y)) ex ∙ asked-by site stored rs r
 
   pub ask-refused : (n : ℕ) → x ≡ RefusedBy n → rs ≡ askedBy site stored rs r
   ask-refused n m = ap (λ (y : Measure). passedOn site stored rs (measureCall y)) (sym m) ∙ asked-is
@@ -75,16 +95,28 @@ module _ (site : Site) (stored : List ℕ) (rs : List ℤ) (r : Reading) (p : Ph
       d ∙ ap (λ (z : ℤ). passOf (site .head .settings) z (fleetFor (site .units) stored) rs) (read w64 m fits)
       ∙ ap (λ (y : Measure). passedOn site stored rs (measureCall y)) (sym em) ∙ asked-is
 
+-- a measure is a meter's
+abbrev Refusing : Measure → Type 0
+Refusing (Chosen m) = ⊥
+Refusing (RefusedBy n) = 0 ≤ 0
+
+measured-small : (r : Reading) (phase : ℕ) (m : ℤ) → measuredBy r phase ≡ Chosen m → natAbs m ≤ 300000000
+unfolding measuredBy
+measured-small Missing phase m e = absurd (subst Refusing e (omega arith))
+measured-small (Power p) phase m e = measure-small p phase m e
+measured-small (Current p) phase m e = current-small p phase m e
+
 -- what the pass counts on, from a site in its ranges and what stands
-pub ask-sound : (head : Head) (rows : List (List ℕ)) (stored : List ℕ) (rs : List ℤ) (p : Phases) (m : ℤ) → measureOf p (head .phase) ≡ Chosen m → mag m < 2 ^ 63
+pub ask-sound : (head : Head) (rows : List (List ℕ)) (stored : List ℕ) (rs : List ℤ) (r : Reading) (m : ℤ) → measuredBy r (head .phase) ≡ Chosen m → mag m < 2 ^ 63
     → Sited (siteBy head rows) → Held (siteBy head rows) stored rs → Sound (head .settings) (toZ w64 (ofZ w64 m)) (fleetBy rows stored) (length rs)
-ask-sound head rows stored rs p m e fits h st =
-    let small : natAbs m ≤ 300000000 = measure-small p (head .phase) m e in
+ask-sound head rows stored rs r m e fits h st =
+    let small : natAbs m ≤ 300000000 = measured-small r (head .phase) m e in
     let n = rows-count head rows in
     subst (λ (k : ℕ). Sound (head .settings) (toZ w64 (ofZ w64 m)) (fleetBy rows stored) k) (sym (st .asks ∙ n))
     (subst (λ (z : ℤ). Sound (head .settings) z (fleetBy rows stored) (length rows)) (sym (read w64 m fits))
     (rows-sound rows (rows-in head rows h) (rows-few head rows h) (rows-some head rows h) (head .settings) (h .settings) stored (st .stores ∙ n)
-    (λ i l. le-trans (st .within i (le-trans l (le-of-eq (sym n)))) (le-of-eq (ap (λ (u : Unit). u .rated) (row-unit head rows i)))) m small))
+    (λ i l. le-trans (st .within i (le-trans l (le-of-eq (sym n)))) (le-of-eq (ap (λ (u : Unit). u .rated) (row-unit head rows i))))
+    (λ i l. le-trans (le-of-eq (ap (λ (u : Unit). u .link) (sym (row-unit head rows i)))) (h .links i (rows-below head rows i l))) m small))
 
 -- ---- a unit's step, of its row
 pub given-is : (head : Head) (rows : List (List ℕ)) (i s : ℕ) (r : ℤ) (o : Outcome) → o ≡ stepOf (holding (unitBy (getD rows i [])) s) (head .seconds) r

@@ -4,6 +4,11 @@ use mathlib.Core.List.{List}
 use mathlib.Core.Path.{_≡_}
 use lib.IntN.{ℤ}
 use lib.ListN.{length, getD}
+use Rattle.reading.specs.declared.Reading.{Reading}
+use Rattle.reading.specs.declared.Reading.the-variants.{Missing, Power, Current}
+use Rattle.reading.specs.declared.Measure.{Measure}
+use Rattle.reading.specs.declared.Measure.the-variants.{RefusedBy}
+use Rattle.reading.specs.Choice.{measureOf, currentOf}
 use Rattle.rows.specs.Rows.{unitsBy}
 use Rattle.members.specs.Posts.{TotalsOf}
 use Rattle.storage.specs.Posts.{Rested}
@@ -30,3 +35,10 @@ pub record Held (site : Site) (stored : List ℕ) (requests : List ℤ) : Type 0
   pub stores : length stored ≡ count site
   pub asks : length requests ≡ count site
   pub within : (i : ℕ) → i < count site → getD stored i 0 ≤ unitOf site i .rated
+
+-- the measure of a reading, as the code has it: none of a missing one
+unfoldable pub measuredBy : Reading → ℕ → Measure
+unfolding measureOf currentOf
+measuredBy Missing phase = RefusedBy 0
+measuredBy (Power p) phase = measureOf p phase
+measuredBy (Current p) phase = currentOf p phase

@@ -7,8 +7,8 @@ use lib.ListN.{length, getD, replicate}
 use Rattle.whole.specs.Over.{each}
 use Rattle.whole.specs.Call.{Call, Gave, Refused}
 use Rattle.reading.specs.declared.Reading.{Reading}
-use Rattle.reading.specs.declared.Reading.the-variants.{Missing, Power}
-use Rattle.reading.specs.Choice.{measureOf, measureCall}
+use Rattle.reading.specs.declared.Reading.the-variants.{Missing, Power, Current}
+use Rattle.reading.specs.Choice.{measureOf, currentOf, measureCall}
 use Rattle.unit.specs.declared.Unit.{Unit}
 use Rattle.unit.specs.Ranges.{holding}
 use Rattle.members.specs.Ranges.{fleetFor}
@@ -40,9 +40,10 @@ passedOn site stored rs (Refused r) = rs
 
 -- one pass, none if the reading is missing
 unfoldable pub askedBy : Site → List ℕ → List ℤ → Reading → List ℤ
-unfolding measureOf passOf
+unfolding measureOf currentOf passOf
 askedBy site stored rs Missing = rs
 askedBy site stored rs (Power p) = passedOn site stored rs (measureCall (measureOf p (site .head .phase)))
+askedBy site stored rs (Current p) = passedOn site stored rs (measureCall (currentOf p (site .head .phase)))
 
 -- ---- T4: one step of every unit
 

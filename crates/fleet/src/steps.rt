@@ -4,7 +4,7 @@ ghost use lib.ListN.{length};
 ghost use Rattle.octets.specs.BigEndian.{laid};
 ghost use Rattle.site.specs.Site.{count};
 ghost use Rattle.fleet.specs.Step.{standing, askedBy, storedAfter, recordsOf, after, recordsBy, stepBytes};
-ghost use Rattle.fleet.specs.Posts.{Ready, Held, siteIn};
+ghost use Rattle.fleet.specs.Posts.{Ready, Held, siteIn, measuredBy};
 use super::Frame;
 use super::units;
 use reading::Measure;
@@ -12,17 +12,25 @@ use reading::Reading;
 use records::RECORD_BYTES;
 use site::Step;
 
+// The measure of a reading; none of a missing one.
+fn measured(r: Reading, phase: u8) -> Measure
+    ensures { λ m. ⌜ m ≡ measuredBy r phase ⌝ }
+{
+    match r {
+        Reading::Missing => Measure::RefusedBy(0),
+        Reading::Power(p) => reading::regulated(p, phase),
+        Reading::Current(p) => reading::current(p, phase),
+    }
+}
+
 // The requests after a reading: one pass, and none if the reading is missing.
-fn ask(f: Frame, rows: &[[u64; 17]], r: Reading, stored: &[u64], requests: &mut [i32])
+fn ask(f: Frame, rows: &[[u64; 18]], r: Reading, stored: &[u64], requests: &mut [i32])
     requires { ⌜ Ready f (now rows) ⌝ }
     requires { ⌜ Held (siteIn f (now rows)) (now stored) (now requests) ⌝ }
     ensures { λ _. ⌜ now (requests .exit) ≡ askedBy (siteIn f (now (rows .entry))) (now (stored .entry)) (now (requests .entry)) r ⌝ }
 {
-    let Reading::Power(p) = r else {
-        return;
-    };
     let head = f.head;
-    let Measure::Chosen(m) = reading::regulated(p, head.phase) else {
+    let Measure::Chosen(m) = measured(r, head.phase) else {
         return;
     };
     let s = head.settings;
@@ -33,7 +41,7 @@ fn ask(f: Frame, rows: &[[u64; 17]], r: Reading, stored: &[u64], requests: &mut 
 // One step of every unit, and their records from a place of the room on.
 fn give_all(
     f: Frame,
-    rows: &[[u64; 17]],
+    rows: &[[u64; 18]],
     step: u32,
     requests: &[i32],
     stored: &mut [u64],
@@ -61,7 +69,7 @@ fn give_all(
 // One step of a site: what stands afterwards, and the step's records from a place of the room on.
 pub fn step(
     f: Frame,
-    rows: &[[u64; 17]],
+    rows: &[[u64; 18]],
     k: u32,
     s: Step,
     stored: &mut [u64],

@@ -14,7 +14,7 @@ use site::Head;
 use storage::Outcome;
 
 // What no step changes, worked out once: the sums over the fleet, beside what the file says.
-pub fn framed(head: Head, units: &[[u64; 17]]) -> Frame
+pub fn framed(head: Head, units: &[[u64; 18]]) -> Frame
     requires { ⌜ Sited (siteBy head (now units)) ⌝ }
     requires { ⌜ Rested (now units) ⌝ }
     ensures { λ r. ⌜ r .head ≡ head ⌝ }
@@ -27,7 +27,7 @@ pub fn framed(head: Head, units: &[[u64; 17]]) -> Frame
 }
 
 // What stands at first: each unit holds what its row says and is asked nothing.
-pub fn start(units: &[[u64; 17]], stored: &mut [u64], requests: &mut [i32])
+pub fn start(units: &[[u64; 18]], stored: &mut [u64], requests: &mut [i32])
     requires { ⌜ length (now stored) ≡ length (now units) ⌝ }
     requires { ⌜ length (now requests) ≡ length (now units) ⌝ }
     ensures { λ _. ⌜ standing (now (stored .exit)) (now (requests .exit)) ≡ atFirst (unitsBy (now (units .entry))) ⌝ }
@@ -38,7 +38,7 @@ pub fn start(units: &[[u64; 17]], stored: &mut [u64], requests: &mut [i32])
 
 // One step of the unit of row i, which holds so much and is asked a request. One that is asked
 // nothing rests.
-pub fn give(units: &[[u64; 17]], i: usize, seconds: u32, held: u64, request: i32) -> Outcome
+pub fn give(units: &[[u64; 18]], i: usize, seconds: u32, held: u64, request: i32) -> Outcome
     requires { ⌜ i < length (now units) ⌝ }
     requires { ⌜ Rested (now units) ⌝ }
     requires { ⌜ Ranged (unitBy (getD (now units) i [])) seconds ⌝ }

@@ -17,6 +17,7 @@ use Rattle.stick.specs.declared.Reached.{Reached}
 use Rattle.stick.specs.Check.{fieldAt, reached, reachOf}
 use Rattle.chunks.specs.Sizes.{largest}
 use Rattle.chunks.specs.Holds.{moved}
+use Rattle.chunks.proofs.FieldChunks.{Few}
 use Rattle.chunks.proofs.ReachChunks.{reach-fuel, reach-shift, there, passing, far-all, far-cut}
 use Rattle.chunks.proofs.PlaceChunks.{accepted-there}
 use Rattle.kept.specs.declared.Mark.{Mark}
@@ -29,14 +30,14 @@ use Rattle.taking.proofs.LedLaws.{leads-none, leads-far, leads-upto}
 use Rattle.taking.proofs.FedLaws.{gone-upto, gone-leads}
 use Rattle.taking.proofs.TwiceLaws.{absorbed-twice, results-twice}
 use Rattle.intake.specs.Posts.{firstOf, othersOf, bothKept, bothResults, Gone}
-use Rattle.intake.proofs.OpenLaws.{open-tail, open-waits}
+use Rattle.intake.proofs.OpenLaws.{open-few, open-tail, open-waits}
 use Rattle.intake.proofs.JointLaws.{no-bytes, take-most, stops-first, three, tail-first, past-within, goes-first}
 use Rattle.intake.proofs.MarkLaws.{mark-state, mark-tail}
 
 -- ---- the bytes behind the whole fields are fewer than the largest field has
-pub gone-short : (k : Kept) (chunk : List ℕ) → goneBy k chunk .number ≤ 1 → length (k .tail ++ chunk) ≤ goneBy k chunk .at + tailMost
+pub gone-short : (k : Kept) → Few (k .state) → (chunk : List ℕ) → goneBy k chunk .number ≤ 1 → length (k .tail ++ chunk) ≤ goneBy k chunk .at + tailMost
 unfolding goneBy
-gone-short k chunk h = go (eqb (r .number) 0) refl
+gone-short k few chunk h = go (eqb (r .number) 0) refl
   where
     r : Reached
     r = reachOf (length (k .tail ++ chunk)) (k .state) (k .tail ++ chunk) 0
@@ -49,7 +50,7 @@ gone-short k chunk h = go (eqb (r .number) 0) refl
 
     go : (b : Bool) → eqb (r .number) 0 ≡ b → length (k .tail ++ chunk) ≤ r .at + tailMost
     go true e = omega (arith, far-all (k .tail ++ chunk) (k .state) 0 first (eqb-true (r .number) 0 e))
-    go false e = omega (arith, far-cut (k .tail ++ chunk) (k .state) 0 first (one (r .number) h (eqb-false (r .number) 0 e)) .short)
+    go false e = omega (arith, far-cut (k .tail ++ chunk) (k .state) 0 first few (one (r .number) h (eqb-false (r .number) 0 e)) .short)
 
 -- ---- a first field and the others, which the chunk's fields are
 pub record Fits (k : Kept) (chunk joint : List ℕ) (mid : State) (tail at : ℕ) (next : State) : Type 0 where
@@ -64,7 +65,7 @@ pub record Fits (k : Kept) (chunk joint : List ℕ) (mid : State) (tail at : ℕ
   pub results-are : bothResults k (firstOf joint) mid (othersOf joint tail at chunk) next ≡ resultsFor k chunk
   pub kept-is : bothKept k joint mid tail at chunk next ≡ fedBy k chunk
 
-module _ (k : Kept) (chunk : List ℕ) (some : 0 < length (k .tail)) (goes : eqb (k .state .stage) 0 ≡ false) (cut : headOf (k .state) (k .tail) 0 ≡ 1) (fair : goneBy k chunk .number ≤ 1) where
+module _ (k : Kept) (few : Few (k .state)) (chunk : List ℕ) (some : 0 < length (k .tail)) (goes : eqb (k .state .stage) 0 ≡ false) (cut : headOf (k .state) (k .tail) 0 ≡ 1) (fair : goneBy k chunk .number ≤ 1) where
   abbrev st : State
   st = k .state
 
@@ -85,10 +86,10 @@ module _ (k : Kept) (chunk : List ℕ) (some : 0 < length (k .tail)) (goes : eqb
     first-there = accepted-there st mid joint 0 (omega arith) e .all
 
     header-there : 3 ≤ length joint
-    header-there = three st tail chunk some goes cut mid e
+    header-there = three st few tail chunk some goes cut mid e
 
     beyond-tail : length tail ≤ past joint 0
-    beyond-tail = tail-first st tail chunk some goes cut mid e
+    beyond-tail = tail-first st few tail chunk some goes cut mid e
 
     -- the first field's bytes in the chunk, and the bytes behind them
     abbrev q : ℕ
@@ -98,7 +99,7 @@ module _ (k : Kept) (chunk : List ℕ) (some : 0 < length (k .tail)) (goes : eqb
     rest = drop q chunk
 
     q-within : q ≤ length chunk
-    q-within = omega (arith, past-within st tail chunk some goes cut mid e, beyond-tail)
+    q-within = omega (arith, past-within st few tail chunk some goes cut mid e, beyond-tail)
 
     abbrev far : Reached
     far = reachOf (length rest) mid rest 0
@@ -118,7 +119,7 @@ module _ (k : Kept) (chunk : List ℕ) (some : 0 < length (k .tail)) (goes : eqb
 
     gone-is : goneBy k chunk ≡ moved (length tail) (moved q far)
     unfolding goneBy
-    gone-is = sym (goes-first st tail chunk some goes cut mid e) ∙ ap (moved (length tail)) shifted
+    gone-is = sym (goes-first st few tail chunk some goes cut mid e) ∙ ap (moved (length tail)) shifted
 
     abbrev at : ℕ
     at = goneBy k chunk .at
@@ -176,7 +177,7 @@ module _ (k : Kept) (chunk : List ℕ) (some : 0 < length (k .tail)) (goes : eqb
           beyond-tail = beyond-tail;
           others-behind = omega (arith, at-is, beyond-tail);
           within = omega (arith, gone-upto k chunk, both-long);
-          short = omega (arith, gone-short k chunk fair, both-long);
+          short = omega (arith, gone-short k few chunk fair, both-long);
           first-leads = one-leads;
           others-lead = then-lead;
           results-are = sym (results-twice k w v mid next one-leads then-lead) ∙ ap (λ (x : List ℕ). resultsBy k x next) over-is;
@@ -188,13 +189,13 @@ module _ (k : Kept) (chunk : List ℕ) (some : 0 < length (k .tail)) (goes : eqb
   module _ (n : ℕ) (e : fieldAt st joint 0 ≡ Stop n) where
     stop-is : reached n 0 st ≡ goneBy k chunk
     unfolding goneBy
-    stop-is = stops-first st tail chunk some goes cut n e
+    stop-is = stops-first st few tail chunk some goes cut n e
 
     all-joint : joint ≡ both
-    all-joint = take-all largest both (omega (arith, gone-short k chunk fair, ap (λ (r : Reached). r .at) stop-is))
+    all-joint = take-all largest both (omega (arith, gone-short k few chunk fair, ap (λ (r : Reached). r .at) stop-is))
 
     stops-short : length joint ≤ tailMost
-    stops-short = omega (arith, ap length all-joint, gone-short k chunk fair, ap (λ (r : Reached). r .at) stop-is)
+    stops-short = omega (arith, ap length all-joint, gone-short k few chunk fair, ap (λ (r : Reached). r .at) stop-is)
 
     stops-results : resultsBy k [] st ≡ resultsFor k chunk
     unfolding resultsFor
@@ -215,6 +216,10 @@ module _ (s chunk : List ℕ) (m : Mark) (r : Reached) (g : Gone s m chunk r) wh
   fair-is : goneBy (keptIn s) chunk .number ≤ 1
   fair-is = subst (λ (x : Reached). x .number ≤ 1) (g .gone-is) (g .no-fault)
 
+  few-said : Few (keptIn s .state)
+  unfolding keptIn
+  few-said = open-few s (g .is-open)
+
   module _ (some : 1 ≤ m .tail) where
     tail-some : 0 < length (keptIn s .tail)
     tail-some = omega (arith, some, mark-tail s m (g .mark-is) (g .is-open))
@@ -228,7 +233,7 @@ module _ (s chunk : List ℕ) (m : Mark) (r : Reached) (g : Gone s m chunk r) wh
       joint-fits mid e =
           let f : fieldAt (keptIn s .state) (take largest (keptIn s .tail ++ chunk)) 0 ≡ Next mid =
           sym (ap₂ (λ (st : State) (l : List ℕ). fieldAt st l 0) (mark-state s m (g .mark-is)) is) ∙ e in
-          let fit = fits-there (keptIn s) chunk tail-some (waited .0) (waited .1) fair-is mid f in
+          let fit = fits-there (keptIn s) few-said chunk tail-some (waited .0) (waited .1) fair-is mid f in
           subst (λ (x : Reached). Fits (keptIn s) chunk j mid (m .tail) (x .at) (x .state)) (sym (g .gone-is))
           (subst (λ (t : ℕ). Fits (keptIn s) chunk j mid t (goneBy (keptIn s) chunk .at) (goneBy (keptIn s) chunk .state)) (sym (mark-tail s m (g .mark-is) (g .is-open)))
           (subst (λ (l : List ℕ). Fits (keptIn s) chunk l mid (length (keptIn s .tail)) (goneBy (keptIn s) chunk .at) (goneBy (keptIn s) chunk .state)) (sym is) fit))
@@ -242,10 +247,10 @@ module _ (s chunk : List ℕ) (m : Mark) (r : Reached) (g : Gone s m chunk r) wh
           subst (Stays s chunk j) (sym (mark-state s m (g .mark-is)))
           (subst (λ (l : List ℕ). Stays s chunk l (keptIn s .state)) (sym is)
           (record {
-            short = stops-short k chunk tail-some (waited .0) (waited .1) fair-is n f;
+            short = stops-short k few-said chunk tail-some (waited .0) (waited .1) fair-is n f;
             leads = leads-none (k .state);
-            results-are = stops-results k chunk tail-some (waited .0) (waited .1) fair-is n f;
-            kept-is = stops-kept k chunk tail-some (waited .0) (waited .1) fair-is n f;
+            results-are = stops-results k few-said chunk tail-some (waited .0) (waited .1) fair-is n f;
+            kept-is = stops-kept k few-said chunk tail-some (waited .0) (waited .1) fair-is n f;
           }))
 
   -- ---- without a tail the chunk's fields are all
@@ -260,7 +265,7 @@ module _ (s chunk : List ℕ) (m : Mark) (r : Reached) (g : Gone s m chunk r) wh
     chunk-within = omega (arith, gone-upto (keptIn s) chunk, ap length all-chunk, ap (λ (x : Reached). x .at) (g .gone-is))
 
     pub chunk-short : length chunk ≤ r .at + tailMost
-    chunk-short = omega (arith, gone-short (keptIn s) chunk fair-is, ap length all-chunk, ap (λ (x : Reached). x .at) (g .gone-is))
+    chunk-short = omega (arith, gone-short (keptIn s) few-said chunk fair-is, ap length all-chunk, ap (λ (x : Reached). x .at) (g .gone-is))
 
     over-chunk : take (goneBy (keptIn s) chunk .at) (keptIn s .tail ++ chunk) ≡ take (r .at) chunk
     over-chunk = ap₂ (λ (x : Reached) (l : List ℕ). take (x .at) l) (sym (g .gone-is)) all-chunk

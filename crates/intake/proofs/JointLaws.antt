@@ -18,7 +18,7 @@ use Rattle.stick.specs.Check.{fieldAt, reached, reachOf}
 use Rattle.stick.proofs.WalkLaws.{field-stops}
 use Rattle.chunks.specs.Sizes.{largest}
 use Rattle.chunks.specs.Holds.{moved}
-use Rattle.chunks.proofs.FieldChunks.{past-append, field-cut, field-take}
+use Rattle.chunks.proofs.FieldChunks.{Few, past-append, field-cut, field-take}
 use Rattle.chunks.proofs.ReachChunks.{reach-fuel, reach-step, apart, reach-shift}
 use Rattle.chunks.proofs.PlaceChunks.{accepted-there}
 use Rattle.records.proofs.LayLaws.{behind}
@@ -69,7 +69,7 @@ module _ (tail chunk : List ℕ) (n : ℕ) (short : length tail ≤ tailMost) (i
         ∙ joint-is
 
 -- ---- how far the fields go behind a tail
-module _ (st : State) (tail chunk : List ℕ) (some-tail : 0 < length tail) (goes : eqb (st .stage) 0 ≡ false) (cut : headOf st tail 0 ≡ 1) where
+module _ (st : State) (few : Few st) (tail chunk : List ℕ) (some-tail : 0 < length tail) (goes : eqb (st .stage) 0 ≡ false) (cut : headOf st tail 0 ≡ 1) where
   abbrev both : List ℕ
   both = tail ++ chunk
 
@@ -81,7 +81,7 @@ module _ (st : State) (tail chunk : List ℕ) (some-tail : 0 < length tail) (goe
 
   -- the first field is what it is in the bytes put together
   first-field : fieldAt st both 0 ≡ fieldAt st start 0
-  first-field = sym (field-take st both 0 largest (omega arith))
+  first-field = sym (field-take st few both 0 largest (omega arith))
 
   pub stops-first : (n : ℕ) → fieldAt st start 0 ≡ Stop n → reached n 0 st ≡ reachOf (length both) st both 0
   stops-first n e = sym (reach-step both (length both) st 0 false (Stop n) (omega arith) some-bytes goes (first-field ∙ e))

@@ -10,11 +10,13 @@ use borrow.Author.Tests.{eqb-true, ne-eqb, not-true}
 use Rattle.whole.proofs.OverLaws.{and-parts}
 use Rattle.fields.specs.declared.State.{State}
 use Rattle.fields.specs.Fields.{headOf}
+use Rattle.chunks.proofs.FieldChunks.{Few}
 use Rattle.kept.specs.Layout.{numberIn, tailBytes, tailPart, stateIn, keptIn}
 use Rattle.kept.specs.Formed.{tailFits, wellFormed}
 use Rattle.kept.specs.Posts.{Sized, WellKept}
 use Rattle.kept.proofs.FormedLaws.{kept-well, state-sized, tail-long}
 use Rattle.kept.specs.Formed.{isOpen}
+use Rattle.taking.proofs.SiteLaws.{kept-few}
 use Rattle.intake.specs.Posts.{Open}
 
 -- a tail that is not empty is waited for
@@ -40,6 +42,11 @@ module _ (s : List ℕ) (o : Open s) where
 
   pub open-well : WellKept (keptIn s)
   open-well = kept-well s open-formed open-number
+
+  -- at most 64 units are said
+  pub open-few : Few (stateIn s)
+  unfolding keptIn
+  open-few = kept-few (keptIn s) open-well
 
   pub open-tail : length (tailPart s) ≡ tailBytes s
   open-tail = tail-long s open-formed open-number

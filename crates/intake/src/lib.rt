@@ -14,7 +14,7 @@ use kept::Mark;
 pub use running::clear_stands;
 
 // The bytes of the largest field.
-const LARGEST: usize = 132;
+const LARGEST: usize = 195;
 
 // The bytes of an end field.
 const CLOSING: usize = 7;

@@ -73,31 +73,32 @@ clear-in a b n from to l e s is =
     ∙ getD-replicate n i 0 0 (omega arith)))
 
 -- ---- a stage is a small number
-after-small : (st : State) (tag : ℕ) (file : List ℕ) (at : ℕ) → stateAfter st tag file at .stage ≤ 8
+after-small : (st : State) (tag : ℕ) (file : List ℕ) (at : ℕ) → stateAfter st tag file at .stage ≤ 9
 unfolding stateAfter roofAfter
 after-small st tag file at =
-    let P : State → Type 0 = λ (s : State). s .stage ≤ 8 in
+    let P : State → Type 0 = λ (s : State). s .stage ≤ 9 in
     by-test P (eqb tag 1) _ _ (λ t. omega arith)
     (λ t. by-test P (eqb tag 2) _ _ (λ t. by-test P (leb (st .left) 1) _ _ (λ u. omega arith) (λ u. omega arith))
     (λ t. by-test P (eqb tag 3) _ _ (λ t. omega arith)
     (λ t. by-test P (isReading tag) _ _ (λ t. omega arith)
     (λ t. by-test P (eqb tag 6) _ _ (λ t. omega arith)
-    (λ t. by-test P (eqb tag 7) _ _ (λ t. by-test (λ (n : ℕ). n ≤ 8) (eqb (st .stage) 6) 7 5 (λ u. omega arith) (λ u. omega arith))
-    (λ t. by-test P (eqb tag 8) _ _ (λ t. omega arith) (λ t. omega arith)))))))
+    (λ t. by-test P (eqb tag 7) _ _ (λ t. by-test (λ (n : ℕ). n ≤ 9) (eqb (st .stage) 6) 7 5 (λ u. omega arith) (λ u. omega arith))
+    (λ t. by-test P (eqb tag 8) _ _ (λ t. omega arith)
+    (λ t. by-test P (eqb tag 10) _ _ (λ t. omega arith) (λ t. omega arith))))))))
 
-went-small : (file : List ℕ) {s st : State} {j i : ℕ} → Went file s j st i → st .stage ≤ 8 → s .stage ≤ 8
-went-small file (there e f) h = subst (λ (s : State). s .stage ≤ 8) e h
+went-small : (file : List ℕ) {s st : State} {j i : ℕ} → Went file s j st i → st .stage ≤ 9 → s .stage ≤ 9
+went-small file (there e f) h = subst (λ (s : State). s .stage ≤ 9) e h
 went-small file {s} {st} {j} {i} (passing m l e f w more) h =
-    went-small file more (subst (λ (s : State). s .stage ≤ 8) (accepted-field file st m i (omega arith) f .is) (after-small st (tagAt file i) file (i + header)))
+    went-small file more (subst (λ (s : State). s .stage ≤ 9) (accepted-field file st m i (omega arith) f .is) (after-small st (tagAt file i) file (i + header)))
 
-known-small : (site : List ℕ) → knownBy site .stage ≤ 8
+known-small : (site : List ℕ) → knownBy site .stage ≤ 9
 unfolding knownBy
 known-small site = went-small site (far-gone site start 0 (omega arith) .went) (omega arith)
 
-begun-small : (n : ℕ) → begunAt n ≡ true → n ≤ 8
+begun-small : (n : ℕ) → begunAt n ≡ true → n ≤ 9
 begun-small n = go (eqb n 0) (eqb n 4) (eqb n 8) refl refl refl
   where
-    go : (x y z : Bool) → eqb n 0 ≡ x → eqb n 4 ≡ y → eqb n 8 ≡ z → (x || y || z) ≡ true → n ≤ 8
+    go : (x y z : Bool) → eqb n 0 ≡ x → eqb n 4 ≡ y → eqb n 8 ≡ z → (x || y || z) ≡ true → n ≤ 9
     go true y z ex ey ez c = let e = eqb-true n 0 ex in omega arith
     go false true z ex ey ez c = let e = eqb-true n 4 ey in omega arith
     go false false true ex ey ez c = let e = eqb-true n 8 ez in omega arith
@@ -151,12 +152,12 @@ module _ (k : Kept) (well : WellKept k) where
           ap (λ (b : Bool). cond b (eqb (K .stage) 0) (eqb (K .stage) (k .state .stage) && eqb (k .state .steps) 0)) e
           ∙ ap₂ _&&_ (eq-eqb (K .stage) (k .state .stage) (well .waiting e .0)) (eq-eqb (k .state .steps) 0 (well .waiting e .1))
 
-  pub stage-small : k .state .stage ≤ 8
+  pub stage-small : k .state .stage ≤ 9
   stage-small = go (begun (k .state)) refl
     where
-      go : (b : Bool) → begun (k .state) ≡ b → k .state .stage ≤ 8
+      go : (b : Bool) → begun (k .state) ≡ b → k .state .stage ≤ 9
       go true e = begun-small (k .state .stage) e
-      go false e = subst (λ (n : ℕ). n ≤ 8) (well .waiting e .0) (known-small (k .site))
+      go false e = subst (λ (n : ℕ). n ≤ 9) (well .waiting e .0) (known-small (k .site))
 
   pub place-small : k .place ≤ 4000000
   place-small =

@@ -24,29 +24,29 @@ abbrev pub tailPlace : ℕ
 tailPlace = 25
 
 abbrev pub heldPlace : ℕ
-heldPlace = 156
+heldPlace = 219
 
 abbrev pub flagPlace : ℕ
-flagPlace = 924
+flagPlace = 987
 
 abbrev pub sitePlace : ℕ
-sitePlace = 988
+sitePlace = 1051
 
 abbrev pub stateSize : ℕ
-stateSize = 23163
+stateSize = 23421
 
 abbrev pub tailMost : ℕ
-tailMost = 131
+tailMost = 194
 
 abbrev pub siteMost : ℕ
-siteMost = 22175
+siteMost = 22370
 
 -- behind the 13 bytes of a run that was refused, or is over; and how far such a run has come at most, beside its steps
 abbrev pub restSize : ℕ
-restSize = 23150
+restSize = 23408
 
 abbrev pub placeMost : ℕ
-placeMost = 22187
+placeMost = 22382
 
 -- ---- the bytes of what is kept
 

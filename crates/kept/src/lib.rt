@@ -20,22 +20,22 @@ pub use tests::begun_at;
 pub use tests::well;
 
 // The bytes of a state, and where its tail, what stands, the flags and the site part begin.
-pub const SIZE: usize = 23163;
+pub const SIZE: usize = 23421;
 
 pub const TAIL: usize = 25;
 
-pub const HELD: usize = 156;
+pub const HELD: usize = 219;
 
-pub const FLAGS: usize = 924;
+pub const FLAGS: usize = 987;
 
-pub const SITE: usize = 988;
+pub const SITE: usize = 1051;
 
 // The bytes of a tail and of a site part at most, and how far a run has come at most beside its steps.
-const TAIL_MOST: u8 = 131;
+const TAIL_MOST: u8 = 194;
 
-const SITE_MOST: u16 = 22175;
+const SITE_MOST: u16 = 22370;
 
-const PLACE_MOST: u64 = 22187;
+const PLACE_MOST: u64 = 22382;
 
 // What is kept beside lists: the place, the state between fields, the bytes of the site part and of
 // the tail, and the sun of the step under way.

@@ -12,8 +12,6 @@ use super::SITE;
 use super::SIZE;
 use super::TAIL;
 use super::pieces;
-use fields::AT_FLEET;
-use fields::State;
 use solar::Sun;
 use stick::Reached;
 
@@ -23,14 +21,7 @@ pub fn known(s: &[u8]) -> Reached
     ensures { λ r. ⌜ r ≡ reachOf (length (sitePart (now (s .entry)))) start (sitePart (now (s .entry))) 0 ⌝ }
 {
     let n = octets::u16_at(s, 14) as usize;
-    let st = State {
-        stage: AT_FLEET,
-        edition: 0,
-        units: 0,
-        left: 0,
-        steps: 0,
-    };
-    stick::reach(st, &s[SITE..SITE + n], 0)
+    stick::reach(fields::first(), &s[SITE..SITE + n], 0)
 }
 
 // What is kept in bytes beside the lists.

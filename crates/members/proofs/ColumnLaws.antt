@@ -10,24 +10,35 @@ use lib.ListN.{length, getD, set, length-set}
 use lib.Seq.{ext-getD, getD-set-same, getD-set-other}
 use borrow.Author.Tests.{eqb-true, eqb-false}
 use lib.IntN.{ℤ}
-use Rattle.whole.specs.Over.{sumOf}
-use Rattle.whole.proofs.OverLaws.{sum-next, sum-upto}
+use Rattle.whole.specs.Over.{sumOf, each}
+use Rattle.whole.proofs.OverLaws.{sum-next, sum-upto, each-length, each-at}
 use Rattle.unit.specs.declared.Unit.{Unit}
+use Rattle.unit.specs.Ranges.{linkOf}
 use Rattle.rows.specs.Rows.{rowOf, unitBy}
 use Rattle.rows.proofs.RowLaws.{column-at, column-count}
-use Rattle.members.specs.Ranges.{Fleet, fleetOf}
+use Rattle.rules.specs.declared.Wanted.{Wanted}
+use Rattle.rules.specs.Posts.{needBy}
+use Rattle.members.specs.Ranges.{Fleet, fleetLinked, linksOf}
 use Rattle.members.specs.Sums.{total}
-use Rattle.members.specs.Posts.{SameLengths, MemberRow, TotalsOf, Addable, fleetBy, columnBy, nextBy, sharedBy}
+use Rattle.members.specs.Posts.{SameLengths, MemberRow, TotalsOf, Addable, fleetBy, columnBy, nextBy, ownBy, sharedBy}
 
 -- past its end a column has 0
 pub column-is : (value : Unit → ℕ) → value (unitBy []) ≡ 0 → (rows : List (List ℕ)) (i : ℕ) → getD (columnBy value rows) i 0 ≡ value (unitBy (getD rows i []))
 column-is value none rows i = ap (getD (columnBy value rows) i) (sym none) ∙ column-at value rows i
 
--- a unit's next request is that of its row
-pub next-at : (charging : Bool) (factor : ℕ) (need : ℤ) (weights : ℕ) (rows : List (List ℕ)) (stored : List ℕ) (i : ℕ) (r : ℤ)
-    → nextBy charging factor need weights (unitBy (getD rows i [])) (getD stored i 0) r ≡ sharedBy charging factor need weights (fleetBy rows stored) i r
-unfolding nextBy unitBy
-next-at charging factor need weights rows stored i r =
+-- a unit's link, its own need and its next request are those of its row
+pub link-at : (rows : List (List ℕ)) (stored : List ℕ) (i : ℕ) → getD (fleetBy rows stored .link) i 0 ≡ unitBy (getD rows i []) .link
+unfolding unitBy
+link-at rows stored i = column-is (λ (u : Unit). u .link) refl rows i
+
+pub own-at : (w : Wanted) (rows : List (List ℕ)) (stored : List ℕ) (i link : ℕ) → link ≡ unitBy (getD rows i []) .link → needBy w link ≡ ownBy w (fleetBy rows stored) i
+unfolding ownBy
+own-at w rows stored i link e = ap (needBy w) (e ∙ sym (link-at rows stored i))
+
+pub next-at : (charging : Bool) (factor : ℕ) (w : Wanted) (weights : ℕ) (rows : List (List ℕ)) (stored : List ℕ) (i : ℕ) (r : ℤ)
+    → nextBy charging factor (ownBy w (fleetBy rows stored) i) weights (unitBy (getD rows i [])) (getD stored i 0) r ≡ sharedBy charging factor w weights (fleetBy rows stored) i r
+unfolding nextBy sharedBy unitBy
+next-at charging factor w weights rows stored i r =
     rw (column-is (λ (u : Unit). u .rated) refl rows i, column-is (λ (u : Unit). u .reserve) refl rows i, column-is (λ (u : Unit). u .rating) refl rows i, column-is (λ (u : Unit). u .weight) refl rows i)
 
 -- a column that has a list's values is that list
@@ -38,22 +49,25 @@ column-list value none rows l e h =
     (λ i k. column-is value none rows i ∙ h i (le-trans k (le-of-eq (column-count value rows))))
 
 -- the row of a member: each value fits its place
-pub member-row : (u : Unit) (draw : ℕ) (vars : ℤ) → u .rating < 4294967296 → u .weight < 65536 → MemberRow (u .rated) (u .reserve) (u .rating) (u .weight) (rowOf u draw vars)
+pub member-row : (u : Unit) (draw : ℕ) (vars : ℤ) → u .rating < 4294967296 → u .weight < 65536 → u .link < 4294967296
+    → MemberRow (u .rated) (u .reserve) (u .rating) (u .weight) (u .link) (rowOf u draw vars)
 unfolding unitBy rowOf
-member-row u draw vars hr hw = record { rated-is = refl; reserve-is = refl; rating-is = mod-eq-of-lt hr; weight-is = mod-eq-of-lt hw }
+member-row u draw vars hr hw hl = record { rated-is = refl; reserve-is = refl; rating-is = mod-eq-of-lt hr; weight-is = mod-eq-of-lt hw; link-is = mod-eq-of-lt hl }
 
 -- ---- rows, of which the first i are filled from a fleet's lists
+abbrev pub RowAt : Fleet → ℕ → List ℕ → Type 0
+RowAt f j row = MemberRow (getD (f .rated) j 0) (getD (f .reserve) j 0) (getD (f .rating) j 0) (getD (f .weight) j 0) (getD (f .link) j 0) row
+
 pub record Filled (f : Fleet) (n : ℕ) (rows : List (List ℕ)) (i : ℕ) : Type 0 where
   pub upto : i ≤ n
   pub count : length rows ≡ n
-  pub members : (j : ℕ) → j < i → MemberRow (getD (f .rated) j 0) (getD (f .reserve) j 0) (getD (f .rating) j 0) (getD (f .weight) j 0) (getD rows j [])
+  pub members : (j : ℕ) → j < i → RowAt f j (getD rows j [])
 
 pub filled-none : (f : Fleet) (rows : List (List ℕ)) → Filled f (length rows) rows 0
 filled-none f rows = record { upto = omega arith; count = refl; members = λ j h. absurd (omega arith) }
 
 module _ (f : Fleet) (n : ℕ) (rows : List (List ℕ)) (i : ℕ) (w : Filled f n rows i) where
-  pub filled-more : i < n → (row : List ℕ) → MemberRow (getD (f .rated) i 0) (getD (f .reserve) i 0) (getD (f .rating) i 0) (getD (f .weight) i 0) row
-      → Filled f n (set rows i row) (i + 1)
+  pub filled-more : i < n → (row : List ℕ) → RowAt f i row → Filled f n (set rows i row) (i + 1)
   filled-more h row m = record {
     upto = omega arith;
     count = length-set rows i row ∙ w .count;
@@ -63,28 +77,37 @@ module _ (f : Fleet) (n : ℕ) (rows : List (List ℕ)) (i : ℕ) (w : Filled f 
       below : (j : ℕ) → j < i + 1 → (i ≡ j → ⊥) → j < i
       below j l other = omega arith
 
-      go : (j : ℕ) → j < i + 1 → (t : Bool) → eqb i j ≡ t
-          → MemberRow (getD (f .rated) j 0) (getD (f .reserve) j 0) (getD (f .rating) j 0) (getD (f .weight) j 0) (getD (set rows i row) j [])
+      go : (j : ℕ) → j < i + 1 → (t : Bool) → eqb i j ≡ t → RowAt f j (getD (set rows i row) j [])
       go j l true e =
-          let same : i ≡ j = eqb-true i j e in
-          subst (λ (k : ℕ). MemberRow (getD (f .rated) k 0) (getD (f .reserve) k 0) (getD (f .rating) k 0) (getD (f .weight) k 0) (getD (set rows i row) k [])) same
-          (subst⁻¹ (MemberRow (getD (f .rated) i 0) (getD (f .reserve) i 0) (getD (f .rating) i 0) (getD (f .weight) i 0)) (getD-set-same rows i row [] (omega (arith, w .count))) m)
+          subst (λ (k : ℕ). RowAt f k (getD (set rows i row) k [])) (eqb-true i j e)
+          (subst⁻¹ (RowAt f i) (getD-set-same rows i row [] (omega (arith, w .count))) m)
       go j l false e =
           let other : i ≡ j → ⊥ = eqb-false i j e in
-          subst⁻¹ (MemberRow (getD (f .rated) j 0) (getD (f .reserve) j 0) (getD (f .rating) j 0) (getD (f .weight) j 0)) (getD-set-other rows i j row [] (λ p. other (sym p)))
-          (w .members j (below j l other))
+          subst⁻¹ (RowAt f j) (getD-set-other rows i j row [] (λ p. other (sym p))) (w .members j (below j l other))
 
   -- all of them: the rows are the fleet
   pub filled-all : i ≡ n → SameLengths f n → fleetBy rows (f .stored) ≡ f
   unfolding unitBy
   filled-all e same =
-      let at : (j : ℕ) → j < length rows → MemberRow (getD (f .rated) j 0) (getD (f .reserve) j 0) (getD (f .rating) j 0) (getD (f .weight) j 0) (getD rows j []) =
-      λ j l. w .members j (omega (arith, w .count)) in
+      let at : (j : ℕ) → j < length rows → RowAt f j (getD rows j []) = λ j l. w .members j (omega (arith, w .count)) in
       let rated = column-list (λ (u : Unit). u .rated) refl rows (f .rated) (same .rated ∙ sym (w .count)) (λ j l. at j l .rated-is) in
       let reserve = column-list (λ (u : Unit). u .reserve) refl rows (f .reserve) (same .reserve ∙ sym (w .count)) (λ j l. at j l .reserve-is) in
       let rating = column-list (λ (u : Unit). u .rating) refl rows (f .rating) (same .rating ∙ sym (w .count)) (λ j l. at j l .rating-is) in
       let weight = column-list (λ (u : Unit). u .weight) refl rows (f .weight) (same .weight ∙ sym (w .count)) (λ j l. at j l .weight-is) in
-      λ k. fleetOf (rated k) (reserve k) (f .stored) (rating k) (weight k)
+      let link = column-list (λ (u : Unit). u .link) refl rows (f .link) (same .link ∙ sym (w .count)) (λ j l. at j l .link-is) in
+      λ k. fleetLinked (rated k) (reserve k) (f .stored) (rating k) (weight k) (link k)
+
+-- ---- a list that is filled with the units' links
+abbrev pub linkAt : List ℕ → List ℕ → ℕ → ℕ
+linkAt phases volts i = getD phases i 0 * getD volts i 0
+
+pub links-are : (phases volts l : List ℕ) → length phases ≡ length l → each (λ (i : ℕ) (_ : ℕ). linkAt phases volts i) l ≡ linksOf phases volts
+unfolding linksOf
+links-are phases volts l e =
+    let f : ℕ → ℕ → ℕ = λ (i : ℕ) (_ : ℕ). linkAt phases volts i in
+    let g : ℕ → ℕ → ℕ = λ (i p : ℕ). linkOf p (getD volts i 0) in
+    ext-getD 0 (each f l) (each g phases) (each-length f l ∙ sym e ∙ sym (each-length g phases))
+    (λ i h. let k : i < length l = omega (arith, each-length f l) in each-at f l i 0 k ∙ sym (each-at g phases i 0 (omega arith)))
 
 -- ---- the three sums over the first i rows
 pub record Summing (rows : List (List ℕ)) (i rated reserve weight : ℕ) : Type 0 where

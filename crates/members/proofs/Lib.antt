@@ -4,3 +4,4 @@ pub mod RequestLaws
 pub mod DifferLaws
 pub mod PlaceLaws
 pub mod ColumnLaws
+pub mod CallLaws

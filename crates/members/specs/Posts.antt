@@ -6,13 +6,15 @@ use mathlib.Core.Path.{_≡_}
 use lib.IntN.{ℤ, pos, natAbs, _+ℤ_}
 use lib.ListN.{length, getD}
 use lib.Signed.{ltZ}
-use Rattle.whole.specs.Over.{sumOf}
+use Rattle.whole.specs.Over.{sumOf, allOf}
 use Rattle.unit.specs.declared.Unit.{Unit}
 use Rattle.rows.specs.Rows.{unitBy, unitsBy}
 use Rattle.rules.specs.declared.Asked.{Asked}
+use Rattle.rules.specs.declared.Wanted.{Wanted}
 use Rattle.members.specs.declared.Totals.{Totals}
 use Rattle.members.specs.Ranges.{Fleet, fleetFor, someAbove, someBelow}
-use Rattle.rules.specs.Rules.{unable, unitAfter}
+use Rattle.rules.specs.Rules.{unable, unitAfter, noCall, inBand, bandInWatts}
+use Rattle.rules.specs.Posts.{needBy, Modest}
 use Rattle.members.specs.Sums.{total, sumOfAll, unableAt}
 
 -- ---- the fleet as the code has it: rows of units, and what each holds now
@@ -52,13 +54,15 @@ pub record SameLengths (f : Fleet) (n : ℕ) : Type 0 where
   pub stored : length (f .stored) ≡ n
   pub rating : length (f .rating) ≡ n
   pub weight : length (f .weight) ≡ n
+  pub link : length (f .link) ≡ n
 
 -- a row whose unit has these values of a fleet's member
-pub record MemberRow (rated reserve rating weight : ℕ) (row : List ℕ) : Type 0 where
+pub record MemberRow (rated reserve rating weight link : ℕ) (row : List ℕ) : Type 0 where
   pub rated-is : unitBy row .rated ≡ rated
   pub reserve-is : unitBy row .reserve ≡ reserve
   pub rating-is : unitBy row .rating ≡ rating
   pub weight-is : unitBy row .weight ≡ weight
+  pub link-is : unitBy row .link ≡ link
 
 -- ---- the rules over the sums, as the code has it
 
@@ -78,14 +82,33 @@ unfolding unable unitAfter
 nextBy charging factor need weights u held r =
     cond (unable charging (u .rated) (u .reserve) held) (pos 0) (unitAfter charging factor need weights (u .rating) (u .weight) r)
 
--- at unit i of a fleet
-abbrev pub sharedBy : Bool → ℕ → ℤ → ℕ → Fleet → ℕ → ℤ → ℤ
-sharedBy charging factor need weights f i r =
-    cond (unableAt charging f i) (pos 0) (unitAfter charging factor need weights (getD (f .rating) i 0) (getD (f .weight) i 0) r)
+-- at unit i of a fleet, by its own need
+unfoldable pub ownBy : Wanted → Fleet → ℕ → ℤ
+unfolding needBy
+ownBy w f i = needBy w (getD (f .link) i 0)
 
--- what P6 may count on: a need, a factor, a sum of weights, ratings and weights in bounds, and lists of one length, at most 64
-pub record Sharing (factor : ℕ) (need : ℤ) (weights : ℕ) (f : Fleet) (n : ℕ) : Type 0 where
-  pub need-small : natAbs need ≤ 400000000000
+unfoldable pub sharedBy : Bool → ℕ → Wanted → ℕ → Fleet → ℕ → ℤ → ℤ
+unfolding ownBy unable unitAfter
+sharedBy charging factor w weights f i r =
+    cond (unableAt charging f i) (pos 0) (unitAfter charging factor (ownBy w f i) weights (getD (f .rating) i 0) (getD (f .weight) i 0) r)
+
+-- P3 and P5 of a fleet of n units
+unfoldable pub noneCallsBy : Bool → Wanted → Fleet → ℕ → Bool
+unfolding ownBy allOf
+noneCallsBy charging w f n = allOf n (λ (i : ℕ). noCall charging (ownBy w f i))
+
+unfoldable pub allInBandBy : ℕ → Wanted → Fleet → ℕ → Bool
+unfolding ownBy bandInWatts inBand allOf
+allInBandBy band w f n = allOf n (λ (i : ℕ). inBand (bandInWatts (w .current) (getD (f .link) i 0) band) (ownBy w f i))
+
+-- what P3, P5 and P6 may count on: needs in bounds, and connections in their ranges
+pub record Linked (w : Wanted) (f : Fleet) : Type 0 where
+  pub modest : Modest w
+  pub link-small : (i : ℕ) → getD (f .link) i 0 ≤ 120000
+
+-- what P6 may count on: needs, a factor, a sum of weights, ratings and weights in bounds, and lists of one length, at most 64
+pub record Sharing (factor : ℕ) (w : Wanted) (weights : ℕ) (f : Fleet) (n : ℕ) : Type 0 where
+  pub linked : Linked w f
   pub factor-small : factor ≤ 1000
   pub weights-small : weights ≤ 640000
   pub lengths : SameLengths f n

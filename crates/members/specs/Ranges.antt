@@ -4,12 +4,12 @@ use mathlib.Core.Bool.{Bool, not, _&&_}
 use mathlib.Core.List.{List, map}
 use lib.Dec.{leb, eqb}
 use lib.IntN.{ℤ, pos, natAbs}
-use lib.ListN.{length, getD}
+use lib.ListN.{length, getD, replicate}
 use lib.Signed.{ltZ}
 use Rattle.whole.specs.Interval.{between}
-use Rattle.whole.specs.Over.{allOf, someOf}
+use Rattle.whole.specs.Over.{allOf, someOf, each}
 use Rattle.unit.specs.declared.Unit.{Unit}
-use Rattle.unit.specs.Ranges.{memberIn}
+use Rattle.unit.specs.Ranges.{memberIn, linkOf, connectionIn}
 
 -- the lists that are lent for a fleet, an element for each unit
 pub record Fleet : Type 0 where
@@ -18,15 +18,30 @@ pub record Fleet : Type 0 where
   pub stored : List ℕ
   pub rating : List ℕ
   pub weight : List ℕ
+  pub link : List ℕ
 
+abbrev pub fleetLinked : List ℕ → List ℕ → List ℕ → List ℕ → List ℕ → List ℕ → Fleet
+fleetLinked a b c d e l = record { rated = a; reserve = b; stored = c; rating = d; weight = e; link = l }
+
+-- without connections
 abbrev pub fleetOf : List ℕ → List ℕ → List ℕ → List ℕ → List ℕ → Fleet
-fleetOf a b c d e = record { rated = a; reserve = b; stored = c; rating = d; weight = e }
+fleetOf a b c d e = fleetLinked a b c d e (replicate (length a) 0)
+
+-- what an ampere is in watts, for each unit, by its phases and its volts
+unfoldable pub linksOf : List ℕ → List ℕ → List ℕ
+unfolding each
+linksOf phases volts = each (λ (i p : ℕ). linkOf p (getD volts i 0)) phases
+
+-- every connection is in its ranges
+unfoldable pub connectionAt : List ℕ → List ℕ → ℕ → Bool
+unfolding connectionIn
+connectionAt phases volts i = connectionIn (getD phases i 0) (getD volts i 0)
 
 -- the fleet of these units, with so much stored in each
 abbrev pub fleetFor : List Unit → List ℕ → Fleet
 fleetFor units stored =
-    fleetOf (map (λ (u : Unit). u .rated) units) (map (λ (u : Unit). u .reserve) units) stored (map (λ (u : Unit). u .rating) units)
-    (map (λ (u : Unit). u .weight) units)
+    fleetLinked (map (λ (u : Unit). u .rated) units) (map (λ (u : Unit). u .reserve) units) stored (map (λ (u : Unit). u .rating) units)
+    (map (λ (u : Unit). u .weight) units) (map (λ (u : Unit). u .link) units)
 
 -- unit i's values
 unfoldable pub memberAt : Fleet → ℕ → Bool

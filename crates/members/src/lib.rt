@@ -1,11 +1,16 @@
 // A fleet as a pass sees it, in lists and in rows: its ranges, its sums, and each unit's next request.
 // Requests are whole watts, positive for discharge.
+mod calls;
 mod filling;
 mod ranges;
 mod shares;
 mod sums;
 
+pub use calls::all_in_band;
+pub use calls::none_calls;
 pub use filling::fill;
+pub use filling::link_all;
+pub use ranges::connections_in;
 pub use ranges::lengths_in;
 pub use ranges::requests_in;
 pub use ranges::units_in;

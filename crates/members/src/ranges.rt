@@ -2,7 +2,7 @@ ghost use mathlib.Core.Path.{_≡_};
 ghost use Prim.Native.Nat.{_≤_};
 ghost use lib.ListN.{length};
 ghost use Rattle.whole.specs.Over.{allOf};
-ghost use Rattle.members.specs.Ranges.{memberAt, lengthsOk, withinRatings, requestsOk, fleetOf};
+ghost use Rattle.members.specs.Ranges.{memberAt, connectionAt, lengthsOk, withinRatings, requestsOk, fleetOf};
 ghost use Rattle.members.specs.Posts.{SameLengths};
 use super::sums;
 
@@ -21,6 +21,20 @@ pub fn units_in(
     let mut i = 0;
     while i < rated.len() {
         ok = ok & unit::member_in(rated[i], reserve[i], stored[i], rating[i], weight[i]);
+        i += 1;
+    }
+    ok
+}
+
+// Every connection is in its ranges; the lists have one length.
+pub fn connections_in(phases: &[u8], volts: &[u16]) -> bool
+    requires { ⌜ length (now volts) ≡ length (now phases) ⌝ }
+    ensures { λ r. ⌜ r ≡ allOf (length (now (phases .entry))) (connectionAt (now (phases .entry)) (now (volts .entry))) ⌝ }
+{
+    let mut ok = true;
+    let mut i = 0;
+    while i < phases.len() {
+        ok = ok & unit::connection_in(phases[i], volts[i]);
         i += 1;
     }
     ok

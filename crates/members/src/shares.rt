@@ -9,6 +9,7 @@ ghost use Prim.Native.Nat.{_<_};
 ghost use lib.ListN.{getD};
 ghost use Rattle.rows.specs.Rows.{unitBy};
 ghost use Rattle.members.specs.Posts.{Sharing, Sharable, fleetBy, nextBy, sharedBy};
+use rules::Wanted;
 
 // P4: every request becomes 0. Whether one changed.
 pub fn clear(requests: &mut [i32]) -> bool
@@ -32,7 +33,7 @@ fn next_request(
     factor: u16,
     need: i64,
     weights: u64,
-    units: &[[u64; 17]],
+    units: &[[u64; 18]],
     i: usize,
     held: u64,
     request: i32,
@@ -53,24 +54,25 @@ fn next_request(
     rules::request_after(charging, rows::rating_of(units, i), request, part)
 }
 
-// P6: each unit's request. Whether one changed.
+// P6: each unit's request, by its own need. Whether one changed.
 pub fn share_all(
     charging: bool,
     factor: u16,
-    need: i64,
+    w: Wanted,
     weights: u64,
-    units: &[[u64; 17]],
+    units: &[[u64; 18]],
     stored: &[u64],
     requests: &mut [i32],
 ) -> bool
-    requires { ⌜ Sharing factor need weights (fleetBy (now units) (now stored)) (length (now requests)) ⌝ }
-    ensures { λ _. ⌜ now (requests .exit) ≡ each (sharedBy charging factor need weights (fleetBy (now (units .entry)) (now (stored .entry)))) (now (requests .entry)) ⌝ }
+    requires { ⌜ Sharing factor w weights (fleetBy (now units) (now stored)) (length (now requests)) ⌝ }
+    ensures { λ _. ⌜ now (requests .exit) ≡ each (sharedBy charging factor w weights (fleetBy (now (units .entry)) (now (stored .entry)))) (now (requests .entry)) ⌝ }
     ensures { λ r. ⌜ r ≡ changedOf (now (requests .entry)) (now (requests .exit)) ⌝ }
 {
     let mut changed = false;
     let mut i = 0;
     while i < requests.len() {
         let old = requests[i];
+        let need = rules::own_need(w, rows::link_of(units, i));
         let next = next_request(charging, factor, need, weights, units, i, stored[i], old);
         changed = changed | (old != next);
         requests[i] = next;

@@ -3,21 +3,23 @@ use mathlib.Core.Path.{_≡_, refl, sym, ap, ap₂, _∙_, subst⁻¹}
 use mathlib.Core.Bool.{Bool, true, false, cond}
 use Prim.Native.Nat.{ℕ, _+_, _^_, _≤_, _<_}
 use native.Mathlib.Nat.{le-trans, lt-of-le-of-lt, add-le-add}
+use native.Mathlib.Omega.{arith}
 use lib.Dec.{lit<}
-use lib.IntN.{ℤ, _+ℤ_, natAbs}
-use lib.Signed.{leZ, mag}
+use lib.Ieee.{Float}
+use lib.IntN.{ℤ, pos, negsuc, _+ℤ_, natAbs}
+use lib.Signed.{leZ, ltZ, mag}
 use borrow.Author.Tests.{ne-eqb, le-leb, lt-leb}
 use mir.Syntax.{Width, w32, w64}
 use mir.Val.{SFits, toZ, ofZ}
-use Rattle.whole.proofs.SignLaws.{read, size-sum, size-fits, wide-is, wide-size}
+use Rattle.whole.proofs.Choice.{passed-failed}
+use Rattle.whole.proofs.SignLaws.{read, sign-is, size-sum, size-fits, wide-is, wide-size}
 use Rattle.reading.specs.declared.Phases.{Phases}
 use Rattle.reading.specs.declared.Watts.{Watts}
 use Rattle.reading.specs.declared.Watts.the-variants.{Whole, Refused}
+use Rattle.reading.specs.declared.Measure.{Measure}
 use Rattle.reading.specs.declared.Measure.the-variants.{Chosen, RefusedBy}
-use Rattle.reading.specs.declared.Reading.{Reading}
-use Rattle.reading.specs.declared.Reading.the-variants.{Missing, Power}
-use Rattle.reading.specs.Conversion.{wattsOf}
-use Rattle.reading.specs.Choice.{largerOf, smallerOf, choiceOf, chosenOf, measureOf, usableOf, refusalOf}
+use Rattle.reading.specs.Conversion.{notBelow}
+use Rattle.reading.specs.Choice.{largerOf, smallerOf, choiceOf, chosenOf, measureBy}
 
 -- ---- the larger and the smaller, by the machine's test on what is read back
 module _ (w : Width) (a b : ℤ) (f : SFits w a) (g : SFits w b) where
@@ -100,36 +102,28 @@ module _ (a b c : ℤ) (fa : SFits w64 a) (fb : SFits w64 b) (fc : SFits w64 c) 
   pub read-two : (f : ℤ → ℤ → ℤ) (r q : ℤ) → mag r < 2 ^ 63 → mag q < 2 ^ 63 → r ≡ f (back b) (back c) → q ≡ f (back a) (back r) → back q ≡ f a (f b c)
   read-two f r q hr hq e g = cc (read w64 a (fa .sfits), read w64 b (fb .sfits), read w64 c (fc .sfits), read w64 r hr, read w64 q hq)
 
--- ---- the measure, by what each conversion answered
-pub no-phase : (p : Phases) (phase : ℕ) → 5 < phase → RefusedBy 5 ≡ measureOf p phase
-unfolding measureOf
-no-phase p phase h = sym (ap (λ (t : Bool). cond t (chosenOf phase (wattsOf (p .first)) (wattsOf (p .second)) (wattsOf (p .third))) (RefusedBy 5)) (lt-leb phase 5 h))
+-- ---- a current: below 0 is refused, any other stays
+pub below-refused : (w : ℤ) → SFits w32 w → ltZ (toZ w32 (ofZ w32 w)) (pos 0) ≡ true → Refused ≡ notBelow (Whole w)
+below-refused (pos n) f t = absurd (passed-failed t (sign-is w32 (pos n) f))
+below-refused (negsuc n) f t = refl
 
-module _ (p : Phases) (phase : ℕ) (h : phase ≤ 5) (x : Watts) (ex : x ≡ wattsOf (p .first)) where
-  measure-is : (y z : Watts) → y ≡ wattsOf (p .second) → z ≡ wattsOf (p .third) → measureOf p phase ≡ chosenOf phase x y z
-  unfolding measureOf
-  measure-is y z ey ez =
-      ap (λ (t : Bool). cond t (chosenOf phase (wattsOf (p .first)) (wattsOf (p .second)) (wattsOf (p .third))) (RefusedBy 5)) (le-leb phase 5 h)
-      ∙ sym (ap₃ ex ey ez)
-    where
-      ap₃ : {a b c d e f : Watts} → a ≡ b → c ≡ d → e ≡ f → chosenOf phase a c e ≡ chosenOf phase b d f
-      ap₃ i j k = cc
+pub not-below : (w : ℤ) → SFits w32 w → ltZ (toZ w32 (ofZ w32 w)) (pos 0) ≡ false → toZ w32 (ofZ w32 w) ≡ w → Whole (toZ w32 (ofZ w32 w)) ≡ notBelow (Whole w)
+not-below (pos n) f t e = ap Whole e ∙ sym (ap (λ (b : Bool). cond b (Whole (pos n)) Refused) (le-leb 0 n (omega arith)))
+not-below (negsuc n) f t e = absurd (passed-failed (sign-is w32 (negsuc n) f) t)
 
-  pub first-refused : x ≡ Refused → RefusedBy 6 ≡ measureOf p phase
-  first-refused e =
-      sym (measure-is (wattsOf (p .second)) (wattsOf (p .third)) refl refl ∙ ap (λ (w : Watts). chosenOf phase w (wattsOf (p .second)) (wattsOf (p .third))) e)
+-- ---- three converted numbers that are whole, and the measure by either conversion
+pub all-taken : (phase : ℕ) (x y z : Watts) (a b c : ℤ) → x ≡ Whole a → y ≡ Whole b → z ≡ Whole c → Chosen (choiceOf phase a b c) ≡ chosenOf phase x y z
+all-taken phase x y z a b c ex ey ez = sym (ap₂ (λ (v w : Watts). chosenOf phase v w z) ex ey ∙ ap (chosenOf phase (Whole a) (Whole b)) ez)
 
-  module _ (a : ℤ) (ea : x ≡ Whole a) (y : Watts) (ey : y ≡ wattsOf (p .second)) where
-    pub second-refused : y ≡ Refused → RefusedBy 6 ≡ measureOf p phase
-    second-refused e =
-        sym (measure-is y (wattsOf (p .third)) ey refl ∙ ap₂ (λ (v w : Watts). chosenOf phase v w (wattsOf (p .third))) ea e)
+module _ (whole : Float → Watts) (p : Phases) (phase : ℕ) where
+  abbrev pub all-three : Measure
+  all-three = chosenOf phase (whole (p .first)) (whole (p .second)) (whole (p .third))
 
-    module _ (b : ℤ) (eb : y ≡ Whole b) (z : Watts) (ez : z ≡ wattsOf (p .third)) where
-      pub third-refused : z ≡ Refused → RefusedBy 6 ≡ measureOf p phase
-      third-refused e = sym (measure-is y z ey ez ∙ ap₂ (λ (v w : Watts). chosenOf phase v w z) ea eb ∙ ap (chosenOf phase (Whole a) (Whole b)) e)
+  pub no-phase : 5 < phase → RefusedBy 5 ≡ measureBy whole p phase
+  no-phase h = sym (ap (λ (t : Bool). cond t all-three (RefusedBy 5)) (lt-leb phase 5 h))
 
-      pub all-taken : (c : ℤ) → z ≡ Whole c → Chosen (choiceOf phase a b c) ≡ measureOf p phase
-      all-taken c e = sym (measure-is y z ey ez ∙ ap₂ (λ (v w : Watts). chosenOf phase v w z) ea eb ∙ ap (chosenOf phase (Whole a) (Whole b)) e)
+  pub measured : phase ≤ 5 → all-three ≡ measureBy whole p phase
+  measured h = sym (ap (λ (t : Bool). cond t all-three (RefusedBy 5)) (le-leb phase 5 h))
 
 -- the sizes that the choice asks for, of numbers widened from 32 bits
 pub widened-size : (a : ℤ) → mag a < 2 ^ 31 → natAbs (back (toZ w32 (ofZ w32 a))) ≤ 2147483648
@@ -138,33 +132,3 @@ widened-size a h = subst⁻¹ (λ (z : ℤ). natAbs z ≤ 2147483648) (wide-is a
 pub choice-widened : (phase : ℕ) (a b c : ℤ) → mag a < 2 ^ 31 → mag b < 2 ^ 31 → mag c < 2 ^ 31
     → choiceOf phase (back (toZ w32 (ofZ w32 a))) (back (toZ w32 (ofZ w32 b))) (back (toZ w32 (ofZ w32 c))) ≡ choiceOf phase a b c
 choice-widened phase a b c ha hb hc = cc (wide-is a ha, wide-is b hb, wide-is c hc)
-
--- ---- whether a reading can be used, power by power
-pub none-missing : (r : Reading) → r ≡ Missing → 0 ≡ refusalOf r
-unfolding refusalOf
-none-missing r e = sym (ap refusalOf e)
-
-module _ (r : Reading) (p : Phases) (er : r ≡ Power p) (x : Watts) (ex : x ≡ wattsOf (p .first)) where
-  by-powers : (y z : Watts) → y ≡ wattsOf (p .second) → z ≡ wattsOf (p .third) → usableOf x y z ≡ refusalOf r
-  unfolding refusalOf
-  by-powers y z ey ez =
-      ap (λ (t : Watts). usableOf t y z) ex
-      ∙ ap₂ (usableOf (wattsOf (p .first))) ey ez
-      ∙ sym (ap refusalOf er)
-
-  pub unusable-first : x ≡ Refused → 6 ≡ refusalOf r
-  unusable-first e = ap (λ (t : Watts). usableOf t (wattsOf (p .second)) (wattsOf (p .third))) (sym e) ∙ by-powers (wattsOf (p .second)) (wattsOf (p .third)) refl refl
-
-  module _ (a : ℤ) (ea : x ≡ Whole a) (y : Watts) (ey : y ≡ wattsOf (p .second)) where
-    pub unusable-second : y ≡ Refused → 6 ≡ refusalOf r
-    unusable-second e = ap₂ (λ (s t : Watts). usableOf s t (wattsOf (p .third))) (sym ea) (sym e) ∙ by-powers y (wattsOf (p .third)) ey refl
-
-    module _ (b : ℤ) (eb : y ≡ Whole b) (z : Watts) (ez : z ≡ wattsOf (p .third)) where
-      with-third : (w : Watts) → z ≡ w → usableOf (Whole a) (Whole b) w ≡ refusalOf r
-      with-third w e = ap₂ (λ (s t : Watts). usableOf s t w) (sym ea) (sym eb) ∙ ap (usableOf x y) (sym e) ∙ by-powers y z ey ez
-
-      pub unusable-third : z ≡ Refused → 6 ≡ refusalOf r
-      unusable-third e = with-third Refused e
-
-      pub usable : (c : ℤ) → z ≡ Whole c → 0 ≡ refusalOf r
-      usable c e = with-third (Whole c) e

@@ -1,4 +1,4 @@
--- A measure is at most 300,000,000 W in size: each converted power is at most `mostWatts`, and the choice is the sum of three, or one of them.
+-- A measure is at most 300,000,000 W or mA in size: each converted power or current is at most `mostWatts`, and the choice is the sum of three, or one of them.
 -- Assumes nothing.
 use mathlib.Core.Path.{_≡_, subst}
 use mathlib.Core.Bool.{Bool, true, false, cond}
@@ -6,7 +6,7 @@ use Prim.Native.Nat.{ℕ, _*_, _≤_}
 use native.Mathlib.Nat.{le-trans, le-of-eq}
 use native.Mathlib.Omega.{arith}
 use lib.Dec.{leb, eqb}
-use lib.IntN.{ℤ, _+ℤ_, natAbs}
+use lib.IntN.{ℤ, pos, _+ℤ_, natAbs}
 use lib.Ieee.{Float, nan, inf, fin, up, down}
 use lib.Signed.{leZ}
 use borrow.Author.Tests.{leb-true}
@@ -18,10 +18,10 @@ use Rattle.reading.specs.declared.Watts.{Watts}
 use Rattle.reading.specs.declared.Watts.the-variants.{Whole, Refused}
 use Rattle.reading.specs.declared.Measure.{Measure}
 use Rattle.reading.specs.declared.Measure.the-variants.{Chosen, RefusedBy}
-use Rattle.reading.specs.Conversion.{nearest, mostWatts, within, wattsOf}
-use Rattle.reading.specs.Choice.{largerOf, smallerOf, choiceOf, chosenOf, measureOf}
+use Rattle.reading.specs.Conversion.{nearest, mostWatts, within, wattsOf, notBelow, milliOf}
+use Rattle.reading.specs.Choice.{largerOf, smallerOf, choiceOf, chosenOf, measureBy, measureOf, currentOf}
 
--- ---- a converted power
+-- ---- a converted power, or current
 abbrev pub Small : Watts → Type 0
 Small Refused = 0 ≤ 0
 Small (Whole w) = natAbs w ≤ mostWatts
@@ -38,6 +38,14 @@ unfolding wattsOf
 watts-small nan = omega arith
 watts-small (inf s) = omega arith
 watts-small (fin s m e) = within-small s (nearest (1000 * (m * up e)) (down e))
+
+not-below-small : (w : Watts) → Small w → Small (notBelow w)
+not-below-small Refused h = h
+not-below-small (Whole w) h = by-test Small (leZ (pos 0) w) (Whole w) Refused (λ t. h) (λ t. omega arith)
+
+milli-small : (x : Float) → Small (milliOf x)
+unfolding milliOf
+milli-small x = not-below-small (wattsOf x) (watts-small x)
 
 -- ---- the choice among three numbers of at most n in size
 module _ (n : ℕ) where
@@ -76,10 +84,16 @@ chosen-small phase (Whole a) Refused z hx hy hz = omega arith
 chosen-small phase (Whole a) (Whole b) Refused hx hy hz = omega arith
 chosen-small phase (Whole a) (Whole b) (Whole c) hx hy hz = choice-upto mostWatts phase a b c hx hy hz
 
+by-small : (whole : Float → Watts) → ((x : Float) → Small (whole x)) → (p : Phases) (phase : ℕ) → Bounded (measureBy whole p phase)
+by-small whole small p phase =
+    by-test Bounded (leb phase 5) (chosenOf phase (whole (p .first)) (whole (p .second)) (whole (p .third))) (RefusedBy 5)
+    (λ t. chosen-small phase (whole (p .first)) (whole (p .second)) (whole (p .third)) (small (p .first)) (small (p .second)) (small (p .third)))
+    (λ t. omega arith)
+
 pub measure-small : (p : Phases) (phase : ℕ) (m : ℤ) → measureOf p phase ≡ Chosen m → natAbs m ≤ 300000000
 unfolding measureOf
-measure-small p phase m e =
-    subst Bounded e
-    (by-test Bounded (leb phase 5) (chosenOf phase (wattsOf (p .first)) (wattsOf (p .second)) (wattsOf (p .third))) (RefusedBy 5)
-    (λ t. chosen-small phase (wattsOf (p .first)) (wattsOf (p .second)) (wattsOf (p .third)) (watts-small (p .first)) (watts-small (p .second)) (watts-small (p .third)))
-    (λ t. omega arith))
+measure-small p phase m e = subst Bounded e (by-small wattsOf watts-small p phase)
+
+pub current-small : (p : Phases) (phase : ℕ) (m : ℤ) → currentOf p phase ≡ Chosen m → natAbs m ≤ 300000000
+unfolding currentOf
+current-small p phase m e = subst Bounded e (by-small milliOf milli-small p phase)

@@ -1,7 +1,7 @@
 ghost use mathlib.Core.Path.{_≡_};
 ghost use Prim.Native.Nat.{_≤_};
 ghost use lib.IntN.{natAbs};
-ghost use Rattle.reading.specs.Choice.{largerOf, smallerOf, choiceOf, measureOf, refusalOf};
+ghost use Rattle.reading.specs.Choice.{largerOf, smallerOf, choiceOf, chosenOf, measureOf, currentOf, usableOf, refusalOf};
 use super::Measure;
 use super::Phases;
 use super::Reading;
@@ -44,6 +44,22 @@ fn choice(phase: u8, a: i64, b: i64, c: i64) -> i64
     smaller(a, smaller(b, c))
 }
 
+// The choice among three converted powers or currents, 6 where one was refused.
+fn chosen(phase: u8, a: Watts, b: Watts, c: Watts) -> Measure
+    ensures { λ r. ⌜ r ≡ chosenOf phase a b c ⌝ }
+{
+    let Watts::Whole(x) = a else {
+        return Measure::RefusedBy(6);
+    };
+    let Watts::Whole(y) = b else {
+        return Measure::RefusedBy(6);
+    };
+    let Watts::Whole(z) = c else {
+        return Measure::RefusedBy(6);
+    };
+    Measure::Chosen(choice(phase, x as i64, y as i64, z as i64))
+}
+
 // The regulated measure of three powers: each is converted, then one is chosen. Refused are a phase
 // above 5 (5) and, whichever phase is asked for, a power that the conversion refuses (6).
 pub fn regulated(p: Phases, phase: u8) -> Measure
@@ -52,33 +68,61 @@ pub fn regulated(p: Phases, phase: u8) -> Measure
     if 5 < phase {
         return Measure::RefusedBy(5);
     }
-    let Watts::Whole(a) = super::converted(p.first) else {
-        return Measure::RefusedBy(6);
-    };
-    let Watts::Whole(b) = super::converted(p.second) else {
-        return Measure::RefusedBy(6);
-    };
-    let Watts::Whole(c) = super::converted(p.third) else {
-        return Measure::RefusedBy(6);
-    };
-    Measure::Chosen(choice(phase, a as i64, b as i64, c as i64))
+    chosen(
+        phase,
+        super::converted(p.first),
+        super::converted(p.second),
+        super::converted(p.third),
+    )
 }
 
-// Whether a reading can be used: 0, or 6 where a power of it is refused. A missing one can.
-pub fn refusal(r: Reading) -> u8
-    ensures { λ n. ⌜ n ≡ refusalOf r ⌝ }
+// The same of three currents.
+pub fn current(p: Phases, phase: u8) -> Measure
+    ensures { λ r. ⌜ r ≡ currentOf p phase ⌝ }
 {
-    let Reading::Power(p) = r else {
-        return 0;
-    };
-    let Watts::Whole(_) = super::converted(p.first) else {
+    if 5 < phase {
+        return Measure::RefusedBy(5);
+    }
+    chosen(
+        phase,
+        super::milliamperes(p.first),
+        super::milliamperes(p.second),
+        super::milliamperes(p.third),
+    )
+}
+
+// Whether three converted powers or currents can be used: 0, or 6 where one was refused.
+fn usable(a: Watts, b: Watts, c: Watts) -> u8
+    ensures { λ n. ⌜ n ≡ usableOf a b c ⌝ }
+{
+    let Watts::Whole(_) = a else {
         return 6;
     };
-    let Watts::Whole(_) = super::converted(p.second) else {
+    let Watts::Whole(_) = b else {
         return 6;
     };
-    let Watts::Whole(_) = super::converted(p.third) else {
+    let Watts::Whole(_) = c else {
         return 6;
     };
     0
+}
+
+// Whether a reading can be used: 0, or 6 where a power or a current of it is refused. A missing one
+// can.
+pub fn refusal(r: Reading) -> u8
+    ensures { λ n. ⌜ n ≡ refusalOf r ⌝ }
+{
+    match r {
+        Reading::Missing => 0,
+        Reading::Power(p) => usable(
+            super::converted(p.first),
+            super::converted(p.second),
+            super::converted(p.third),
+        ),
+        Reading::Current(p) => usable(
+            super::milliamperes(p.first),
+            super::milliamperes(p.second),
+            super::milliamperes(p.third),
+        ),
+    }
 }

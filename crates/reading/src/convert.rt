@@ -1,7 +1,7 @@
 ghost use mathlib.Core.Path.{_≡_};
 ghost use Prim.Native.Nat.{_+_, _<_, _^_};
 ghost use lib.Ieee.{binary64, ofBits};
-ghost use Rattle.reading.specs.Conversion.{nearest, wattsOf};
+ghost use Rattle.reading.specs.Conversion.{nearest, wattsOf, milliOf};
 use super::Watts;
 
 // n / 2^(places + 1) to the nearest whole number by the tie rule: one place less is cut off, then
@@ -42,4 +42,17 @@ pub fn converted(kw: f64) -> Watts
     ensures { λ r. ⌜ r ≡ wattsOf kw ⌝ }
 {
     watts_of_bits(octets::bits_of(kw))
+}
+
+// The whole milliamperes of an A double, any double: the same conversion, and none below 0.
+pub fn milliamperes(amperes: f64) -> Watts
+    ensures { λ r. ⌜ r ≡ milliOf amperes ⌝ }
+{
+    let Watts::Whole(w) = converted(amperes) else {
+        return Watts::Refused;
+    };
+    if w < 0 {
+        return Watts::Refused;
+    }
+    Watts::Whole(w)
 }

@@ -1,36 +1,40 @@
-// A reading of the meter: three phase powers in kW as doubles, or none. Each power becomes whole
-// watts or is refused; then one measure is chosen of the three.
+// A reading of the meter: three phase powers in kW or three currents in A, as doubles, or none. Each
+// becomes whole watts or milliamperes or is refused; then one measure is chosen of the three.
 mod choosing;
 mod convert;
 mod kilowatts;
 
+pub use choosing::current;
 pub use choosing::refusal;
 pub use choosing::regulated;
 pub use convert::converted;
+pub use convert::milliamperes;
 pub use convert::watts_of_bits;
 pub use kilowatts::kw;
 pub use kilowatts::kw_bits;
 
-// What a kW double becomes: whole watts, at most 10^8 in size, or nothing that can be used.
+// What a kW double becomes: whole watts, at most 10^8 in size, or nothing that can be used. An A
+// double becomes whole milliamperes so, none below 0.
 pub enum Watts {
     Whole(i32),
     Refused,
 }
 
-// The powers of the three phases, in kW, as the meter wrote them.
+// The powers of the three phases in kW, or their currents in A, as the meter wrote them.
 pub struct Phases {
     pub first: f64,
     pub second: f64,
     pub third: f64,
 }
 
-// A step's reading: the meter wrote nothing, or three powers.
+// A step's reading: the meter wrote nothing, or three powers, or three currents.
 pub enum Reading {
     Missing,
     Power(Phases),
+    Current(Phases),
 }
 
-// The regulated measure in watts, or the number of the refusal.
+// The regulated measure in watts or milliamperes, or the number of the refusal.
 pub enum Measure {
     Chosen(i64),
     RefusedBy(u8),

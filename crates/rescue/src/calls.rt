@@ -14,6 +14,7 @@ use super::Extent;
 use super::Walk;
 use super::walking;
 use super::writing;
+use fields::AT_CONNECTIONS;
 use fields::AT_END;
 use fields::AT_INVERTERS;
 use fields::AT_READING;
@@ -29,9 +30,9 @@ fn is_due(st: State, tag: u8) -> bool
     ensures { λ r. ⌜ r ≡ due st tag ⌝ }
 {
     let stage = st.stage;
-    let roofs = stage == AT_INVERTERS;
+    let roofs = (stage == AT_INVERTERS) | ((stage == AT_CONNECTIONS) & !st.current);
     let may = (stage == AT_STEPS) | roofs | (stage == AT_READING);
-    !((stage == AT_END) | may) | (roofs & ((tag == 6) | (tag == 7)))
+    !((stage == AT_END) | may) | (roofs & ((tag == 6) | (tag == 7) | (tag == 10)))
 }
 
 // The tag at a place, 0 past the end.

@@ -11,7 +11,7 @@ use fields::State;
 // The bytes of a change in the list.
 pub const CHANGE_BYTES: usize = 17;
 
-// The bytes of a power reading's field, of a missing one's and of an end field.
+// The bytes of a reading's field, of a missing one's and of an end field.
 const READING_BYTES: usize = 27;
 
 const MISSING_BYTES: usize = 3;

@@ -58,7 +58,7 @@ pub fn put_kept(file: &[u8], out: &mut [u8], list: &mut [u8])
     ensures { λ _. ⌜ now (out .exit) ≡ laid (now (out .entry)) 0 (savedOf (now (file .entry)) .kept) ⌝ }
     ensures { λ _. ⌜ now (list .exit) ≡ laid (now (list .entry)) 0 (listBytes (map madeMissing (savedOf (now (file .entry)) .missing))) ⌝ }
 {
-    let mut st = walking::first();
+    let mut st = fields::first();
     let mut at = 0;
     let mut to = 0;
     let mut line = 0;

@@ -15,7 +15,7 @@ use Rattle.octets.proofs.ByteLaws.{be-bytes}
 use Rattle.parts.specs.Header.{tagAt, past}
 use Rattle.fields.specs.declared.State.{State}
 use Rattle.fields.specs.declared.Taken.the-variants.{Next, Stop}
-use Rattle.fields.specs.Fields.{atEnd, begins, goneTo}
+use Rattle.fields.specs.Fields.{atEnd, opens, begins, goneTo}
 use Rattle.fields.specs.Fields.{kinds, sizeIn, sizeOf, standsIn, allowed, headOf, valueOf, refusedBy, roofAfter, stateAfter, takenBy}
 use Rattle.stick.specs.declared.Answer.{Answer}
 use Rattle.stick.specs.Check.{answer, fieldAt, start, checkOf}
@@ -75,7 +75,7 @@ module _ (st : State) (b : begins st ≡ true) (few : st .steps ≤ 65535) where
     where
       go : (z : Bool) → eqb (st .stage) 0 ≡ z → z ≡ false
       go false e = refl
-      go true e = absurd (passed-failed b (ap (λ (n : ℕ). eqb n 4 || eqb n 5) (eqb-true (st .stage) 0 e)))
+      go true e = absurd (passed-failed b (ap (λ (n : ℕ). eqb n 4 || (eqb n 5 || (eqb n 9 && not (st .current)))) (eqb-true (st .stage) 0 e)))
 
   pub end-leads : Leads st (endField steps) closed
   end-leads =
@@ -112,7 +112,7 @@ rescued file =
 -- where no field is due, the file has ended or its end may stand, but for a reading that is waited for
 not-due : (st : State) (tag : ℕ) → due st tag ≡ false → eqb (st .stage) 0 ≡ false → eqb (st .stage) 8 ≡ false → begins st ≡ true
 unfolding due
-not-due st tag d z r = go (eqb (st .stage) 0) (begins st) (eqb (st .stage) 8) (eqb (st .stage) 5 && ofRoofs tag) d z r
+not-due st tag d z r = go (eqb (st .stage) 0) (begins st) (eqb (st .stage) 8) (opens st && ofRoofs tag) d z r
   where
     go : (z b r i : Bool) → (not (z || (b || r)) || i) ≡ false → z ≡ false → r ≡ false → b ≡ true
     go z true r i d ez er = refl

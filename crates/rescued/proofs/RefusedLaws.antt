@@ -13,7 +13,7 @@ use Rattle.whole.proofs.Choice.{passed-failed}
 use Rattle.parts.specs.Header.{tagAt, past}
 use Rattle.fields.specs.declared.State.{State}
 use Rattle.fields.specs.declared.Taken.the-variants.{Next, Stop}
-use Rattle.fields.specs.Fields.{closes}
+use Rattle.fields.specs.Fields.{opens, closes}
 use Rattle.stick.specs.declared.Answer.{Answer}
 use Rattle.stick.specs.declared.Reached.{Reached}
 use Rattle.stick.specs.Check.{answer, fieldAt, reached, reachOf, ends, start, checkOf}
@@ -25,17 +25,20 @@ use Rattle.kept.specs.Kept.{begunAt, begun}
 use Rattle.taking.proofs.StageLaws.{HeadTook, StepTook, sort, along}
 use Rattle.rescue.specs.Saved.{Saved, keeping, bytesAt, savedOf, ofRoofs, due}
 use Rattle.rescue.specs.Answers.{outputBy, outputOf, savedAnswer, rescueOf}
-use Rattle.rescue.proofs.SaveLaws.{Saving, over, ended, refused as fault, lost, passed, waiting}
+use Rattle.rescue.proofs.SaveLaws.{by-measure, Saving, over, ended, refused as fault, lost, passed, waiting}
 use Rattle.rescued.specs.Holds.{dueFirst}
 use Rattle.rescued.proofs.BytesLaws.{saved-file}
 
 -- ---- nothing is due once the steps have begun, nor where a field of a step may stand and does
-abbrev dueBy : ℕ → ℕ → Bool
-dueBy stage tag = not (eqb stage 0 || ((eqb stage 4 || eqb stage 5) || eqb stage 8)) || (eqb stage 5 && ofRoofs tag)
+abbrev opensBy : ℕ → Bool → Bool
+opensBy stage current = eqb stage 5 || (eqb stage 9 && not current)
 
-due-at : (st : State) (tag stage : ℕ) → eqb (st .stage) stage ≡ true → dueBy stage tag ≡ false → due st tag ≡ false
+abbrev dueBy : ℕ → Bool → ℕ → Bool
+dueBy stage current tag = not (eqb stage 0 || ((eqb stage 4 || opensBy stage current) || eqb stage 8)) || (opensBy stage current && ofRoofs tag)
+
+due-at : (st : State) (tag stage : ℕ) → eqb (st .stage) stage ≡ true → dueBy stage (st .current) tag ≡ false → due st tag ≡ false
 unfolding due
-due-at st tag stage e d = ap (λ (n : ℕ). dueBy n tag) (eqb-true (st .stage) stage e) ∙ d
+due-at st tag stage e d = ap (λ (n : ℕ). dueBy n (st .current) tag) (eqb-true (st .stage) stage e) ∙ d
 
 begun-free : (st : State) (tag : ℕ) → begun st ≡ true → due st tag ≡ false
 begun-free st tag b = go (eqb (st .stage) 0) (eqb (st .stage) 4) (eqb (st .stage) 8) refl refl refl b
@@ -46,19 +49,20 @@ begun-free st tag b = go (eqb (st .stage) 0) (eqb (st .stage) 4) (eqb (st .stage
     go false false true ex ey ez c = due-at st tag 8 ez refl
     go false false false ex ey ez c = absurd (passed-failed c refl)
 
--- no field of a step is one of the roofs
+-- no field of a step is one of the roofs, nor the connections
 no-roof : (tag : ℕ) → ofSteps tag ≡ true → ofRoofs tag ≡ false
-no-roof tag o = go (eqb tag 6) (eqb tag 7) refl refl
+no-roof tag o = go (eqb tag 6) (eqb tag 7) (eqb tag 10) refl refl refl
   where
-    go : (a b : Bool) → eqb tag 6 ≡ a → eqb tag 7 ≡ b → (a || b) ≡ false
-    go true b ea eb = absurd (passed-failed o (ap ofSteps (eqb-true tag 6 ea)))
-    go false true ea eb = absurd (passed-failed o (ap ofSteps (eqb-true tag 7 eb)))
-    go false false ea eb = refl
+    go : (a b c : Bool) → eqb tag 6 ≡ a → eqb tag 7 ≡ b → eqb tag 10 ≡ c → (a || b || c) ≡ false
+    go true b c ea eb ec = absurd (passed-failed o (ap ofSteps (eqb-true tag 6 ea)))
+    go false true c ea eb ec = absurd (passed-failed o (ap ofSteps (eqb-true tag 7 eb)))
+    go false false true ea eb ec = absurd (passed-failed o (ap ofSteps (eqb-true tag 10 ec)))
+    go false false false ea eb ec = refl
 
 step-free : (st : State) (tag : ℕ) → closes st ≡ true → ofSteps tag ≡ true → due st tag ≡ false
 unfolding due
 step-free st tag c o =
-    ap₂ (λ (a b : Bool). not (eqb (st .stage) 0 || a) || (eqb (st .stage) 5 && b)) c (no-roof tag o) ∙ go (eqb (st .stage) 0) (eqb (st .stage) 5)
+    ap₂ (λ (a b : Bool). not (eqb (st .stage) 0 || a) || (opens st && b)) c (no-roof tag o) ∙ go (eqb (st .stage) 0) (opens st)
   where
     go : (a b : Bool) → (not (a || true) || (b && false)) ≡ false
     go true true = refl
@@ -128,7 +132,7 @@ module _ (file : List ℕ) where
   met {st} {at} (lost {s = s} l e f u more) =
       let r : far st at ≡ reached 6 at st = reach-step file (length file) st at false (Stop 6) (omega arith) l e f in
       free (begun-free (s .state) (tagAt file (s .at)) (begun-stays more refl))
-      (ap (λ (r : Reached). due (r .state) (tagAt file (r .at))) r ∙ step-free st (tagAt file at) (u .closes-here) (ap ofSteps (u .tag)))
+      (ap (λ (r : Reached). due (r .state) (tagAt file (r .at))) r ∙ step-free st (tagAt file at) (u .closes-here) (by-measure (λ (t : ℕ). ofSteps t ≡ true) (u .tag) refl refl))
   met {st} {at} (passed {s = s} m l e f w g more) = go (met more)
     where
       on : far st at ≡ far m (past file at)

@@ -55,7 +55,9 @@ nothing-last s n e l =
 
 ended-not-due : (st : State) (tag : ℕ) → st .stage ≡ 0 → due st tag ≡ false
 unfolding due
-ended-not-due st tag e = ap (λ (n : ℕ). not (eqb n 0 || ((eqb n 4 || eqb n 5) || eqb n 8)) || (eqb n 5 && ofRoofs tag)) e
+ended-not-due st tag e =
+    let opening : ℕ → Bool = λ n. eqb n 5 || (eqb n 9 && not (st .current)) in
+    ap (λ (n : ℕ). not (eqb n 0 || ((eqb n 4 || opening n) || eqb n 8)) || (opening n && ofRoofs tag)) e
 
 answers-zero : (s : Saved) (tag n : ℕ) → due (s .state) tag ≡ false → length (outputBy s) ≤ 2097152 → savedAnswer s tag n .number ≡ 0
 unfolding savedAnswer

@@ -32,7 +32,7 @@ use Rattle.chunks.proofs.HeadChunks.{FieldTaken, accepted-field}
 use Rattle.chunks.proofs.HeadFile.{steps-kept}
 use Rattle.rescue.specs.Saved.{Saved, endsAt, keeping, missingField, closedStep, bytesAt, savedOf, due}
 use Rattle.rescue.specs.Answers.{endField, outputBy, outputOf, savedAnswer, rescueOf}
-use Rattle.rescue.proofs.SaveLaws.{Unread, Saving, over, ended, refused, lost, passed, waiting}
+use Rattle.rescue.proofs.SaveLaws.{by-measure, Unread, Saving, over, ended, refused, lost, passed, waiting}
 use Rattle.rescued.specs.Holds.{Likes, none, next}
 use Rattle.rescued.proofs.BytesLaws.{saved-file}
 
@@ -82,10 +82,9 @@ module _ (file : List ℕ) (at : ℕ) (f : FieldThere file at) where
   sized tag e = subst (λ (t : ℕ). sizeOf start t ≤ lengthAt file at) e (f .size)
 
   cut-reading : readingAt cut 0 ≡ readingAt file at
-  unfolding sizeOf kinds sizeIn
   cut-reading =
       reading-same cut file 0 at (cut-upto 1 (omega arith))
-      (λ e. let l : 24 ≤ lengthAt file at = sized 4 (sym cut-tag ∙ e) in cut-upto 27 (omega arith))
+      (λ k z e. let l = sized k (sym cut-tag ∙ e) in cut-upto 27 (omega arith))
 
   cut-sun : tagAt file at ≡ 8 → sunAt cut 0 ≡ sunAt file at
   unfolding sizeOf kinds sizeIn
@@ -197,7 +196,7 @@ module _ (file : List ℕ) where
         here : (sun : Sun) → stepsFrom file sun at ≡ stepWith (readingAt file at) sun ∷ stepsFrom file dark (past file at)
         here sun =
             steps-field file sun at l
-            ∙ ap (λ (t : ℕ). stepsBy file at (isReading t) (eqb t 8) sun) (u .tag)
+            ∙ by-measure (λ (t : ℕ). stepsBy file at (isReading t) (eqb t 8) sun ≡ stepsBy file at true false sun) (u .tag) refl refl
 
     -- a field that is kept
     held-passed : (m : State) → fieldAt st file at ≡ Next m → Held file m (past file at) s → Held file st at (keeping (bytesAt file at) [] s)

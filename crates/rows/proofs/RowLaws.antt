@@ -27,9 +27,9 @@ bits-back z f = ap (toZ w32) (mod-eq-of-lt (ofZ-fits w32 z f .fits)) ∙ toZ-ofZ
 cut-back : (x : ℕ) (most : ℕ) (width : ℕ) → x ≤ most → most < width → x % width ≡ x
 cut-back x most width h k = mod-eq-of-lt (lt-of-le-of-lt h k)
 
-pub unit-back : (u : Unit) (draw : ℕ) (vars : ℤ) → unitIn u ≡ true → unitBy (rowOf u draw vars) ≡ u
+pub unit-back : (u : Unit) (draw : ℕ) (vars : ℤ) → unitIn u ≡ true → u .link < 4294967296 → unitBy (rowOf u draw vars) ≡ u
 unfolding unitBy rowOf
-unit-back u draw vars e =
+unit-back u draw vars e h =
     let b : Bounds u 1 = bounds {u = u} {seconds = 1} (record { unit = e; seconds-in = refl }) in
     let asked = bits-back (u .«var_request») (size-fits w32 (u .«var_request») (lt-of-le-of-lt (b .vars-most) (lit< tt))) in
     -- all fields, one by one
@@ -47,6 +47,7 @@ unit-back u draw vars e =
       cut-back (u .provide) 100000000 4294967296 (le-trans (b .provide-most) (b .kva-most)) (lit< tt),
       cut-back (u .absorb) 100000000 4294967296 (le-trans (b .absorb-most) (b .kva-most)) (lit< tt),
       cut-back (u .«grid_loss») 10000000 4294967296 (b .grid-most) (lit< tt),
+      mod-eq-of-lt h,
     ) in
     same
 

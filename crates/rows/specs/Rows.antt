@@ -1,5 +1,5 @@
--- Nobody has to believe this file: it is how the code carries units. A row has a unit's fifteen values in the file's order, then what the unit draws
--- while it idles and its vars then; a signed number stands by its 32 bits.
+-- Nobody has to believe this file: it is how the code carries units. A row has a unit's values in the file's order, then what the unit draws while it
+-- idles and its vars then, and what an ampere is in watts; a signed number stands by its 32 bits.
 use Prim.Native.Nat.{ℕ, _%_}
 use mathlib.Core.List.{List, [], _∷_, map}
 use lib.IntN.{ℤ}
@@ -12,7 +12,7 @@ unfoldable pub rowOf : Unit → ℕ → ℤ → List ℕ
 rowOf u draw vars =
     u .rated ∷ u .reserve ∷ u .stored ∷ u .rating ∷ u .kva ∷ u .«dc_loss» ∷ ofZ w32 (u .«var_request») ∷ u .weight
     ∷ u .inverter ∷ u .charge ∷ u .discharge ∷ u .priority ∷ u .provide ∷ u .absorb ∷ u .«grid_loss»
-    ∷ draw ∷ ofZ w32 vars ∷ []
+    ∷ draw ∷ ofZ w32 vars ∷ u .link ∷ []
 
 -- the unit of a row, whatever the row holds, with its var request
 abbrev pub unitWith : List ℕ → ℤ → Unit
@@ -32,6 +32,7 @@ unitWith row vars = record {
   provide = getD row 12 0 % 4294967296;
   absorb = getD row 13 0 % 4294967296;
   «grid_loss» = getD row 14 0 % 4294967296;
+  link = getD row 17 0 % 4294967296;
 }
 
 unfoldable pub unitBy : List ℕ → Unit

@@ -1,7 +1,8 @@
-// Rows of storage units, as the code carries a fleet: a unit's values as seventeen numbers, and back.
+// Rows of storage units, as the code carries a fleet: a unit's values as eighteen numbers, and back.
 mod rows;
 
 pub use rows::draw_of;
+pub use rows::link_of;
 pub use rows::rated_of;
 pub use rows::rating_of;
 pub use rows::reserve_of;

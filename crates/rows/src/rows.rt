@@ -6,7 +6,7 @@ ghost use Rattle.rows.specs.Rows.{rowOf, unitBy, drawBy, varsBy, storesB
 use unit::Unit;
 
 // The row of a unit, with what it draws while it idles and its vars then.
-pub fn row(u: Unit, draw: u32, vars: i32) -> [u64; 17]
+pub fn row(u: Unit, draw: u32, vars: i32) -> [u64; 18]
     ensures { λ r. ⌜ r ≡ rowOf u draw vars ⌝ }
 {
     let asked = octets::pattern_of(u.var_request);
@@ -29,11 +29,12 @@ pub fn row(u: Unit, draw: u32, vars: i32) -> [u64; 17]
         u.grid_loss as u64,
         draw as u64,
         still as u64,
+        u.link as u64,
     ]
 }
 
 // The unit of row i.
-pub fn unit_of(units: &[[u64; 17]], i: usize) -> Unit
+pub fn unit_of(units: &[[u64; 18]], i: usize) -> Unit
     requires { ⌜ i < length (now units) ⌝ }
     ensures { λ r. ⌜ r ≡ unitBy (getD (now (units .entry)) i []) ⌝ }
 {
@@ -53,47 +54,55 @@ pub fn unit_of(units: &[[u64; 17]], i: usize) -> Unit
         provide: (units[i][12] % 4294967296) as u32,
         absorb: (units[i][13] % 4294967296) as u32,
         grid_loss: (units[i][14] % 4294967296) as u32,
+        link: (units[i][17] % 4294967296) as u32,
     }
 }
 
 // Single values of the unit of row i.
-pub fn rated_of(units: &[[u64; 17]], i: usize) -> u64
+pub fn rated_of(units: &[[u64; 18]], i: usize) -> u64
     requires { ⌜ i < length (now units) ⌝ }
     ensures { λ r. ⌜ r ≡ unitBy (getD (now (units .entry)) i []) .rated ⌝ }
 {
     units[i][0]
 }
 
-pub fn reserve_of(units: &[[u64; 17]], i: usize) -> u64
+pub fn reserve_of(units: &[[u64; 18]], i: usize) -> u64
     requires { ⌜ i < length (now units) ⌝ }
     ensures { λ r. ⌜ r ≡ unitBy (getD (now (units .entry)) i []) .reserve ⌝ }
 {
     units[i][1]
 }
 
-pub fn stored_of(units: &[[u64; 17]], i: usize) -> u64
+pub fn stored_of(units: &[[u64; 18]], i: usize) -> u64
     requires { ⌜ i < length (now units) ⌝ }
     ensures { λ r. ⌜ r ≡ unitBy (getD (now (units .entry)) i []) .stored ⌝ }
 {
     units[i][2]
 }
 
-pub fn rating_of(units: &[[u64; 17]], i: usize) -> u32
+pub fn rating_of(units: &[[u64; 18]], i: usize) -> u32
     requires { ⌜ i < length (now units) ⌝ }
     ensures { λ r. ⌜ r ≡ unitBy (getD (now (units .entry)) i []) .rating ⌝ }
 {
     (units[i][3] % 4294967296) as u32
 }
 
-pub fn weight_of(units: &[[u64; 17]], i: usize) -> u16
+pub fn weight_of(units: &[[u64; 18]], i: usize) -> u16
     requires { ⌜ i < length (now units) ⌝ }
     ensures { λ r. ⌜ r ≡ unitBy (getD (now (units .entry)) i []) .weight ⌝ }
 {
     (units[i][7] % 65536) as u16
 }
 
+pub fn link_of(units: &[[u64; 18]], i: usize) -> u32
+    requires { ⌜ i < length (now units) ⌝ }
+    ensures { λ r. ⌜ r ≡ unitBy (getD (now (units .entry)) i []) .link ⌝ }
+{
+    (units[i][17] % 4294967296) as u32
+}
+
 // What the unit of row i draws while it idles.
-pub fn draw_of(units: &[[u64; 17]], i: usize) -> u32
+pub fn draw_of(units: &[[u64; 18]], i: usize) -> u32
     requires { ⌜ i < length (now units) ⌝ }
     ensures { λ r. ⌜ r ≡ drawBy (getD (now (units .entry)) i []) ⌝ }
 {
@@ -101,7 +110,7 @@ pub fn draw_of(units: &[[u64; 17]], i: usize) -> u32
 }
 
 // Its vars then.
-pub fn vars_of(units: &[[u64; 17]], i: usize) -> i32
+pub fn vars_of(units: &[[u64; 18]], i: usize) -> i32
     requires { ⌜ i < length (now units) ⌝ }
     ensures { λ r. ⌜ r ≡ varsBy (getD (now (units .entry)) i []) ⌝ }
 {
@@ -109,7 +118,7 @@ pub fn vars_of(units: &[[u64; 17]], i: usize) -> i32
 }
 
 // Fills a list with what the units of rows hold.
-pub fn stores(units: &[[u64; 17]], stored: &mut [u64])
+pub fn stores(units: &[[u64; 18]], stored: &mut [u64])
     requires { ⌜ length (now stored) ≡ length (now units) ⌝ }
     ensures { λ _. ⌜ now (stored .exit) ≡ storesBy (now (units .entry)) ⌝ }
 {

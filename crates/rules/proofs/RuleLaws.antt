@@ -1,25 +1,26 @@
 -- The rules of a pass as the code works them out: what each operation fits and gives. Assumes nothing.
 use mathlib.Core.Path.{_≡_, refl, sym, ap, ap₂, _∙_, subst, subst⁻¹}
-use mathlib.Core.Bool.{Bool, true, false, not, cond, Bool·beq}
-use Prim.Native.Nat.{ℕ, zero, suc, _+_, _*_, _^_, _≤_, _<_, min}
+use mathlib.Core.Bool.{Bool, true, false, not, cond, _&&_, Bool·beq}
+use Prim.Native.Nat.{ℕ, zero, suc, _+_, _*_, _/_, _^_, _≤_, _<_, min}
 use native.Mathlib.Nat.{lt-of-le-of-lt, le-trans, add-le-add, mul-le-mul, min-eq-left, min-eq-right, le-of-lt, le-of-eq}
 use native.Mathlib.Omega.{arith}
 use lib.Dec.{leb, eqb, lit<, lit≤, leb·suc-zero}
 use lib.IntN.{ℤ, pos, negsuc, negℤ, natAbs, _+ℤ_, _-ℤ_, _*ℤ_}
 use lib.Signed.{mag, ltZ, leZ}
-use borrow.Author.Tests.{eq-eqb, ne-eqb, lt-ltb}
+use borrow.Author.Tests.{eq-eqb, ne-eqb, lt-ltb, not-true, not-false}
 use mir.Syntax.{w32, w64}
 use mir.Val.{SFits, toZ, ofZ}
 use mir.ValLaws.{toZ-pos}
 use Rattle.whole.proofs.Choice.{passed-failed}
 use Rattle.whole.specs.Signed.{negative, signed}
 use Rattle.whole.specs.Quotient.{cut}
-use Rattle.whole.proofs.QuotientLaws.{cut-size}
-use Rattle.whole.proofs.SignLaws.{read, size-sum, size-product, size-fits, signed-fits, wide-is, wide-size, plus-fits, plus-is, minus-fits, minus-is, times-fits, times-is}
+use Rattle.whole.proofs.QuotientLaws.{cut-size, floor-upto}
+use Rattle.whole.proofs.SignLaws.{read, size-neg, size-sum, size-product, size-fits, signed-fits, wide-is, wide-size, plus-fits, plus-is, minus-fits, minus-is, times-fits, times-is}
 use Rattle.rules.specs.declared.Settings.{Settings}
 use Rattle.rules.specs.declared.Asked.{Asked}
-use Rattle.rules.specs.Rules.{charges, plainNeed, unable, shareOf, limited, withMode, unitAfter}
-use Rattle.rules.specs.Posts.{needFrom}
+use Rattle.rules.specs.declared.Wanted.{Wanted}
+use Rattle.rules.specs.Rules.{byCurrent, plainNeed, inWatts, bandInWatts, unable, shareOf, limited, withMode, unitAfter}
+use Rattle.rules.specs.Posts.{wantedBy, needBy, reportedBy, Modest}
 
 abbrev pub back32 : ℤ → ℤ
 back32 z = toZ w32 (ofZ w32 z)
@@ -61,24 +62,13 @@ module _ (s : Settings) (m : ℤ) (hm : natAbs m ≤ 200000000000) (ht : mag (s 
       ∙ sym (ap (λ (t : Bool). cond t (m +ℤ s .target) (m -ℤ s .target)) (ne-eqb (s .mode) 2 e))
 
 -- its size
-pub plain-size : (s : Settings) (m : ℤ) → natAbs m ≤ 200000000000 → natAbs (s .target) ≤ 2147483648 → natAbs (plainNeed s m) ≤ 202147483648
+pub plain-size : (s : Settings) (m : ℤ) (a b : ℕ) → natAbs m ≤ a → natAbs (s .target) ≤ b → natAbs (plainNeed s m) ≤ a + b
 unfolding plainNeed
-plain-size s m hm ht = go (eqb (s .mode) 2)
+plain-size s m a b hm ht = go (eqb (s .mode) 2)
   where
-    both : natAbs m + natAbs (s .target) ≤ 202147483648
-    both = add-le-add hm ht
-
-    less : natAbs (negℤ (s .target)) ≡ natAbs (s .target)
-    less = size-neg (s .target)
-      where
-        size-neg : (z : ℤ) → natAbs (negℤ z) ≡ natAbs z
-        size-neg (pos zero) = refl
-        size-neg (pos (suc n)) = refl
-        size-neg (negsuc n) = refl
-
-    go : (t : Bool) → natAbs (cond t (m +ℤ s .target) (m -ℤ s .target)) ≤ 202147483648
-    go true = le-trans (size-sum m (s .target)) both
-    go false = le-trans (size-sum m (negℤ (s .target))) (subst⁻¹ (λ (n : ℕ). natAbs m + n ≤ 202147483648) less both)
+    go : (t : Bool) → natAbs (cond t (m +ℤ s .target) (m -ℤ s .target)) ≤ a + b
+    go true = le-trans (size-sum m (s .target)) (add-le-add hm ht)
+    go false = le-trans (size-sum m (negℤ (s .target))) (add-le-add hm (subst⁻¹ (λ (n : ℕ). n ≤ b) (size-neg (s .target)) ht))
 
 -- ---- rule 2
 module _ (other : Bool) (plain sum : ℤ) (hp : natAbs plain ≤ 300000000000) (hs : natAbs sum ≤ 1000000000000) where
@@ -100,46 +90,116 @@ module _ (other : Bool) (plain sum : ℤ) (hp : natAbs plain ≤ 300000000000) (
   pub alone-is : other ≡ false → back64 plain ≡ cond other (plain +ℤ sum) plain
   alone-is e = ep ∙ sym (ap (λ (t : Bool). cond t (plain +ℤ sum) plain) e)
 
--- rules 1 and 2 together, from what the code's parts gave
-module _ (s : Settings) (m : ℤ) (a : Asked) (hm : natAbs m ≤ 200000000000) (hs : natAbs (a .sum) ≤ 1000000000000) (ht : natAbs (s .target) ≤ 100000000)
-    (plain : ℤ) (ep : plain ≡ plainNeed s (back64 m)) where
-  em2 : plain ≡ plainNeed s m
-  em2 = ep ∙ ap (plainNeed s) (read-sized m (lt-of-le-of-lt hm (lit< tt)))
+-- ---- rule 10: a need's watts at a unit, and the unit's own need
+module _ (link : ℕ) (need : ℤ) (hl : link ≤ 120000) (hn : natAbs need ≤ 202147483648) where
+  enl : back64 need ≡ need
+  enl = read-sized need (lt-of-le-of-lt hn (lit< tt))
 
-  plain-upto : natAbs plain ≤ 202147483648
-  plain-upto = subst⁻¹ (λ (z : ℤ). natAbs z ≤ 202147483648) em2 (plain-size s m hm (le-trans ht (lit≤ tt)))
+  ell : toZ w64 link ≡ pos link
+  ell = toZ-pos w64 link (lt-of-le-of-lt hl (lit< tt))
 
-  plain-read : back64 plain ≡ plain
-  plain-read = read-sized plain (lt-of-le-of-lt plain-upto (lit< tt))
+  link-room : natAbs need * natAbs (pos link) < 2 ^ 63
+  link-room = lt-of-le-of-lt (mul-le-mul hn hl) (lit< tt)
 
-  pub plain-ok : natAbs (back64 plain) ≤ 300000000000
-  plain-ok = subst⁻¹ (λ (z : ℤ). natAbs z ≤ 300000000000) plain-read (le-trans plain-upto (lit≤ tt))
+  pub linked-fits : SFits w64 (back64 need *ℤ toZ w64 link)
+  linked-fits = times-fits w64 need (pos link) (back64 need) (toZ w64 link) enl ell link-room
 
-  sum-read : back64 (a .sum) ≡ a .sum
-  sum-read = read-sized (a .sum) (lt-of-le-of-lt hs (lit< tt))
-
-  pub sum-ok : natAbs (back64 (a .sum)) ≤ 1000000000000
-  sum-ok = subst⁻¹ (λ (z : ℤ). natAbs z ≤ 1000000000000) sum-read hs
-
-  pub need-is : (other : Bool) → other ≡ cond (charges (s .mode)) (a .above) (a .below) → (r : ℤ) → mag r < 2 ^ 63
-      → r ≡ cond other (back64 plain +ℤ back64 (a .sum)) (back64 plain) → back64 r ≡ needFrom s m a
-  unfolding needFrom
-  need-is other eo r hr e =
+  pub linked-is : (current : Bool) → not current ≡ false → (r : ℤ) → mag r < 2 ^ 63 → r ≡ cut (back64 (back64 need *ℤ toZ w64 link)) 1000
+      → back64 r ≡ inWatts current link need
+  unfolding inWatts
+  linked-is current t r hr e =
       read w64 r hr ∙ e
-      ∙ ap₂ (λ (x y : ℤ). cond other (x +ℤ y) x) (plain-read ∙ em2) sum-read
-      ∙ ap (λ (t : Bool). cond t (plainNeed s m +ℤ a .sum) (plainNeed s m)) eo
+      ∙ ap (λ (z : ℤ). cut z 1000) (times-is w64 need (pos link) (back64 need) (toZ w64 link) enl ell link-room)
+      ∙ sym (ap (λ (b : Bool). cond b (cut (need *ℤ pos link) 1000) need) (not-false current t))
 
-  -- its size
-  pub need-size : natAbs (a .sum) ≤ 137438953472 → natAbs (needFrom s m a) ≤ 400000000000
-  unfolding needFrom
-  need-size hb = go (cond (charges (s .mode)) (a .above) (a .below))
+  pub plainly-is : (current : Bool) → not current ≡ true → back64 need ≡ inWatts current link need
+  unfolding inWatts
+  plainly-is current t = enl ∙ sym (ap (λ (b : Bool). cond b (cut (need *ℤ pos link) 1000) need) (not-true current t))
+
+-- the size of a quotient that is cut
+cut-sized : (z : ℤ) (b : ℕ) → natAbs (cut z b) ≡ natAbs z / b
+unfolding cut
+cut-sized (pos a) b = refl
+cut-sized (negsuc a) b = size-neg (pos (suc a / b))
+
+-- a meter's need is at most 4.8 × 10^10 W at a unit
+pub linked-size : (link : ℕ) (need : ℤ) → link ≤ 120000 → natAbs need ≤ 400000000 → natAbs (inWatts true link need) ≤ 48000000000
+unfolding inWatts
+linked-size link need hl hn =
+    le-trans (le-of-eq (cut-sized (need *ℤ pos link) 1000 ∙ ap (λ (n : ℕ). n / 1000) (size-product need (pos link))))
+    (floor-upto (natAbs need * link) 1000 48000000000 (lit< tt) .1 (le-trans (mul-le-mul hn hl) (lit≤ tt)))
+
+-- what a measure, a target and requests in their ranges give
+pub modest : (s : Settings) (m : ℤ) (a : Asked) → natAbs m ≤ 200000000000 → natAbs (s .target) ≤ 100000000
+    → (byCurrent (s .mode) ≡ true → natAbs m ≤ 300000000) → natAbs (a .sum) ≤ 137438953472 → Modest (wantedBy s m a)
+unfolding wantedBy
+modest s m a hm ht hc hs = record {
+  plain-small = le-trans (plain-size s m 200000000000 100000000 hm ht) (lit≤ tt);
+  current-small = λ e. le-trans (plain-size s m 300000000 100000000 (hc e) ht) (lit≤ tt);
+  sum-small = hs;
+}
+
+module _ (w : Wanted) (link : ℕ) (m : Modest w) (hl : link ≤ 120000) where
+  -- the sizes of the need in watts, and of the unit's own need
+  pub watts-size : natAbs (inWatts (w .current) link (w .plain)) ≤ 202147483648
+  unfolding inWatts
+  watts-size = go (w .current) refl
     where
-      plain-fine : natAbs (plainNeed s m) ≤ 202147483648
-      plain-fine = plain-size s m hm (le-trans ht (lit≤ tt))
+      go : (t : Bool) → w .current ≡ t → natAbs (inWatts t link (w .plain)) ≤ 202147483648
+      go true e = le-trans (linked-size link (w .plain) hl (m .current-small e)) (lit≤ tt)
+      go false e = m .plain-small
 
-      go : (t : Bool) → natAbs (cond t (plainNeed s m +ℤ a .sum) (plainNeed s m)) ≤ 400000000000
-      go true = le-trans (size-sum (plainNeed s m) (a .sum)) (le-trans (add-le-add plain-fine hb) (lit≤ tt))
-      go false = le-trans plain-fine (lit≤ tt)
+  pub need-size : natAbs (needBy w link) ≤ 400000000000
+  unfolding needBy
+  need-size = go (w .other)
+    where
+      go : (t : Bool) → natAbs (cond t (inWatts (w .current) link (w .plain) +ℤ w .sum) (inWatts (w .current) link (w .plain))) ≤ 400000000000
+      go true = le-trans (size-sum (inWatts (w .current) link (w .plain)) (w .sum)) (le-trans (add-le-add watts-size (m .sum-small)) (lit≤ tt))
+      go false = le-trans watts-size (lit≤ tt)
+
+  plain-read : back64 (w .plain) ≡ w .plain
+  plain-read = read-sized (w .plain) (lt-of-le-of-lt (m .plain-small) (lit< tt))
+
+  sum-read : back64 (w .sum) ≡ w .sum
+  sum-read = read-sized (w .sum) (lt-of-le-of-lt (m .sum-small) (lit< tt))
+
+  -- what the code's parts get, and give
+  pub plain-ok : natAbs (back64 (w .plain)) ≤ 202147483648
+  plain-ok = subst⁻¹ (λ (z : ℤ). natAbs z ≤ 202147483648) plain-read (m .plain-small)
+
+  pub sum-ok : natAbs (back64 (w .sum)) ≤ 1000000000000
+  sum-ok = subst⁻¹ (λ (z : ℤ). natAbs z ≤ 1000000000000) sum-read (le-trans (m .sum-small) (lit≤ tt))
+
+  module _ (watts : ℤ) (ew : watts ≡ inWatts (w .current) link (back64 (w .plain))) where
+    ew2 : watts ≡ inWatts (w .current) link (w .plain)
+    ew2 = ew ∙ ap (inWatts (w .current) link) plain-read
+
+    watts-upto : natAbs watts ≤ 202147483648
+    watts-upto = subst⁻¹ (λ (z : ℤ). natAbs z ≤ 202147483648) ew2 watts-size
+
+    watts-read : back64 watts ≡ watts
+    watts-read = read-sized watts (lt-of-le-of-lt watts-upto (lit< tt))
+
+    pub watts-ok : natAbs (back64 watts) ≤ 300000000000
+    watts-ok = subst⁻¹ (λ (z : ℤ). natAbs z ≤ 300000000000) watts-read (le-trans watts-upto (lit≤ tt))
+
+    pub own-is : (r : ℤ) → mag r < 2 ^ 63 → r ≡ cond (w .other) (back64 watts +ℤ back64 (w .sum)) (back64 watts) → back64 r ≡ needBy w link
+    unfolding needBy
+    own-is r hr e = read w64 r hr ∙ e ∙ ap₂ (λ (x y : ℤ). cond (w .other) (x +ℤ y) x) (watts-read ∙ ew2) sum-read
+
+  -- the need that is reported
+  pub reported-is : (r : ℤ) → mag r < 2 ^ 63 → r ≡ cond (w .other && not (w .current)) (back64 (w .plain) +ℤ back64 (w .sum)) (back64 (w .plain)) → back64 r ≡ reportedBy w
+  unfolding reportedBy
+  reported-is r hr e = read w64 r hr ∙ e ∙ ap₂ (λ (x y : ℤ). cond (w .other && not (w .current)) (x +ℤ y) x) plain-read sum-read
+
+-- a unit's own band
+pub band-is : (current : Bool) (link band : ℕ) → not current ≡ false → band * link / 1000 ≡ bandInWatts current link band
+unfolding bandInWatts
+band-is current link band t = sym (ap (λ (b : Bool). cond b (band * link / 1000) band) (not-false current t))
+
+pub fleet-band-is : (current : Bool) (link band : ℕ) → not current ≡ true → band ≡ bandInWatts current link band
+unfolding bandInWatts
+fleet-band-is current link band t = sym (ap (λ (b : Bool). cond b (band * link / 1000) band) (not-true current t))
 
 -- ---- rule 3
 module _ (charging : Bool) (need : ℤ) (h : mag need < 2 ^ 63) where

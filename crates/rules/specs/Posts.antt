@@ -1,15 +1,34 @@
 -- Nobody has to believe this file: the rules over what a fleet's requests say, as the code has it.
-use mathlib.Core.Bool.{Bool, not, cond, _&&_}
-use lib.IntN.{ℤ, _+ℤ_}
+use Prim.Native.Nat.{ℕ, _≤_}
+use mathlib.Core.Bool.{Bool, true, not, cond, _&&_}
+use mathlib.Core.Path.{_≡_}
+use lib.IntN.{ℤ, natAbs, _+ℤ_}
 use Rattle.rules.specs.declared.Asked.{Asked}
+use Rattle.rules.specs.declared.Wanted.{Wanted}
 use Rattle.rules.specs.declared.Settings.{Settings}
-use Rattle.rules.specs.Rules.{charges, plainNeed, noCall}
+use Rattle.rules.specs.Rules.{charges, byCurrent, plainNeed, inWatts}
 
--- P1 and P2
-unfoldable pub needFrom : Settings → ℤ → Asked → ℤ
+-- P1 and P2: where each unit's need comes from
+unfoldable pub wantedBy : Settings → ℤ → Asked → Wanted
 unfolding plainNeed
-needFrom s m a = cond (cond (charges (s .mode)) (a .above) (a .below)) (plainNeed s m +ℤ a .sum) (plainNeed s m)
+wantedBy s m a = record {
+  current = byCurrent (s .mode);
+  plain = plainNeed s m;
+  other = cond (charges (s .mode)) (a .above) (a .below);
+  sum = a .sum;
+}
 
--- P3, of a need that all units share
-unfoldable pub restsBy : Bool → ℤ → Asked → Bool
-restsBy charging need a = not (cond charging (a .below) (a .above)) && noCall charging need
+-- the own need of a unit, by what an ampere of its connection is in watts
+unfoldable pub needBy : Wanted → ℕ → ℤ
+unfolding inWatts
+needBy w link = cond (w .other) (inWatts (w .current) link (w .plain) +ℤ w .sum) (inWatts (w .current) link (w .plain))
+
+-- P7: the need that is reported
+unfoldable pub reportedBy : Wanted → ℤ
+reportedBy w = cond (w .other && not (w .current)) (w .plain +ℤ w .sum) (w .plain)
+
+-- needs whose products stay well within 64 bits
+pub record Modest (w : Wanted) : Type 0 where
+  pub plain-small : natAbs (w .plain) ≤ 202147483648
+  pub current-small : w .current ≡ true → natAbs (w .plain) ≤ 400000000
+  pub sum-small : natAbs (w .sum) ≤ 137438953472

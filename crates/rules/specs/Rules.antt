@@ -1,7 +1,7 @@
--- The rules of a pass over plain numbers, P1 to P6: the need, what asks for nothing, and what one unit's request becomes. Modes 1 and 2 discharge, 3
--- charges.
-use Prim.Native.Nat.{ℕ, _*_, min}
-use mathlib.Core.Bool.{Bool, cond}
+-- The rules of a pass over plain numbers, P1 to P6 and P10: the need, a unit's own need and band, what asks for nothing, and what one unit's request
+-- becomes. Modes 1, 2 and 4 discharge, 3 and 5 charge; 4 and 5 go by current.
+use Prim.Native.Nat.{ℕ, _*_, _/_, min}
+use mathlib.Core.Bool.{Bool, cond, _||_}
 use lib.Dec.{leb, eqb}
 use lib.IntN.{ℤ, pos, natAbs, _+ℤ_, _-ℤ_, _*ℤ_}
 use lib.Signed.{ltZ, leZ}
@@ -9,13 +9,25 @@ use Rattle.whole.specs.Quotient.{cut}
 use Rattle.whole.specs.Signed.{negative, signed}
 use Rattle.rules.specs.declared.Settings.{Settings}
 
--- whether a mode charges
+-- whether a mode charges; whether it goes by current
 abbrev pub charges : ℕ → Bool
-charges mode = eqb mode 3
+charges mode = eqb mode 3 || eqb mode 5
 
--- P1: need is the measure less the target in modes 1 and 3, and both together in mode 2
+abbrev pub byCurrent : ℕ → Bool
+byCurrent mode = leb 4 mode
+
+-- P1: need is the measure less the target, and in mode 2 both together
 unfoldable pub plainNeed : Settings → ℤ → ℤ
 plainNeed s m = cond (eqb (s .mode) 2) (m +ℤ s .target) (m -ℤ s .target)
+
+-- P10: a unit's own need and band are in watts. By current they come from the need and the band in milliamperes, by what an ampere of the unit's connection
+-- is in watts, cut toward zero
+unfoldable pub inWatts : Bool → ℕ → ℤ → ℤ
+unfolding cut
+inWatts current link z = cond current (cut (z *ℤ pos link) 1000) z
+
+unfoldable pub bandInWatts : Bool → ℕ → ℕ → ℕ
+bandInWatts current link band = cond current (band * link / 1000) band
 
 -- P3: a need that does not call: not above 0 discharging, not below 0 charging
 abbrev pub noCall : Bool → ℤ → Bool

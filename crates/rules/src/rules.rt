@@ -2,10 +2,18 @@ ghost use mathlib.Core.Path.{_≡_};
 ghost use Prim.Native.Nat.{_≤_};
 ghost use mathlib.Core.Bool.{cond};
 ghost use lib.IntN.{natAbs, _+ℤ_};
-ghost use Rattle.rules.specs.Rules.{plainNeed, noCall, unable, inBand, shareOf, limited, withMode};
-ghost use Rattle.rules.specs.Posts.{needFrom, restsBy};
+ghost use Rattle.rules.specs.Rules.{charges, plainNeed, inWatts, bandInWatts, noCall, unable, inBand, shareOf, limited, withMode};
+ghost use Rattle.rules.specs.Posts.{wantedBy, needBy, reportedBy, Modest};
 use super::Asked;
 use super::Settings;
+use super::Wanted;
+
+// Whether a mode charges.
+pub fn charges(mode: u8) -> bool
+    ensures { λ r. ⌜ r ≡ charges mode ⌝ }
+{
+    (mode == 3) | (mode == 5)
+}
 
 // P1: measure less target, or in mode 2 measure and target.
 fn plain_need(s: Settings, measure: i64) -> i64
@@ -28,7 +36,7 @@ fn in_other_state(charging: bool, a: Asked) -> bool
 }
 
 // Whether the fleet is in the mode's own state.
-fn in_own_state(charging: bool, a: Asked) -> bool
+pub fn in_own_state(charging: bool, a: Asked) -> bool
     ensures { λ r. ⌜ r ≡ cond charging (a .below) (a .above) ⌝ }
 {
     if charging { a.below } else { a.above }
@@ -43,29 +51,65 @@ fn with_sum(other: bool, plain: i64, sum: i64) -> i64
     if other { plain + sum } else { plain }
 }
 
-// P1 and P2.
-pub fn need(s: Settings, measure: i64, a: Asked) -> i64
+// P1 and P2: where each unit's own need comes from.
+pub fn wanted_by(s: Settings, measure: i64, a: Asked) -> Wanted
     requires { ⌜ natAbs measure ≤ 200000000000 ⌝ }
-    requires { ⌜ natAbs (a .sum) ≤ 1000000000000 ⌝ }
-    requires { ⌜ natAbs (s .target) ≤ 100000000 ⌝ }
-    ensures { λ r. ⌜ r ≡ needFrom s measure a ⌝ }
+    ensures { λ r. ⌜ r ≡ wantedBy s measure a ⌝ }
 {
-    let plain = plain_need(s, measure);
-    with_sum(in_other_state(s.mode == 3, a), plain, a.sum)
+    Wanted {
+        current: 4 <= s.mode,
+        plain: plain_need(s, measure),
+        other: in_other_state(charges(s.mode), a),
+        sum: a.sum,
+    }
+}
+
+// P10: by current, a need's watts at a unit.
+fn in_watts(current: bool, link: u32, need: i64) -> i64
+    requires { ⌜ link ≤ 120000 ⌝ }
+    requires { ⌜ natAbs need ≤ 202147483648 ⌝ }
+    ensures { λ r. ⌜ r ≡ inWatts current link need ⌝ }
+{
+    if !current {
+        return need;
+    }
+    whole::cut(need * (link as i64), 1000)
+}
+
+// P2 and P10: a unit's own need.
+pub fn own_need(w: Wanted, link: u32) -> i64
+    requires { ⌜ Modest w ⌝ }
+    requires { ⌜ link ≤ 120000 ⌝ }
+    ensures { λ r. ⌜ r ≡ needBy w link ⌝ }
+    ensures { λ r. ⌜ natAbs r ≤ 400000000000 ⌝ }
+{
+    with_sum(w.other, in_watts(w.current, link, w.plain), w.sum)
+}
+
+// P10: a unit's own band.
+pub fn own_band(current: bool, link: u32, band: u32) -> u64
+    requires { ⌜ link ≤ 120000 ⌝ }
+    ensures { λ r. ⌜ r ≡ bandInWatts current link band ⌝ }
+{
+    if !current {
+        return band as u64;
+    }
+    (band as u64) * (link as u64) / 1000
+}
+
+// P7: the need that is reported, by current without F.
+pub fn reported(w: Wanted) -> i64
+    requires { ⌜ Modest w ⌝ }
+    ensures { λ r. ⌜ r ≡ reportedBy w ⌝ }
+{
+    with_sum(w.other & !w.current, w.plain, w.sum)
 }
 
 // P3: a need that does not call: at or below 0 discharging, at or above 0 charging.
-fn no_call(charging: bool, need: i64) -> bool
+pub fn no_call(charging: bool, need: i64) -> bool
     ensures { λ r. ⌜ r ≡ noCall charging need ⌝ }
 {
     if charging { 0 <= need } else { need <= 0 }
-}
-
-// P3: a fleet that is not in the mode's own state rests at such a need.
-pub fn rests(charging: bool, need: i64, a: Asked) -> bool
-    ensures { λ r. ⌜ r ≡ restsBy charging need a ⌝ }
-{
-    !in_own_state(charging, a) & no_call(charging, need)
 }
 
 // Nothing above the reserve, or, charging, no room.
@@ -80,11 +124,11 @@ pub fn unable(charging: bool, rated: u64, reserve: u64, stored: u64) -> bool
 }
 
 // P5: twice the need's size is within the band.
-pub fn in_band(band: u32, need: i64) -> bool
+pub fn in_band(band: u64, need: i64) -> bool
     requires { ⌜ natAbs need ≤ 10000000000000 ⌝ }
     ensures { λ r. ⌜ r ≡ inBand band need ⌝ }
 {
-    2 * whole::size64(need) <= band as u64
+    2 * whole::size64(need) <= band
 }
 
 // P6: a unit's share of the need.

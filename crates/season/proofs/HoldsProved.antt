@@ -10,10 +10,6 @@ use lib.Signed.{ltZ}
 use Rattle.whole.proofs.OverLaws.{none-of}
 use Rattle.unit.specs.declared.Unit.{Unit}
 use Rattle.reading.specs.declared.Reading.{Reading}
-use Rattle.reading.specs.declared.Reading.the-variants.{Missing, Power}
-use Rattle.reading.specs.declared.Measure.{Measure}
-use Rattle.reading.specs.declared.Measure.the-variants.{Chosen, RefusedBy}
-use Rattle.reading.specs.Choice.{measureOf, measureCall}
 use Rattle.members.specs.Ranges.{fleetFor, someAbove, someBelow}
 use Rattle.controller.specs.OneSign.{OneSign}
 use Rattle.controller.proofs.OneSign.{one-sign}
@@ -21,11 +17,12 @@ use Rattle.site.specs.declared.Step.{Step}
 use Rattle.site.specs.Site.{Site}
 use Rattle.stick.specs.Site.{siteOf, stepsOf}
 use Rattle.stick.specs.Posts.{Accepted}
-use Rattle.fleet.specs.Step.{Standing, atFirst, passedOn, askedBy, after}
+use Rattle.fleet.specs.Step.{Standing, atFirst, askedBy, after}
+use Rattle.fleet.proofs.StepLaws.{asked-keeps}
 use Rattle.stretch.specs.Stretch.{standsAfter}
 use Rattle.season.specs.Holds.{RunLaw}
 use Rattle.season.proofs.AnswerLaws.{result-length}
-use Rattle.season.proofs.UsedLaws.{none-refused}
+use Rattle.season.proofs.UsedLaws.{none-refused, no-current-refused}
 
 zeros : (n i : ℕ) → getD (replicate n (pos 0)) i (pos 0) ≡ pos 0
 zeros zero i = refl
@@ -40,13 +37,7 @@ first-one us =
     (none-of (length rs) (λ (i : ℕ). ltZ (pos 0) (getD rs i (pos 0))) (λ i l. ap (ltZ (pos 0)) (zeros (length us) i)))
 
 asked-one : (site : Site) (stored : List ℕ) (rs : List ℤ) (r : Reading) → OneSign rs → OneSign (askedBy site stored rs r)
-unfolding askedBy
-asked-one site stored rs Missing h = h
-asked-one site stored rs (Power p) h = go (measureOf p (site .head .phase))
-  where
-    go : (m : Measure) → OneSign (passedOn site stored rs (measureCall m))
-    go (Chosen m) = one-sign (site .head .settings) m (fleetFor (site .units) stored) rs h
-    go (RefusedBy n) = h
+asked-one site stored rs r h = asked-keeps OneSign site stored rs h (λ m. one-sign (site .head .settings) m (fleetFor (site .units) stored) rs h) r
 
 stands-one : (site : Site) (st : Standing) (ss : List Step) → OneSign (st .requests) → OneSign (standsAfter site st ss .requests)
 unfolding standsAfter after
@@ -57,5 +48,6 @@ pub run-law : (file : List ℕ) → Accepted file → RunLaw file
 run-law file a = record {
   resultLength = result-length file;
   noneRefused = none-refused file a;
+  noCurrentRefused = no-current-refused file a;
   oneSign = λ k. stands-one (siteOf file) (atFirst (siteOf file .units)) (take k (stepsOf file)) (first-one (siteOf file .units));
 }

@@ -1,4 +1,4 @@
--- No run meets a reading that is refused: the check has looked at every power, and at the phase choice. Assumes nothing.
+-- No run meets a reading that is refused: the check has looked at every power and current, and at the phase choice. Assumes nothing.
 use mathlib.Core.Path.{_≡_, refl, sym, ap, _∙_, subst, subst⁻¹}
 use mathlib.Core.Bool.{Bool, true, false, cond}
 use mathlib.Core.List.{List, [], _∷_}
@@ -9,9 +9,9 @@ use lib.IntN.{ℤ}
 use lib.ListN.{length, getD}
 use Rattle.parts.specs.Header.{tagAt}
 use Rattle.reading.specs.declared.Phases.{Phases}
-use Rattle.reading.specs.declared.Reading.the-variants.{Missing, Power}
+use Rattle.reading.specs.declared.Reading.the-variants.{Missing, Power, Current}
 use Rattle.reading.specs.declared.Measure.the-variants.{Chosen}
-use Rattle.reading.specs.Choice.{measureOf, refusalOf}
+use Rattle.reading.specs.Choice.{measureOf, currentOf, refusalOf}
 use Rattle.solar.specs.declared.Sun.{Sun}
 use Rattle.solar.specs.Weather.{dark}
 use Rattle.site.specs.declared.Step.{Step}
@@ -20,7 +20,7 @@ use Rattle.fields.specs.Fields.{isReading}
 use Rattle.stick.specs.Site.{placesFrom, siteOf, readingAt, sunAt, stepsIn, stepsFrom, stepsOf}
 use Rattle.stick.specs.Posts.{Accepted, stepsPlace}
 use Rattle.stick.proofs.SiteProved.{sited, steps-from}
-use Rattle.fleet.proofs.UsedLaws.{chosen}
+use Rattle.fleet.proofs.UsedLaws.{chosen, chosen-current}
 use Rattle.stretch.specs.Posts.{FieldsAt, StepsThere}
 use Rattle.stretch.proofs.AcceptedLaws.{steps-there}
 
@@ -50,7 +50,11 @@ all-usable file a k h =
     subst (λ (ss : List Step). refusalOf (getD ss k (stepWith Missing dark) .reading) ≡ 0) e
     (usable file dark (placesFrom (length file) file at) (steps-there file a) k (subst⁻¹ (λ (ss : List Step). k < length ss) e h))
 
--- every power that an accepted file has gives a measure
+-- every power that an accepted file has gives a measure, and every current
 pub none-refused : (file : List ℕ) → Accepted file → (k : ℕ) → k < length (stepsOf file) → (p : Phases) → getD (stepsOf file) k (stepWith Missing dark) .reading ≡ Power p
     → (m : ℤ) × (measureOf p (siteOf file .head .phase) ≡ Chosen m)
 none-refused file a k h p e = chosen p (siteOf file .head .phase) (sited file a .phase) (ap refusalOf (sym e) ∙ all-usable file a k h)
+
+pub no-current-refused : (file : List ℕ) → Accepted file → (k : ℕ) → k < length (stepsOf file) → (p : Phases) → getD (stepsOf file) k (stepWith Missing dark) .reading ≡ Current p
+    → (m : ℤ) × (currentOf p (siteOf file .head .phase) ≡ Chosen m)
+no-current-refused file a k h p e = chosen-current p (siteOf file .head .phase) (sited file a .phase) (ap refusalOf (sym e) ∙ all-usable file a k h)

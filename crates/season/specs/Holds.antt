@@ -5,9 +5,9 @@ use mathlib.Core.Path.{_≡_}
 use lib.IntN.{ℤ}
 use lib.ListN.{length, getD, take}
 use Rattle.reading.specs.declared.Phases.{Phases}
-use Rattle.reading.specs.declared.Reading.the-variants.{Missing, Power}
+use Rattle.reading.specs.declared.Reading.the-variants.{Missing, Power, Current}
 use Rattle.reading.specs.declared.Measure.the-variants.{Chosen}
-use Rattle.reading.specs.Choice.{measureOf}
+use Rattle.reading.specs.Choice.{measureOf, currentOf}
 use Rattle.controller.specs.OneSign.{OneSign}
 use Rattle.solar.specs.Weather.{dark}
 use Rattle.site.specs.Site.{stepWith}
@@ -20,8 +20,10 @@ use Rattle.season.specs.Answers.{needed}
 pub record RunLaw (file : List ℕ) : Type 0 where
   -- the result has as many bytes as the room is asked for
   pub resultLength : length (resultOf file) ≡ needed file
-  -- every power that the file has gives a measure
+  -- every power that the file has gives a measure, and every current
   pub noneRefused : (k : ℕ) → k < length (stepsOf file) → (p : Phases) → getD (stepsOf file) k (stepWith Missing dark) .reading ≡ Power p
       → (m : ℤ) × (measureOf p (siteOf file .head .phase) ≡ Chosen m)
+  pub noCurrentRefused : (k : ℕ) → k < length (stepsOf file) → (p : Phases) → getD (stepsOf file) k (stepWith Missing dark) .reading ≡ Current p
+      → (m : ℤ) × (currentOf p (siteOf file .head .phase) ≡ Chosen m)
   -- after any number of steps the requests are not of both signs
   pub oneSign : (k : ℕ) → OneSign (standsAfter (siteOf file) (atFirst (siteOf file .units)) (take k (stepsOf file)) .requests)

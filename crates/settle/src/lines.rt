@@ -40,6 +40,31 @@ pub fn outcome(r: Studied, budget: u32) {
     }
 }
 
+// What a mode is called, in brackets; nothing for a number that is no mode.
+fn mode_name(mode: u8) {
+    match mode {
+        2 => text(b" (Support)"),
+        3 => text(b" (PeakShaveLow)"),
+        4 => text(b" (I-PeakShave)"),
+        5 => text(b" (I-PeakShaveLow)"),
+        _ => text(b""),
+    }
+}
+
+// A study has a mode of its own, and says so of a file that has another.
+pub fn mode(mode: u8) {
+    if mode == 1 {
+        return;
+    }
+    text(b"a study is in mode 1 (PeakShave) and by watts; the stick's mode is ");
+    number(mode as u64);
+    mode_name(mode);
+    if 4 <= mode {
+        text(b", and its target and band, which are in mA, are taken as W");
+    }
+    text(b"\n");
+}
+
 // A unit's line.
 fn unit(i: usize, request: i32, rating: u32) {
     number(i as u64);

@@ -15,6 +15,7 @@ fn told(file: &[u8], head: Head, a: StudyAnswer, load: u32, budget: u32, request
     };
     let s = head.settings;
     lines::outcome(r, budget);
+    lines::mode(s.mode);
     lines::units(file, requests);
     lines::left(load, s.target, s.band, requests);
     true

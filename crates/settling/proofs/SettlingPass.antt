@@ -1,5 +1,5 @@
 -- A pass of the study, on requests that are no less than 0 and come to no more than the watts from target to load, is a step in whole numbers
--- without a sign (`SettlingSteps`). All units share one need. No request is below 0, so rule 2 adds nothing; an idle fleet has a need above 0, so rule 3 does not stop
+-- without a sign (`SettlingSteps`). Mode 1 is not by current, so all units share one need (`one-need`). No request is below 0, so rule 2 adds nothing; an idle fleet has a need above 0, so rule 3 does not stop
 -- it; the store is above the reserve, so rule 4 does not; rules 5 and 6 are the step. Assumes nothing.
 use mathlib.Core.Path.{_≡_, refl, sym, ap, _∙_, subst⁻¹}
 use mathlib.Core.Bool.{Bool, true, false, not, cond, _&&_}
@@ -20,10 +20,11 @@ use Rattle.settling.proofs.SettlingSteps.{step}
 use Rattle.settling.proofs.SettlingStill.{studied-length}
 use Rattle.rules.specs.declared.Settings.{Settings}
 use Rattle.members.specs.Ranges.{Fleet, someAbove, someBelow}
-use Rattle.rules.specs.Rules.{charges, plainNeed, inBand}
+use Rattle.rules.specs.Rules.{charges, byCurrent, plainNeed, inBand}
 use Rattle.members.specs.Sums.{total, sumOfAll}
-use Rattle.controller.specs.Pass.{needOf, rests, spent, allInBand, requestAfter}
+use Rattle.controller.specs.Pass.{withSum, needOf, rests, spent, allInBand, requestAfter, passBy}
 use Rattle.controller.proofs.AlikeLaws.{rests-is, band-is}
+use Rattle.controller.proofs.OneNeedProved.{one-need}
 use Rattle.settling.specs.Study.{studyPass}
 use Rattle.settling.specs.Settling.{Premises, ratingAbove}
 
@@ -54,25 +55,25 @@ module _ (n : ℕ) (rs : List ℤ) (q : ℕ → ℕ) (is : Requests n rs q) wher
           ∙ none-at (length rs) (λ (j : ℕ). ltZ (pos 0) (getD rs j (pos 0))) e i (subst⁻¹ (λ (m : ℕ). i < m) (is .count) l)
 
 -- ---- the rules, over plain values, for a mode that is 1
-one-need : (mode : ℕ) (above low : Bool) (a b c : ℤ) → mode ≡ 1 → low ≡ false
-    → cond (cond (eqb mode 3) above low) (cond (eqb mode 2) a b +ℤ c) (cond (eqb mode 2) a b) ≡ b
-one-need mode above low a b c e h = simp (e, h)
+one-plain : (mode : ℕ) (above low : Bool) (a b c : ℤ) → mode ≡ 1 → low ≡ false
+    → cond (byCurrent mode) (cond (eqb mode 2) a b) (cond (cond (charges mode) above low) (cond (eqb mode 2) a b +ℤ c) (cond (eqb mode 2) a b)) ≡ b
+one-plain mode above low a b c e h = simp (e, h)
 
 one-rests : (mode : ℕ) (above low other : Bool) (x : ℕ) → mode ≡ 1 → (above ≡ false → 0 < x)
-    → (not (cond (eqb mode 3) low above) && cond (eqb mode 3) other (leb x 0)) ≡ false
+    → (not (cond (charges mode) low above) && cond (charges mode) other (leb x 0)) ≡ false
 one-rests mode above low other x e h = simp e (go above h)
   where
     go : (above : Bool) → (above ≡ false → 0 < x) → (not above && leb x 0) ≡ false
     go true h = refl
     go false h = lt-leb x 0 (h refl)
 
-one-keeps : (mode u : ℕ) → mode ≡ 1 → cond (cond (eqb mode 3) (ltb 0 u) (ltb u 0)) (pos 0) (pos u) ≡ pos u
+one-keeps : (mode u : ℕ) → mode ≡ 1 → cond (cond (charges mode) (ltb 0 u) (ltb u 0)) (pos 0) (pos u) ≡ pos u
 one-keeps mode u e = simp (e, leb·suc-zero u)
 
 -- a unit is asked for 0, or as far as R goes
 one-unable : (mode : ℕ) (full empty : Bool) (u : ℕ → ℕ) (R : ℕ) → mode ≡ 1 → u 0 ≡ 0
-    → cond (cond (eqb mode 3) full empty) (pos 0) (cond (cond (eqb mode 3) (ltb 0 (u R)) (ltb (u R) 0)) (pos 0) (pos (u R))) ≡ pos (u (cond empty 0 R))
-one-unable mode full empty u R e z = ap (λ (t : ℤ). cond (cond (eqb mode 3) full empty) (pos 0) t) (one-keeps mode (u R) e) ∙ simp e (go empty)
+    → cond (cond (charges mode) full empty) (pos 0) (cond (cond (charges mode) (ltb 0 (u R)) (ltb (u R) 0)) (pos 0) (pos (u R))) ≡ pos (u (cond empty 0 R))
+one-unable mode full empty u R e z = ap (λ (t : ℤ). cond (cond (charges mode) full empty) (pos 0) t) (one-keeps mode (u R) e) ∙ simp e (go empty)
   where
     go : (empty : Bool) → cond empty (pos 0) (pos (u R)) ≡ pos (u (cond empty 0 R))
     go true = ap pos (sym z)
@@ -113,7 +114,7 @@ module _ (s : Settings) (load : ℤ) (f : Fleet) (n : ℕ) (p : Premises s load 
   afterShare x a i = withShare (ratingAbove s load f n i) x a i
 
   -- a unit that is not above its reserve goes as one with a rating of 0
-  request-is : (x a i : ℕ) → requestAfter s n f (pos x) i (pos a) ≡ pos (afterShare x a i)
+  request-is : (x a i : ℕ) → requestAfter s n f (λ (j : ℕ). pos x) i (pos a) ≡ pos (afterShare x a i)
   unfolding requestAfter
   request-is x a i =
       one-unable (s .mode) (eqb (getD (f .stored) i 0) (getD (f .rated) i 0)) (leb (getD (f .stored) i 0) (getD (f .reserve) i 0)) (λ (R : ℕ). withShare R x a i) (getD (f .rating) i 0) (p .peakShaving)
@@ -125,15 +126,15 @@ module _ (s : Settings) (load : ℤ) (f : Fleet) (n : ℕ) (p : Premises s load 
 
   module _ (rs : List ℤ) (q : ℕ → ℕ) (is : Requests n rs q) (within : sumOf n q ≤ gap) where
     need-is : needOf s (load -ℤ sumOfAll rs) rs ≡ pos (gap - sumOf n q)
-    unfolding needOf plainNeed
+    unfolding needOf withSum plainNeed
     need-is =
-        one-need (s .mode) (someAbove rs) (someBelow rs)
+        one-plain (s .mode) (someAbove rs) (someBelow rs)
         ((load -ℤ sumOfAll rs) +ℤ s .target) ((load -ℤ sumOfAll rs) -ℤ s .target) (sumOfAll rs)
         (p .peakShaving) (none-below n rs q is)
         ∙ ap (λ (z : ℤ). (load -ℤ z) -ℤ s .target) (sum-is n rs q is)
         ∙ measure-is (sumOf n q) within
 
-    not-resting : rests s (pos (gap - sumOf n q)) rs ≡ false
+    not-resting : rests s (λ (i : ℕ). pos (gap - sumOf n q)) rs ≡ false
     not-resting =
         rests-is s (pos (gap - sumOf n q)) rs (subst⁻¹ (λ (m : ℕ). 1 ≤ m) (is .count) some)
         ∙ one-rests (s .mode) (someAbove rs) (someBelow rs) (leb 0 (gap - sumOf n q)) (gap - sumOf n q) (p .peakShaving)
@@ -146,32 +147,33 @@ module _ (s : Settings) (load : ℤ) (f : Fleet) (n : ℕ) (p : Premises s load 
     -- what the rules give for a need and a number of units
     abbrev given : ℤ → ℕ → List ℤ
     given need k =
-        cond (rests s need rs) rs
+        cond (rests s (λ (i : ℕ). need) rs) rs
         (cond (spent (charges (s .mode)) k f) (each (λ (i : ℕ) (r : ℤ). pos 0) rs)
-        (cond (allInBand s k need) rs (each (requestAfter s k f need) rs)))
+        (cond (allInBand k (λ (i : ℕ). s .band) (λ (i : ℕ). need)) rs (each (requestAfter s k f (λ (i : ℕ). need)) rs)))
 
+    -- mode 1 is not by current
     read : studyPass s load f rs ≡ given (needOf s (load -ℤ sumOfAll rs) rs) (length rs)
-    unfolding studyPass
-    read = refl
+    unfolding studyPass passBy
+    read = one-need s (load -ℤ sumOfAll rs) f rs (ap byCurrent (p .peakShaving))
 
     -- rules 5 and 6 for what is missing
     abbrev missing : ℤ
     missing = pos (gap - sumOf n q)
 
     abbrev shared : List ℤ
-    shared = each (requestAfter s n f missing) rs
+    shared = each (requestAfter s n f (λ (i : ℕ). missing)) rs
 
     pass-is : studyPass s load f rs ≡ cond (inBand (s .band) missing) rs shared
     pass-is =
         read ∙ ap (λ (z : ℤ). given z (length rs)) need-is ∙ ap (given missing) (is .count)
-        ∙ goes-on (rests s missing rs) (spent (charges (s .mode)) n f) rs (each (λ (i : ℕ) (r : ℤ). pos 0) rs)
-        (cond (allInBand s n missing) rs shared) not-resting not-spent
-        ∙ ap (λ (b : Bool). cond b rs shared) (band-is s n missing some)
+        ∙ goes-on (rests s (λ (i : ℕ). missing) rs) (spent (charges (s .mode)) n f) rs (each (λ (i : ℕ) (r : ℤ). pos 0) rs)
+        (cond (allInBand n (λ (i : ℕ). s .band) (λ (i : ℕ). missing)) rs shared) not-resting not-spent
+        ∙ ap (λ (b : Bool). cond b rs shared) (band-is n (s .band) missing some)
 
-    shared-at : (i : ℕ) → i < n → getD shared i (pos 0) ≡ requestAfter s n f missing i (pos (q i))
+    shared-at : (i : ℕ) → i < n → getD shared i (pos 0) ≡ requestAfter s n f (λ (j : ℕ). missing) i (pos (q i))
     shared-at i l =
-        each-at (requestAfter s n f missing) rs i (pos 0) (subst⁻¹ (λ (m : ℕ). i < m) (is .count) l)
-        ∙ ap (requestAfter s n f missing i) (is .at i l)
+        each-at (requestAfter s n f (λ (j : ℕ). missing)) rs i (pos 0) (subst⁻¹ (λ (m : ℕ). i < m) (is .count) l)
+        ∙ ap (requestAfter s n f (λ (j : ℕ). missing) i) (is .at i l)
 
     pub pass-steps : Requests n (studyPass s load f rs) (stepOf q)
     unfolding inBand

@@ -24,6 +24,7 @@ use Rattle.settling.specs.declared.Trial.{Trial}
 use Rattle.settling.specs.Study.{shaving, Study, studyPass, studyFrom, studyOf}
 use Rattle.settling.specs.Posts.{DoneStudy, Measured, Trying}
 use Rattle.members.specs.Posts.{AskedOf}
+use Rattle.whole.proofs.Choice.{passed-failed}
 use Rattle.controller.specs.Posts.{Sound, DonePass}
 use Rattle.rules.proofs.RuleLaws.{back64, read-sized}
 use Rattle.members.proofs.DifferLaws.{unchanged}
@@ -75,7 +76,7 @@ module _ (q : Trial) (f : Fleet) (n : ℕ) (h : Trying q f n) where
     pass-sound m small =
         let em : back64 m ≡ m = read-sized m (lt-of-le-of-lt small (lit< tt)) in
         subst⁻¹ (λ (t : Settings). Sound t (back64 m) f k) es
-        (at-measure (shaving (q .settings)) (q .load) (back64 m) f k (units-as-lent (shaving (q .settings)) (q .load) f n k ek (h .sound)) (subst⁻¹ (λ (z : ℤ). natAbs z ≤ 200000000000) em small))
+        (at-measure (shaving (q .settings)) (q .load) (back64 m) f k (units-as-lent (shaving (q .settings)) (q .load) f n k ek (h .sound)) (subst⁻¹ (λ (z : ℤ). natAbs z ≤ 200000000000) em small) (λ c. absurd (passed-failed c refl)))
 
     -- what is done of the study as the code has it is done of the study that was asked for
     pub asked-for : (after : List ℤ) (r : Studied) → DoneStudy s (back64 (q .load)) f (q .budget) k after r → DoneStudy (shaving (q .settings)) (q .load) f (q .budget) n after r

@@ -6,7 +6,7 @@ use Prim.Native.Nat.{ℕ, _^_, _≤_, _<_}
 use native.Mathlib.Nat.{le-trans}
 use lib.Dec.{leb, lit≤}
 use lib.IntN.{ℤ, pos, negsuc, natAbs}
-use lib.ListN.{length}
+use lib.ListN.{length, getD}
 use lib.Signed.{mag, leZ}
 use borrow.Author.Tests.{leb-true, not-false}
 use mir.Syntax.{w64}
@@ -19,7 +19,7 @@ use Rattle.rules.specs.declared.Settings.{Settings}
 use Rattle.rules.specs.Ranges.{settingsIn}
 use Rattle.members.specs.Ranges.{Fleet, memberAt, lengthsIn}
 use Rattle.rules.proofs.RuleLaws.{back64}
-use Rattle.controller.proofs.SoundLaws.{same-lengths, sound}
+use Rattle.controller.proofs.SoundLaws.{all-members, sound}
 use Rattle.settling.specs.declared.Trial.{Trial}
 use Rattle.settling.specs.Study.{shaving, trialIn}
 use Rattle.settling.specs.Posts.{Trying}
@@ -39,14 +39,15 @@ trial-is q s a es ea h =
 module _ (q : Trial) (f : Fleet) where
   pub values-are : (rs : List ℤ) → lengthsIn f (length rs) ≡ true → (a c : Bool) → a ≡ trialIn q → c ≡ allOf (length (f .rated)) (memberAt f)
       → (a && c) ≡ (trialIn q && allOf (length rs) (memberAt f))
-  values-are rs tl a c ea ec = ap₂ _&&_ ea (ec ∙ ap (λ (k : ℕ). allOf k (memberAt f)) (same-lengths f (length rs) tl .rated))
+  values-are rs tl a c ea ec = ap₂ _&&_ ea (all-members f (length rs) tl c ec)
 
   -- they are enough for a study
-  pub trying : (n : ℕ) → lengthsIn f n ≡ true → (fine : Bool) → fine ≡ (trialIn q && allOf n (memberAt f)) → not fine ≡ false → Trying q f n
+  pub trying : length (f .link) ≡ length (f .rated) → ((i : ℕ) → getD (f .link) i 0 ≤ 120000) → (n : ℕ) → lengthsIn f n ≡ true
+      → (fine : Bool) → fine ≡ (trialIn q && allOf n (memberAt f)) → not fine ≡ false → Trying q f n
   unfolding trialIn
-  trying n tl fine ef t =
+  trying el links n tl fine ef t =
       let u = and-parts (trialIn q) (allOf n (memberAt f)) (sym ef ∙ not-false fine t) in
       let v = and-parts (settingsIn (shaving (q .settings)) && (leZ (pos 0) (q .load) && leZ (q .load) (pos 100000000))) (between 1 10000 (q .budget)) (u .0) in
       let w = and-parts (settingsIn (shaving (q .settings))) (leZ (pos 0) (q .load) && leZ (q .load) (pos 100000000)) (v .0) in
       let small = load-small (q .load) (w .1) in
-      record { sound = sound (shaving (q .settings)) (q .load) f n tl (w .0) (le-trans small (lit≤ tt)) (u .1); load-small = small }
+      record { sound = sound (shaving (q .settings)) (q .load) f n tl el (w .0) (le-trans small (lit≤ tt)) (λ c. le-trans small (lit≤ tt)) (u .1) (λ i h. links i); load-small = small }

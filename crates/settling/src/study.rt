@@ -52,7 +52,7 @@ fn measure(load: i64, requests: &[i32]) -> i64
 pub fn settle_within(
     q: Trial,
     t: Totals,
-    units: &[[u64; 17]],
+    units: &[[u64; 18]],
     stored: &[u64],
     requests: &mut [i32],
 ) -> Studied
@@ -91,14 +91,16 @@ fn settle_with(
     stored: &[u64],
     rating: &[u32],
     weight: &[u16],
-    units: &mut [[u64; 17]],
+    units: &mut [[u64; 18]],
     requests: &mut [i32],
 ) -> Studied
     requires { ⌜ Trying q (fleetOf (now rated) (now reserve) (now stored) (now rating) (now weight)) (length (now requests)) ⌝ }
     requires { ⌜ length (now units) ≡ length (now requests) ⌝ }
     ensures { λ r. ⌜ DoneTrial q (fleetOf (now (rated .entry)) (now (reserve .entry)) (now (stored .entry)) (now (rating .entry)) (now (weight .entry))) (length (now (requests .entry))) (now (requests .exit)) r ⌝ }
 {
-    members::fill(rated, reserve, stored, rating, weight, units);
+    let n = units.len();
+    let links = [0u32; 64];
+    members::fill(rated, reserve, stored, rating, weight, &links[0..n], units);
     let t = members::summed(units);
     settle_within(q, t, units, stored, requests)
 }
@@ -117,7 +119,7 @@ fn settle_over(
     ensures { λ r. ⌜ DoneTrial q (fleetOf (now (rated .entry)) (now (reserve .entry)) (now (stored .entry)) (now (rating .entry)) (now (weight .entry))) (length (now (requests .entry))) (now (requests .exit)) r ⌝ }
 {
     let n = requests.len();
-    let mut units = [[0u64; 17]; 64];
+    let mut units = [[0u64; 18]; 64];
     settle_with(
         q,
         rated,

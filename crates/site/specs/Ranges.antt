@@ -16,6 +16,7 @@ pub record Sited (site : Site) : Type 0 where
   pub settings : settingsIn (site .head .settings) ≡ true
   pub phase : site .head .phase ≤ 5
   pub units : (i : ℕ) → i < count site → unitIn (unitOf site i) ≡ true
+  pub links : (i : ℕ) → i < count site → unitOf site i .link ≤ 120000
 
 -- at most 64 roofs, each in its ranges
 pub record Roofed (roofs : List Roof) : Type 0 where

@@ -36,6 +36,7 @@ noUnit = record {
   provide = 0;
   absorb = 0;
   «grid_loss» = 0;
+  link = 0;
 }
 
 abbrev pub unitOf : Site → ℕ → Unit

@@ -3,6 +3,7 @@ pub mod WalkLaws
 pub mod ReachLaws
 pub mod PlaceLaws
 pub mod SaidLaws
+pub mod ConnectionLaws
 pub mod RoofLaws
 pub mod StepLaws
 pub mod SiteProved

@@ -5,7 +5,7 @@ use mathlib.Core.Bool.{Bool, true, false, not, cond}
 use mathlib.Core.List.{List, _∷_}
 use Prim.Native.Nat.{ℕ, zero, suc, _+_, _-_, _*_, _≤_, _<_}
 use native.Mathlib.Omega.{arith}
-use lib.Dec.{leb, eqb}
+use lib.Dec.{eqb}
 use lib.ListN.{length}
 use borrow.Author.Tests.{leb-true, eqb-true, eqb-false, eq-eqb, ne-eqb}
 use Rattle.whole.proofs.OverLaws.{and-parts}
@@ -17,21 +17,21 @@ use Rattle.fields.specs.declared.State.{State}
 use Rattle.fields.specs.declared.Taken.{Taken}
 use Rattle.fields.specs.declared.Taken.the-variants.{Next, Stop}
 use Rattle.fields.specs.Fields.{atEnd, atSteps, atInverters, atTemperature, atEfficiency, only, another, kinds, sizeIn, sizeOf, headOf, standsIn, allowed, inverterAt, fiveUnless, valueOf, tooMany, refusedBy, stateOf, roofAfter, stateAfter, takenBy}
-use Rattle.stick.specs.Check.{answer, fieldAt, ends, takenCall, goes, walk}
+use Rattle.stick.specs.Check.{fieldAt}
 use Rattle.stick.specs.Site.{having, stepsIn}
 use Rattle.stick.specs.Posts.{roofBytes}
 use Rattle.fields.proofs.FieldLaws.{warm-alone, efficiency-alone}
-use Rattle.stick.proofs.WalkLaws.{whole, OnTheWay}
+use Rattle.stick.proofs.WalkLaws.{whole, OnTheWay, way-alike}
 use Rattle.stick.proofs.PlaceLaws.{from, Passed, picked, left-out, closes-none}
 use Rattle.stick.proofs.SaidLaws.{accepted-test, every, bytes-follow, One, one, Waited, waited}
 
 -- ---- where no inverter stands, the stage of the inverters is that of the steps
-module _ (edition units left : ℕ) (file : List ℕ) (at : ℕ) where
+module _ (edition units left : ℕ) (current : Bool) (file : List ℕ) (at : ℕ) where
   abbrev roofing : State
-  roofing = stateOf atInverters edition units left 0
+  roofing = stateOf atInverters edition units left 0 current
 
   abbrev stepping : State
-  stepping = stateOf atSteps edition units left 0
+  stepping = stateOf atSteps edition units left 0 current
 
   -- of a field that is no inverter, whose bytes are there
   taken-alike : (tag : ℕ) → (tag ≡ 6 → ⊥) → (v : ℕ) → takenBy roofing tag file v ≡ takenBy stepping tag file v
@@ -46,15 +46,6 @@ module _ (edition units left : ℕ) (file : List ℕ) (at : ℕ) where
   unfolding fieldAt headOf sizeOf kinds sizeIn
   field-alike n = ap (λ (t : Taken). cond (eqb (headOf stepping file at) 0) t (Stop (headOf stepping file at))) (taken-alike (tagAt file at) n (at + header))
 
-  walk-alike : (k : ℕ) → (tagAt file at ≡ 6 → ⊥) → walk k roofing file at ≡ walk k stepping file at
-  unfolding walk ends
-  walk-alike zero n = refl
-  walk-alike (suc k) n =
-      ap (λ (t : Taken). cond (leb (length file) at) (answer 8 at 0) (goes (λ (s : State). walk k s file (past file at)) (takenCall at 0 t))) (field-alike n)
-
-  pub way-alike : (tagAt file at ≡ 6 → ⊥) → OnTheWay file roofing at → OnTheWay file stepping at
-  way-alike n w = record { left = w .left; upto = w .upto; enough = w .enough; rest = sym (walk-alike (w .left) n) ∙ w .rest }
-
 -- ---- a roof that stands at a place: its three fields, and their values in their ranges
 pub record RoofThere (file : List ℕ) (at : ℕ) : Type 0 where
   pub inverter-field : Passed file 6 at (at + 22)
@@ -68,26 +59,26 @@ pub record RoofThere (file : List ℕ) (at : ℕ) : Type 0 where
   pub efficiency-in : curveIn efficiencyBounds file (at + 157) ≡ true
   pub bytes : at + roofBytes ≤ length file
 
-module _ (file : List ℕ) (ok : whole file .number ≡ 0) (edition units : ℕ) where
+module _ (file : List ℕ) (ok : whole file .number ≡ 0) (edition units : ℕ) (current : Bool) where
   record RoofSaid (left at : ℕ) : Type 0 where
     pub there : RoofThere file at
     pub some : 1 ≤ left
-    pub rest : OnTheWay file (stateOf atInverters edition units (left - 1) 0) (at + roofBytes)
+    pub rest : OnTheWay file (stateOf atInverters edition units (left - 1) 0 current) (at + roofBytes)
 
-  six-alone : (left at : ℕ) → tagAt file at ≡ 6 → allowed (roofing edition units left file at) (tagAt file at) ≡ true → 1 ≤ left
+  six-alone : (left at : ℕ) → tagAt file at ≡ 6 → allowed (roofing edition units left current file at) (tagAt file at) ≡ true → 1 ≤ left
   unfolding allowed kinds standsIn
-  six-alone left at e z = leb-true 1 left (sym (ap (λ (t : ℕ). allowed (roofing edition units left file at) t) e) ∙ z)
+  six-alone left at e z = leb-true 1 left (sym (ap (λ (t : ℕ). allowed (roofing edition units left current file at) t) e) ∙ z)
 
-  roof-said : (left at : ℕ) → tagAt file at ≡ 6 → OnTheWay file (stateOf atInverters edition units left 0) at → RoofSaid left at
+  roof-said : (left at : ℕ) → tagAt file at ≡ 6 → OnTheWay file (stateOf atInverters edition units left 0 current) at → RoofSaid left at
   unfolding sizeOf valueOf stateAfter roofAfter
   roof-said left at e w =
-      let st : State = stateOf atInverters edition units left 0 in
+      let st : State = stateOf atInverters edition units left 0 current in
       let v : Waited file ok 6 st at (at + 22) = waited file ok 6 st at (at + 22) refl (λ z. e) (omega arith) w in
       let o : One file ok st at = one file ok st at w refl in
-      let c : Waited file ok 7 (stateOf atTemperature edition units (left - 1) 0) (at + 22) (at + 154) =
-      waited file ok 7 (stateOf atTemperature edition units (left - 1) 0) (at + 22) (at + 154) refl (warm-alone edition units (left - 1) 0 (tagAt file (at + 22))) (omega arith) (v .rest) in
-      let d : Waited file ok 7 (stateOf atEfficiency edition units (left - 1) 0) (at + 154) (at + roofBytes) =
-      waited file ok 7 (stateOf atEfficiency edition units (left - 1) 0) (at + 154) (at + roofBytes) refl (efficiency-alone edition units (left - 1) 0 (tagAt file (at + 154))) (omega arith) (c .rest) in
+      let c : Waited file ok 7 (stateOf atTemperature edition units (left - 1) 0 current) (at + 22) (at + 154) =
+      waited file ok 7 (stateOf atTemperature edition units (left - 1) 0 current) (at + 22) (at + 154) refl (warm-alone edition units (left - 1) 0 current (tagAt file (at + 22))) (omega arith) (v .rest) in
+      let d : Waited file ok 7 (stateOf atEfficiency edition units (left - 1) 0 current) (at + 154) (at + roofBytes) =
+      waited file ok 7 (stateOf atEfficiency edition units (left - 1) 0 current) (at + 154) (at + roofBytes) refl (efficiency-alone edition units (left - 1) 0 current (tagAt file (at + 154))) (omega arith) (c .rest) in
       let p₁ : at + 22 + 3 ≡ at + 25 = omega arith in
       let p₂ : at + 154 + 3 ≡ at + 157 = omega arith in
       record {
@@ -117,9 +108,9 @@ module _ (file : List ℕ) (ok : whole file .number ≡ 0) (edition units : ℕ)
     pub other : tagAt file next ≡ 6 → ⊥
     pub bytes : next < length file
     pub remaining : ℕ
-    pub rest : OnTheWay file (stateOf atSteps edition units remaining 0) next
+    pub rest : OnTheWay file (stateOf atSteps edition units remaining 0 current) next
 
-  none-said : (left at : ℕ) → (tagAt file at ≡ 6 → ⊥) → OnTheWay file (stateOf atInverters edition units left 0) at → RoofsSaid left at 0 at
+  none-said : (left at : ℕ) → (tagAt file at ≡ 6 → ⊥) → OnTheWay file (stateOf atInverters edition units left 0 current) at → RoofsSaid left at 0 at
   none-said left at n w = record {
     few = omega arith;
     there = λ i l. absurd (omega arith);
@@ -127,9 +118,11 @@ module _ (file : List ℕ) (ok : whole file .number ≡ 0) (edition units : ℕ)
     no-others = λ t a b. refl;
     no-steps = refl;
     other = n;
-    bytes = bytes-follow file ok (stateOf atInverters edition units left 0) at w refl;
+    bytes = bytes-follow file ok (stateOf atInverters edition units left 0 current) at w refl;
     remaining = left;
-    rest = way-alike edition units left file at n w;
+    rest =
+        way-alike file (stateOf atInverters edition units left 0 current) (stateOf atSteps edition units left 0 current) at refl refl refl
+        (field-alike edition units left current file at n) w;
   }
 
   more-said : (left at many next : ℕ) → RoofSaid left at → RoofsSaid (left - 1) (at + roofBytes) many next → RoofsSaid left at (suc many) next
@@ -167,12 +160,12 @@ module _ (file : List ℕ) (ok : whole file .number ≡ 0) (edition units : ℕ)
     pub is : at + roofBytes * many ≡ next
     pub said : RoofsSaid left at many next
 
-  pub roofs-said : (k left at : ℕ) → length file ≤ at + k → OnTheWay file (stateOf atInverters edition units left 0) at → Roofs left at
-  roofs-said zero left at h w = let l = bytes-follow file ok (stateOf atInverters edition units left 0) at w refl in absurd (omega arith)
+  pub roofs-said : (k left at : ℕ) → length file ≤ at + k → OnTheWay file (stateOf atInverters edition units left 0 current) at → Roofs left at
+  roofs-said zero left at h w = let l = bytes-follow file ok (stateOf atInverters edition units left 0 current) at w refl in absurd (omega arith)
   roofs-said (suc k) left at h w = go (eqb (tagAt file at) 6) refl (λ on. roofs-said k (left - 1) (at + roofBytes) (omega arith) on)
     where
       go : (b : Bool) → eqb (tagAt file at) 6 ≡ b
-          → (OnTheWay file (stateOf atInverters edition units (left - 1) 0) (at + roofBytes) → Roofs (left - 1) (at + roofBytes)) → Roofs left at
+          → (OnTheWay file (stateOf atInverters edition units (left - 1) 0 current) (at + roofBytes) → Roofs (left - 1) (at + roofBytes)) → Roofs left at
       go true e more =
           let r : RoofSaid left at = roof-said left at (eqb-true (tagAt file at) 6 e) w in
           let m : Roofs (left - 1) (at + roofBytes) = more (r .rest) in

@@ -6,7 +6,7 @@ use super::steps;
 use unit::Unit;
 
 // The row of a unit in its ranges, with what it draws while it idles and its vars then.
-pub fn row_of(u: Unit) -> [u64; 17]
+pub fn row_of(u: Unit) -> [u64; 18]
     requires { ⌜ unitIn u ≡ true ⌝ }
     ensures { λ r. ⌜ RowOf u r ⌝ }
 {

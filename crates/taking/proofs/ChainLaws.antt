@@ -1,7 +1,7 @@
 -- The fields of the steps that lead to a state, one behind the other: readings, weathers and the end field, each with its bytes, where it may stand and the
 -- state behind it. Assumes nothing.
 use mathlib.Core.Path.{_≡_, refl, ap, _∙_}
-use mathlib.Core.Bool.{true, false}
+use mathlib.Core.Bool.{Bool, true, false}
 use mathlib.Core.List.{List}
 use Prim.Native.Nat.{ℕ, _+_, _≤_, _<_}
 use native.Mathlib.Omega.{arith}
@@ -15,7 +15,7 @@ use Rattle.chunks.proofs.ReachChunks.{Went, there, passing}
 use Rattle.kept.specs.Kept.{begunAt, begun}
 use Rattle.taking.specs.Chunk.{headIn}
 use Rattle.taking.specs.Posts.{Leads}
-use Rattle.taking.proofs.TookLaws.{Took, fleet, unit, settings, inverter, warm, efficiency, reading, weather, end, took}
+use Rattle.taking.proofs.TookLaws.{by-opens, Took, fleet, unit, settings, connections, inverter, warm, efficiency, reading, weather, end, took}
 use Rattle.taking.proofs.LeadLaws.{parts}
 
 pub data Chain (file : List ℕ) (next : State) : State → ℕ → Type 0 where
@@ -34,7 +34,9 @@ module _ (file : List ℕ) (next : State) where
   one-more {st} {m} {i} l (fleet t s p v is) h more = absurd (passed-failed (h (ap begunAt s)) (ap ofSteps t))
   one-more {st} {m} {i} l (unit t s is) h more = absurd (passed-failed (h (ap begunAt s)) (ap ofSteps t))
   one-more {st} {m} {i} l (settings t s is) h more = absurd (passed-failed (h (ap begunAt s)) (ap ofSteps t))
-  one-more {st} {m} {i} l (inverter t s some is) h more = absurd (passed-failed (h (ap begunAt s)) (ap ofSteps t))
+  one-more {st} {m} {i} l (connections t s is) h more = absurd (passed-failed (h (ap begunAt s)) (ap ofSteps t))
+  one-more {st} {m} {i} l (inverter t s some is) h more =
+      absurd (passed-failed (h (by-opens (λ (n : ℕ) (c : Bool). begunAt n ≡ false) st s (λ c. refl) refl)) (ap ofSteps t))
   one-more {st} {m} {i} l (warm t s is) h more = absurd (passed-failed (h (ap begunAt s)) (ap ofSteps t))
   one-more {st} {m} {i} l (efficiency t s is) h more = absurd (passed-failed (h (ap begunAt s)) (ap ofSteps t))
   one-more {st} {m} {i} l (reading t c a b few is) h more = read m l t c a b is (more (ap begun is))

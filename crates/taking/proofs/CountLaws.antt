@@ -15,7 +15,7 @@ use Rattle.rows.proofs.RowLaws.{length-map}
 use Rattle.parts.specs.Header.{tagAt, past}
 use Rattle.site.specs.Site.{count}
 use Rattle.fields.specs.declared.State.{State}
-use Rattle.fields.specs.Fields.{isReading, goneTo}
+use Rattle.fields.specs.Fields.{begins, closes, isReading, goneTo}
 use Rattle.fields.proofs.FieldLaws.{fewer}
 use Rattle.stick.specs.declared.Answer.{Answer}
 use Rattle.stick.specs.Check.{start}
@@ -33,7 +33,7 @@ use Rattle.kept.specs.Layout.{knownBy}
 use Rattle.kept.specs.Posts.{WellKept}
 use Rattle.taking.specs.Chunk.{siteAfter, standsFirst, onFirst, stepsBy, resultsBy}
 use Rattle.taking.specs.Posts.{Leads}
-use Rattle.taking.proofs.TookLaws.{Took, fleet, unit, settings, inverter, warm, efficiency, reading, weather, end, took}
+use Rattle.taking.proofs.TookLaws.{by-opens, by-begins, by-closes, Took, fleet, unit, settings, connections, inverter, warm, efficiency, reading, weather, end, took}
 use Rattle.taking.proofs.LedLaws.{led}
 use Rattle.taking.proofs.LeadLaws.{before-too, steps-counted, no-count-yet}
 use Rattle.taking.proofs.SiteLaws.{SiteWell, site-well}
@@ -42,27 +42,12 @@ use Rattle.taking.proofs.SiteLaws.{SiteWell, site-well}
 abbrev early : ℕ → Bool
 early n = eqb n 1 || eqb n 2 || eqb n 3
 
--- at these no step may be closed
-not-early : (n : ℕ) → (eqb n 4 || eqb n 5 || eqb n 8) ≡ true → early n ≡ false
-not-early n = go (eqb n 4) (eqb n 5) (eqb n 8) refl refl refl
-  where
-    go : (x y z : Bool) → eqb n 4 ≡ x → eqb n 5 ≡ y → eqb n 8 ≡ z → (x || y || z) ≡ true → early n ≡ false
-    go true y z ex ey ez c = ap early (eqb-true n 4 ex)
-    go false true z ex ey ez c = ap early (eqb-true n 5 ey)
-    go false false true ex ey ez c = ap early (eqb-true n 8 ez)
-    go false false false ex ey ez c = absurd (passed-failed c refl)
+-- at these no step may begin or be closed
+early-none : (st : State) → begins st ≡ true → early (st .stage) ≡ false
+early-none st b = by-begins (λ (n : ℕ) (c : Bool). early n ≡ false) st b (λ c. refl) (λ c. refl) refl
 
-begins-not-early : (n : ℕ) → (eqb n 4 || eqb n 5) ≡ true → early n ≡ false
-begins-not-early n c = not-early n (ap (λ (b : Bool). b || eqb n 8) c)
-
-begun-not-early : (n : ℕ) → (eqb n 0 || eqb n 4 || eqb n 8) ≡ true → early n ≡ false
-begun-not-early n = go (eqb n 0) (eqb n 4) (eqb n 8) refl refl refl
-  where
-    go : (x y z : Bool) → eqb n 0 ≡ x → eqb n 4 ≡ y → eqb n 8 ≡ z → (x || y || z) ≡ true → early n ≡ false
-    go true y z ex ey ez c = ap early (eqb-true n 0 ex)
-    go false true z ex ey ez c = ap early (eqb-true n 4 ey)
-    go false false true ex ey ez c = ap early (eqb-true n 8 ez)
-    go false false false ex ey ez c = absurd (passed-failed c refl)
+not-early : (st : State) → closes st ≡ true → early (st .stage) ≡ false
+not-early st c = by-closes (λ (n : ℕ) (c : Bool). early n ≡ false) st c (λ c. refl) (λ c. refl) refl (λ c. refl)
 
 module _ (file : List ℕ) where
   -- ---- one field: the inverters from it on, by its tag
@@ -111,6 +96,7 @@ module _ (file : List ℕ) where
       go (fleet t s p v is) further = absurd (passed-failed (ap early s) c)
       go (unit t s is) further = absurd (passed-failed (ap early s) c)
       go (settings t s is) further = absurd (passed-failed (ap early s) c)
+      go (connections t s is) further = so 5 (st .steps) is refl (no-six 10 refl t) further
       go (inverter t s some is) further =
           let r = further (ap (λ (x : State). early (x .stage)) is) in
           let a = roofs-here i l t in
@@ -154,12 +140,13 @@ module _ (file : List ℕ) where
           let b = r .left-is in
           let q : m .left ≡ 64 = ap (λ (x : State). x .left) is in
           record { units-same = λ x. r .units-same ∙ ap (λ (s : State). s .units) is; left-is = omega arith }
-      go (inverter t s some is) further = absurd (passed-failed c (ap early s))
+      go (connections t s is) further = absurd (passed-failed c (ap early s))
+      go (inverter t s some is) further = absurd (passed-failed c (by-opens (λ (n : ℕ) (c : Bool). early n ≡ false) st s (λ c. refl) refl))
       go (warm t s is) further = absurd (passed-failed c (ap early s))
       go (efficiency t s is) further = absurd (passed-failed c (ap early s))
-      go (reading t s a b few is) further = absurd (passed-failed c (not-early (st .stage) s))
-      go (weather t s p is) further = absurd (passed-failed c (begins-not-early (st .stage) s))
-      go (end t s p is) further = absurd (passed-failed c (begins-not-early (st .stage) s))
+      go (reading t s a b few is) further = absurd (passed-failed c (not-early st s))
+      go (weather t s p is) further = absurd (passed-failed c (early-none st s))
+      go (end t s p is) further = absurd (passed-failed c (early-none st s))
 
   -- ---- from the start on: the units are those that the fleet field says
   units-said : {next : State} {j : ℕ} → Went file next j start 0 → j ≡ length file → early (next .stage) ≡ false → next .units ≡ unitsAt file
@@ -173,7 +160,8 @@ module _ (file : List ℕ) where
           rises more h (ap early stage) d .units-same (λ x. omega arith) ∙ ap (λ (x : State). x .units) is
       go (unit t s is) = absurd (omega arith)
       go (settings t s is) = absurd (omega arith)
-      go (inverter t s some is) = absurd (omega arith)
+      go (connections t s is) = absurd (omega arith)
+      go (inverter t s some is) = absurd (passed-failed s refl)
       go (warm t s is) = absurd (omega arith)
       go (efficiency t s is) = absurd (omega arith)
       go (reading t s a b few is) = absurd (passed-failed s refl)

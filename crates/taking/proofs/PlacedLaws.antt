@@ -5,19 +5,21 @@ use mathlib.Core.Bool.{Bool, true, false, cond, _&&_, _||_}
 use mathlib.Core.List.{List, [], _++_, append-nil}
 use Prim.Native.Nat.{ℕ, _+_, _-_, _*_, _≤_}
 use native.Mathlib.Omega.{arith}
-use lib.Dec.{leb, eqb}
+use lib.Dec.{leb, eqb, lit≤}
 use lib.ListN.{length, take, length-append}
 use lib.Seq.{length-take-le}
 use borrow.Author.Tests.{leb-true, le-leb, eqb-true}
 use Rattle.whole.proofs.Choice.{by-test, passed-failed}
 use Rattle.whole.proofs.OverLaws.{and-parts}
 use Rattle.fields.specs.declared.State.{State}
+use Rattle.fields.specs.Fields.{begins, closes}
 use Rattle.kept.specs.Kept.{Kept, begunAt, begun}
 use Rattle.kept.specs.Layout.{placeMost}
 use Rattle.kept.specs.Formed.{beside, placeFits}
 use Rattle.kept.specs.Posts.{WellKept}
 use Rattle.taking.specs.Chunk.{closing, headIn, siteAfter}
 use Rattle.taking.specs.Posts.{Leads}
+use Rattle.taking.proofs.TookLaws.{by-begins, by-closes}
 use Rattle.taking.proofs.LeadLaws.{parts, stays-begun, no-head, all-head, no-count-yet}
 use Rattle.taking.proofs.TwiceLaws.{site-by}
 use Rattle.taking.proofs.ChainLaws.{Chain, done, read, lit, ended, chained}
@@ -26,21 +28,11 @@ use Rattle.taking.proofs.ChainLaws.{Chain, done, read, lit, ended, chai
 abbrev pub extra : ℕ → ℕ
 extra n = cond (eqb n 8) 19 0 + cond (eqb n 0) 7 0
 
-extra-begins : (n : ℕ) → (eqb n 4 || eqb n 5) ≡ true → extra n ≡ 0
-extra-begins n = go (eqb n 4) (eqb n 5) refl refl
-  where
-    go : (x y : Bool) → eqb n 4 ≡ x → eqb n 5 ≡ y → (x || y) ≡ true → extra n ≡ 0
-    go true y ex ey c = ap extra (eqb-true n 4 ex)
-    go false true ex ey c = ap extra (eqb-true n 5 ey)
-    go false false ex ey c = absurd (passed-failed c refl)
+extra-begins : (st : State) → begins st ≡ true → extra (st .stage) ≡ 0
+extra-begins st b = by-begins (λ (n : ℕ) (c : Bool). extra n ≡ 0) st b (λ c. refl) (λ c. refl) refl
 
-extra-closes : (n : ℕ) → (eqb n 4 || eqb n 5 || eqb n 8) ≡ true → extra n ≤ 19
-extra-closes n = go (eqb n 4 || eqb n 5) (eqb n 8) refl refl
-  where
-    go : (x z : Bool) → (eqb n 4 || eqb n 5) ≡ x → eqb n 8 ≡ z → (x || z) ≡ true → extra n ≤ 19
-    go true z ex ez c = let e = extra-begins n ex in omega arith
-    go false true ex ez c = let e : extra n ≡ 19 = ap extra (eqb-true n 8 ez) in omega arith
-    go false false ex ez c = absurd (passed-failed c refl)
+extra-closes : (st : State) → closes st ≡ true → extra (st .stage) ≤ 19
+extra-closes st c = by-closes (λ (n : ℕ) (c : Bool). extra n ≤ 19) st c (λ c. lit≤ tt) (λ c. lit≤ tt) (lit≤ tt) (λ c. lit≤ tt)
 
 pub extra-before : (n : ℕ) → begunAt n ≡ false → extra n ≡ 0
 extra-before n = go (eqb n 0) (eqb n 4) (eqb n 8)
@@ -75,7 +67,7 @@ span file {next} {st} {i} (read m l t c lo hi is more) =
     let r = span file more in
     let a : extra (m .stage) ≡ 0 = ap (λ (s : State). extra (s .stage)) is in
     let b : m .steps ≡ st .steps + 1 = ap (λ (s : State). s .steps) is in
-    let x = extra-closes (st .stage) c in
+    let x = extra-closes st c in
     let u = r .least in
     let v = r .most in
     record { least = omega arith; most = omega arith }
@@ -83,7 +75,7 @@ span file {next} {st} {i} (lit m l t c p is more) =
     let r = span file more in
     let a : extra (m .stage) ≡ 19 = ap (λ (s : State). extra (s .stage)) is in
     let b : m .steps ≡ st .steps = ap (λ (s : State). s .steps) is in
-    let x = extra-begins (st .stage) c in
+    let x = extra-begins st c in
     let u = r .least in
     let v = r .most in
     record { least = omega arith; most = omega arith }
@@ -91,7 +83,7 @@ span file {next} {st} {i} (ended m l t c p is more) =
     let r = span file more in
     let a : extra (m .stage) ≡ 7 = ap (λ (s : State). extra (s .stage)) is in
     let b : m .steps ≡ st .steps = ap (λ (s : State). s .steps) is in
-    let x = extra-begins (st .stage) c in
+    let x = extra-begins st c in
     let u = r .least in
     let v = r .most in
     record { least = omega arith; most = omega arith }

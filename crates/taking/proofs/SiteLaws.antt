@@ -6,20 +6,22 @@ use Prim.Native.Nat.{ℕ, _+_, _≤_, _<_}
 use native.Mathlib.Omega.{arith}
 use lib.Dec.{eqb}
 use lib.ListN.{length, take, length-append}
-use borrow.Author.Tests.{eqb-true}
 use Rattle.whole.proofs.Choice.{passed-failed}
 use Rattle.octets.specs.BigEndian.{be}
 use Rattle.fields.specs.declared.State.{State}
-use Rattle.fields.specs.Fields.{atEnd, atInverters, kinds, sizeIn, sizeOf, headOf, standsIn, allowed, valueOf, refusedBy, stateOf, goneTo, roofAfter, stateAfter, takenBy}
+use Rattle.fields.specs.Fields.{atEnd, opens, closes, kinds, sizeIn, sizeOf, headOf, standsIn, allowed, valueOf, refusedBy, stateOf, goneTo, roofAfter, stateAfter, takenBy}
 use Rattle.stick.specs.declared.Reached.{Reached}
 use Rattle.stick.specs.Check.{fieldAt, reached, reachOf, start}
 use Rattle.chunks.specs.Sizes.{headMost}
+use Rattle.chunks.proofs.FieldChunks.{Few}
+use Rattle.chunks.proofs.ReachChunks.{far-few}
 use Rattle.chunks.proofs.HeadChunks.{head-short}
-use Rattle.kept.specs.Kept.{Kept, begunAt, begun}
+use Rattle.kept.specs.Kept.{Kept, begun}
 use Rattle.kept.specs.Layout.{siteMost, knownBy}
 use Rattle.kept.specs.Posts.{WellKept}
 use Rattle.taking.specs.Chunk.{closing, headIn, siteAfter}
 use Rattle.taking.specs.Posts.{Leads}
+use Rattle.taking.proofs.TookLaws.{by-opens}
 use Rattle.taking.proofs.LedLaws.{leads-append, leads-upto}
 use Rattle.taking.proofs.StageLaws.{Along, first-may}
 use Rattle.taking.proofs.LeadLaws.{parts, going, behind-head, only-head, all-head, head-ends, stays-begun}
@@ -49,25 +51,33 @@ site-made site s st l z is c w short =
       site-short = short;
     }
 
--- ---- the field that closes it
-closing-ends : (edition units left : ℕ) → Leads (stateOf atInverters edition units left 0) closing (stateOf atEnd edition units left 0)
+-- ---- the field that closes it, where the steps may begin
+closing-ends : (st : State) → opens st ≡ true → st .steps ≡ 0 → Leads st closing (goneTo st atEnd (st .left) 0)
 unfolding reachOf fieldAt headOf sizeOf kinds sizeIn takenBy refusedBy allowed standsIn valueOf stateAfter roofAfter be
-closing-ends edition units left = record { leads = refl }
+closing-ends st o z =
+    let with-steps : ℕ → ℕ → Bool → State = λ n stage c. stateOf stage (st .edition) (st .units) (st .left) n c in
+    subst⁻¹ (λ (n : ℕ). Leads (with-steps n (st .stage) (st .current)) closing (with-steps 0 atEnd (st .current))) z
+    (by-opens (λ (n : ℕ) (c : Bool). Leads (with-steps 0 n c) closing (with-steps 0 atEnd c)) st o (λ c. record { leads = refl }) (record { leads = refl }))
 
 -- where a step may be closed and none has begun, an inverter may come
-at-inverters : (n : ℕ) → (eqb n 4 || eqb n 5 || eqb n 8) ≡ true → begunAt n ≡ false → n ≡ 5
-at-inverters n c b = go (eqb n 0) (eqb n 4) (eqb n 5) (eqb n 8) refl c b
+still-open : (st : State) → closes st ≡ true → begun st ≡ false → opens st ≡ true
+still-open st c b = go (eqb (st .stage) 0) (eqb (st .stage) 4) (opens st) (eqb (st .stage) 8) c b
   where
-    go : (x y z u : Bool) → eqb n 5 ≡ z → (y || z || u) ≡ true → (x || y || u) ≡ false → n ≡ 5
-    go x y true u e c b = eqb-true n 5 e
-    go true y false u e c b = absurd (passed-failed refl b)
-    go false true false u e c b = absurd (passed-failed refl b)
-    go false false false true e c b = absurd (passed-failed refl b)
-    go false false false false e c b = absurd (passed-failed c refl)
+    go : (x y z u : Bool) → (y || z || u) ≡ true → (x || y || u) ≡ false → z ≡ true
+    go x y true u c b = refl
+    go true y false u c b = absurd (passed-failed refl b)
+    go false true false u c b = absurd (passed-failed refl b)
+    go false false false true c b = absurd (passed-failed refl b)
+    go false false false false c b = absurd (passed-failed c refl)
 
 module _ (k : Kept) (well : WellKept k) where
   pub kept-site : SiteWell (k .site) (k .state)
   kept-site = record { known = well .known; no-steps = well .no-steps; state-is = well .state-is; closed = well .closed; waiting = well .waiting; site-short = well .site-short }
+
+  -- with at most 64 units
+  pub kept-few : Few (k .state)
+  unfolding knownBy
+  kept-few = subst Few (well .state-is) (far-few (k .site) start 0 (omega arith) (omega arith))
 
   -- ---- what is kept before the steps: the site part leads to the state
   pub leads-to : begun (k .state) ≡ false → Leads start (k .site) (k .state)
@@ -123,14 +133,13 @@ module _ (k : Kept) (well : WellKept k) where
       begins-here : begun next ≡ true → SiteWell (grown ++ closing) next
       begins-here e =
           let h : headIn w < length w = head-ends w l b e in
-          let five : mid .stage ≡ 5 = at-inverters (mid .stage) (first-may w (parts w l .on) h (parts w l .begins h)) grown-before in
-          let is : mid ≡ stateOf 5 (mid .edition) (mid .units) (mid .left) 0 = ap₂ (λ (a n : ℕ). goneTo mid a (mid .left) n) five none-yet in
-          let ended : State = stateOf 0 (mid .edition) (mid .units) (mid .left) 0 in
+          let may : opens mid ≡ true = still-open mid (first-may w (parts w l .on) h (parts w l .begins h)) grown-before in
+          let ended : State = goneTo mid 0 (mid .left) 0 in
           let a : Along mid next = behind-head w l h in
           let short = grown-short in
           let long : length (grown ++ closing) ≡ length grown + 7 = length-append grown closing in
           site-made (grown ++ closing) ended next
-          (leads-append grown closing grown-leads (subst⁻¹ (λ (s : State). Leads s closing ended) is (closing-ends (mid .edition) (mid .units) (mid .left))))
+          (leads-append grown closing grown-leads (closing-ends mid may none-yet))
           refl (sym (a .same)) (λ f. refl) (λ f. absurd (passed-failed e f)) (omega arith)
 
     pub site-well : SiteWell (siteAfter k w next) next

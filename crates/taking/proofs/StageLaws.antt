@@ -19,7 +19,7 @@ use Rattle.stick.specs.Site.{ofSteps}
 use Rattle.chunks.proofs.ReachChunks.{Went, there, passing}
 use Rattle.chunks.proofs.HeadChunks.{headFrom-over, headEnd, headFrom-field}
 use Rattle.kept.specs.Kept.{begunAt, begun}
-use Rattle.taking.proofs.TookLaws.{Took, fleet, unit, settings, inverter, warm, efficiency, reading, weather, end, took}
+use Rattle.taking.proofs.TookLaws.{by-opens, Took, fleet, unit, settings, connections, inverter, warm, efficiency, reading, weather, end, took}
 
 -- ---- a field before the steps, and one of the steps
 pub record HeadTook (file : List ℕ) (st : State) (i : ℕ) (m : State) : Type 0 where
@@ -38,11 +38,10 @@ pub record StepTook (file : List ℕ) (st : State) (i : ℕ) (m : State) : Type 
 
 module _ (file : List ℕ) (st : State) (i : ℕ) (m : State) where
   -- by what the state behind it is
-  head-of : (tag stage : ℕ) (x : State) → tagAt file i ≡ tag → st .stage ≡ stage → m ≡ x → ofSteps tag ≡ false → begunAt stage ≡ false → begun x ≡ false → x .steps ≡ st .steps
-      → HeadTook file st i m
-  head-of tag stage x t e is o b c n = record {
+  head-of : (tag : ℕ) (x : State) → tagAt file i ≡ tag → begun st ≡ false → m ≡ x → ofSteps tag ≡ false → begun x ≡ false → x .steps ≡ st .steps → HeadTook file st i m
+  head-of tag x t b is o c n = record {
     other = ap ofSteps t ∙ o;
-    before = ap begunAt e ∙ b;
+    before = b;
     behind = ap begun is ∙ c;
     none = ap (λ (s : State). s .steps) is ∙ n;
   }
@@ -66,15 +65,16 @@ module _ (file : List ℕ) (st : State) (i : ℕ) (m : State) where
   may-close b = ap (λ (x : Bool). x || eqb (st .stage) 8) b
 
   pub sorted : Took file st i m → HeadTook file st i m ⊎ StepTook file st i m
-  sorted (fleet t s p v is) = inl (head-of 1 1 _ t s is refl refl refl refl)
+  sorted (fleet t s p v is) = inl (head-of 1 _ t (ap begunAt s) is refl refl refl)
   sorted (unit t s is) =
-      inl (head-of 2 2 (fewer st) t s is refl refl
+      inl (head-of 2 (fewer st) t (ap begunAt s) is refl
       (by-test (λ (x : State). begun x ≡ false) (leb (st .left) 1) _ _ (λ u. refl) (λ u. refl))
       (by-test (λ (x : State). x .steps ≡ st .steps) (leb (st .left) 1) _ _ (λ u. refl) (λ u. refl)))
-  sorted (settings t s is) = inl (head-of 3 3 _ t s is refl refl refl refl)
-  sorted (inverter t s l is) = inl (head-of 6 5 _ t s is refl refl refl refl)
-  sorted (warm t s is) = inl (head-of 7 6 _ t s is refl refl refl refl)
-  sorted (efficiency t s is) = inl (head-of 7 7 _ t s is refl refl refl refl)
+  sorted (settings t s is) = inl (head-of 3 _ t (ap begunAt s) is refl refl refl)
+  sorted (connections t s is) = inl (head-of 10 _ t (ap begunAt s) is refl refl refl)
+  sorted (inverter t s l is) = inl (head-of 6 _ t (by-opens (λ (n : ℕ) (c : Bool). begunAt n ≡ false) st s (λ c. refl) refl) is refl refl refl)
+  sorted (warm t s is) = inl (head-of 7 _ t (ap begunAt s) is refl refl refl)
+  sorted (efficiency t s is) = inl (head-of 7 _ t (ap begunAt s) is refl refl refl)
   sorted (reading t c a b l is) = inr (step-of 4 (st .steps + 1) (ap (λ (x : Bool). x || eqb (tagAt file i) 8 || eqb (tagAt file i) 127) t) c refl (omega arith) (λ h. omega arith) is)
   sorted (weather t b p is) = inr (step-of 8 (st .steps) (ap ofSteps t) (may-close b) refl (omega arith) (λ h. h) is)
   sorted (end t b p is) = inr (step-of 0 (st .steps) (ap ofSteps t) (may-close b) refl (omega arith) (λ h. h) is)

@@ -17,10 +17,6 @@ use Rattle.whole.proofs.Choice.{by-test, passed-failed}
 use Rattle.whole.proofs.OverLaws.{and-parts, all-at, none-of, each-at}
 use Rattle.whole.proofs.SignLaws.{size-signed}
 use Rattle.reading.specs.declared.Reading.{Reading}
-use Rattle.reading.specs.declared.Reading.the-variants.{Missing, Power}
-use Rattle.reading.specs.declared.Measure.{Measure}
-use Rattle.reading.specs.declared.Measure.the-variants.{Chosen, RefusedBy}
-use Rattle.reading.specs.Choice.{measureOf, measureCall}
 use Rattle.unit.specs.declared.Unit.{Unit}
 use Rattle.unit.proofs.RangeLaws.{Bounds, bounds}
 use Rattle.rows.proofs.RowLaws.{length-map}
@@ -29,16 +25,16 @@ use Rattle.members.specs.Ranges.{Fleet, fleetFor, someAbove, someBelow}
 use Rattle.controller.specs.OneSign.{OneSign}
 use Rattle.members.specs.Sums.{total, unableAt}
 use Rattle.rules.specs.Rules.{charges, shareOf, withMode, unitAfter}
-use Rattle.controller.specs.Pass.{needOf, rests, spent, allInBand, requestAfter, passOf}
+use Rattle.controller.specs.Pass.{ownNeed, ownBand, rests, spent, allInBand, requestAfter, passBy, passOf}
 use Rattle.rules.specs.Rules.{limited}
 use Rattle.controller.proofs.OneSign.{one-sign}
 use Rattle.site.specs.declared.Step.{Step}
 use Rattle.site.specs.Site.{Site, noUnit, count, unitOf}
 use Rattle.site.specs.Ranges.{Sited}
 use Rattle.site.proofs.RangeLaws.{unit-ranged}
-use Rattle.fleet.specs.Step.{Standing, atFirst, passedOn, askedBy, after}
+use Rattle.fleet.specs.Step.{Standing, atFirst, askedBy, after}
 use Rattle.fleet.specs.Posts.{Held}
-use Rattle.fleet.proofs.StepLaws.{asked-length, still-held}
+use Rattle.fleet.proofs.StepLaws.{asked-keeps, asked-length, still-held}
 use Rattle.stretch.specs.Stretch.{standsAfter}
 use Rattle.kept.specs.Formed.{unitFits, heldFits}
 
@@ -71,11 +67,11 @@ mode-most : (charging : Bool) (R : ℕ) (z : ℤ) → natAbs z ≤ R → natAbs 
 unfolding withMode
 mode-most charging R z h = by-test (λ (x : ℤ). natAbs x ≤ R) (cond charging (ltZ (pos 0) z) (ltZ z (pos 0))) (pos 0) z (λ t. omega arith) (λ t. h)
 
-request-most : (s : Settings) (n : ℕ) (f : Fleet) (need : ℤ) (i : ℕ) (r : ℤ) → natAbs (requestAfter s n f need i r) ≤ getD (f .rating) i 0
+request-most : (s : Settings) (n : ℕ) (f : Fleet) (needs : ℕ → ℤ) (i : ℕ) (r : ℤ) → natAbs (requestAfter s n f needs i r) ≤ getD (f .rating) i 0
 unfolding requestAfter unitAfter
-request-most s n f need i r =
+request-most s n f needs i r =
     let R = getD (f .rating) i 0 in
-    let z = r +ℤ shareOf (s .factor) need (getD (f .weight) i 0) (total n (f .weight)) in
+    let z = r +ℤ shareOf (s .factor) (needs i) (getD (f .weight) i 0) (total n (f .weight)) in
     by-test (λ (x : ℤ). natAbs x ≤ R) (unableAt (charges (s .mode)) f i) (pos 0) _ (λ t. omega arith)
     (λ t. mode-most (charges (s .mode)) R (limited R z) (limited-most R z))
 
@@ -87,35 +83,24 @@ module _ (site : Site) (stored : List ℕ) (rs : List ℤ) (many : length rs ≡
   each-rated f ok i l = subst⁻¹ (λ (z : ℤ). natAbs z ≤ unitOf site i .rating) (each-at f rs i (pos 0) (omega arith)) (ok i (getD rs i (pos 0)) l)
 
   pass-rated : (s : Settings) (m : ℤ) → Rated site (passOf s m fleet rs)
-  unfolding passOf
+  unfolding passOf passBy
   pass-rated s m =
-      by-test (Rated site) (rests s (needOf s m rs) rs) rs _ (λ t. h)
+      let needs = ownNeed s m fleet rs in
+      by-test (Rated site) (rests s needs rs) rs _ (λ t. h)
       (λ t. by-test (Rated site) (spent (charges (s .mode)) (length rs) fleet) (each (λ (i : ℕ) (r : ℤ). pos 0) rs) _
       (λ u. each-rated (λ (i : ℕ) (r : ℤ). pos 0) (λ i r l. omega arith))
-      (λ u. by-test (Rated site) (allInBand s (length rs) (needOf s m rs)) rs _ (λ v. h)
-      (λ v. each-rated (requestAfter s (length rs) fleet (needOf s m rs))
+      (λ u. by-test (Rated site) (allInBand (length rs) (ownBand s fleet) needs) rs _ (λ v. h)
+      (λ v. each-rated (requestAfter s (length rs) fleet needs)
       (λ i r l.
-      let a = request-most s (length rs) fleet (needOf s m rs) i r in
+      let a = request-most s (length rs) fleet needs i r in
       let b = map-at (λ (u : Unit). u .rating) noUnit (site .units) i l in
       omega arith))))
 
   pub asked-rated : (r : Reading) → Rated site (askedBy site stored rs r)
-  unfolding askedBy
-  asked-rated Missing = h
-  asked-rated (Power p) = go (measureOf p (site .head .phase))
-    where
-      go : (m : Measure) → Rated site (passedOn site stored rs (measureCall m))
-      go (Chosen m) = pass-rated (site .head .settings) m
-      go (RefusedBy n) = h
+  asked-rated = asked-keeps (Rated site) site stored rs h (pass-rated (site .head .settings))
 
 asked-one : (site : Site) (stored : List ℕ) (rs : List ℤ) → OneSign rs → (r : Reading) → OneSign (askedBy site stored rs r)
-unfolding askedBy
-asked-one site stored rs h Missing = h
-asked-one site stored rs h (Power p) = go (measureOf p (site .head .phase))
-  where
-    go : (m : Measure) → OneSign (passedOn site stored rs (measureCall m))
-    go (Chosen m) = one-sign (site .head .settings) m (fleetFor (site .units) stored) rs h
-    go (RefusedBy n) = h
+asked-one site stored rs h = asked-keeps OneSign site stored rs h (λ m. one-sign (site .head .settings) m (fleetFor (site .units) stored) rs h)
 
 -- ---- what stands well
 pub record StandsWell (site : Site) (st : Standing) : Type 0 where

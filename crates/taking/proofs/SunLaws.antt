@@ -6,13 +6,14 @@ use Prim.Native.Nat.{ℕ}
 use native.Mathlib.Omega.{arith}
 use lib.Dec.{leb, eqb}
 use lib.IntN.{natAbs}
-use borrow.Author.Tests.{le-leb, eqb-true}
+use borrow.Author.Tests.{le-leb}
 use Rattle.whole.proofs.Choice.{passed-failed}
 use Rattle.parts.specs.Header.{past}
 use Rattle.solar.specs.declared.Sun.{Sun}
 use Rattle.solar.specs.Weather.{dark}
 use Rattle.solar.specs.Posts.{Shining}
 use Rattle.fields.specs.declared.State.{State}
+use Rattle.fields.specs.Fields.{begins}
 use Rattle.stick.specs.Site.{sunFrom, sunAt}
 use Rattle.stretch.proofs.FieldLaws.{sun-over, sun-field, reading-darkens, weather-lights, end-leaves, dark-shines, past-shines}
 use Rattle.kept.specs.Kept.{Kept, begunAt, begun}
@@ -20,6 +21,7 @@ use Rattle.kept.specs.Formed.{sunFits}
 use Rattle.kept.specs.Posts.{WellKept}
 use Rattle.taking.specs.Chunk.{headIn}
 use Rattle.taking.specs.Posts.{Leads}
+use Rattle.taking.proofs.TookLaws.{by-begins}
 use Rattle.taking.proofs.LeadLaws.{parts}
 use Rattle.taking.proofs.ChainLaws.{Chain, done, read, lit, ended, chained}
 
@@ -39,13 +41,8 @@ unfolding sunFits
 dark-fits = refl
 
 -- where a step may begin, no reading is waited for; nor before the steps
-begins-unlit : (n : ℕ) → (eqb n 4 || eqb n 5) ≡ true → eqb n 8 ≡ false
-begins-unlit n = go (eqb n 4) (eqb n 5) refl refl
-  where
-    go : (x y : Bool) → eqb n 4 ≡ x → eqb n 5 ≡ y → (x || y) ≡ true → eqb n 8 ≡ false
-    go true y ex ey c = ap (λ (k : ℕ). eqb k 8) (eqb-true n 4 ex)
-    go false true ex ey c = ap (λ (k : ℕ). eqb k 8) (eqb-true n 5 ey)
-    go false false ex ey c = absurd (passed-failed c refl)
+begins-unlit : (st : State) → begins st ≡ true → eqb (st .stage) 8 ≡ false
+begins-unlit st b = by-begins (λ (n : ℕ) (c : Bool). eqb n 8 ≡ false) st b (λ c. refl) (λ c. refl) refl
 
 before-unlit : (n : ℕ) → begunAt n ≡ false → eqb n 8 ≡ false
 before-unlit n = go (eqb n 0) (eqb n 4) (eqb n 8)
@@ -68,7 +65,7 @@ sun-along file {next} {st} {i} (lit m l e c p is more) s t =
     (sun-along file more (sunAt file i) (subst⁻¹ (λ (x : State). sunFits (x .stage) (sunAt file i) ≡ true) is (shining-fits (sunAt file i) shines)))
 sun-along file {next} {st} {i} (ended m l e c p is more) s t =
     subst⁻¹ (λ (x : Sun). sunFits (next .stage) x ≡ true) (sun-field file i l s ∙ ap (λ (x : Sun). sunFrom file x (past file i)) (end-leaves file s i e))
-    (sun-along file more s (subst⁻¹ (λ (x : State). sunFits (x .stage) s ≡ true) is (fits-alike (st .stage) 0 s (begins-unlit (st .stage) c) refl t)))
+    (sun-along file more s (subst⁻¹ (λ (x : State). sunFits (x .stage) s ≡ true) is (fits-alike (st .stage) 0 s (begins-unlit st c) refl t)))
 
 -- ---- whole fields
 pub sunny-after : (k : Kept) → WellKept k → (w : List ℕ) (next : State) → Leads (k .state) w next → sunFits (next .stage) (sunFrom w (k .sun) (headIn w)) ≡ true

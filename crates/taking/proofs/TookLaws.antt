@@ -1,6 +1,6 @@
 -- A field that is taken, by its tag: the stage at which it stands, how long it is, and the state behind it. Assumes nothing.
-use mathlib.Core.Path.{_≡_, refl, sym, ap, _∙_, subst}
-use mathlib.Core.Bool.{Bool, true, false, cond, _&&_, _||_}
+use mathlib.Core.Path.{_≡_, refl, sym, ap, _∙_, subst, subst⁻¹}
+use mathlib.Core.Bool.{Bool, true, false, not, cond, _&&_, _||_}
 use mathlib.Core.List.{List}
 use Prim.Native.Nat.{ℕ, _+_, _-_, _≤_, _<_}
 use native.Mathlib.Omega.{arith}
@@ -10,24 +10,52 @@ use borrow.Author.Tests.{leb-true, eqb-true, eqb-false}
 use Rattle.whole.proofs.Choice.{passed-failed}
 use Rattle.whole.proofs.OverLaws.{and-parts}
 use Rattle.octets.specs.BigEndian.{be}
+use Rattle.rules.specs.Rules.{byCurrent}
 use Rattle.parts.specs.Header.{header, tagAt, lengthAt, past}
 use Rattle.fields.specs.declared.State.{State}
 use Rattle.fields.specs.declared.Taken.the-variants.{Next}
-use Rattle.fields.specs.Fields.{atEnd, atFleet, atUnits, atSettings, atSteps, atInverters, atTemperature, atEfficiency, atReading}
-use Rattle.fields.specs.Fields.{begins, closes, kinds, sizeIn, sizeOf, standsIn, allowed, fleetIn, isReading, tooMany, valueOf, stateOf, goneTo, roofAfter, stateAfter}
-use Rattle.fields.proofs.FieldLaws.{fewer, step-counts, stands-nowhere}
+use Rattle.fields.specs.Fields.{atEnd, atFleet, atUnits, atSettings, atSteps, atInverters, atTemperature, atEfficiency, atReading, atConnections}
+use Rattle.fields.specs.Fields.{opens, begins, closes, kinds, sizeIn, sizeOf, standsIn, allowed, fleetIn, isReading, tooMany, valueOf, stateOf, goneTo, roofAfter, stateAfter}
+use Rattle.fields.proofs.FieldLaws.{NoTag, by-tag, fewer, step-counts, stands-nowhere}
 use Rattle.fields.proofs.TakenLaws.{not-many}
 use Rattle.stick.specs.Check.{fieldAt}
 use Rattle.stick.proofs.WalkLaws.{field-cases}
 use Rattle.stick.proofs.SaidLaws.{free-parts, accepted-test}
-use Rattle.chunks.proofs.SameLaws.{NoTag, by-tag}
 
+-- ---- the stages where an inverter may stand, where a step may begin, and where one may be closed
+module _ (P : ℕ → Bool → Type 0) (st : State) where
+  pub by-opens : opens st ≡ true → ((c : Bool) → P atInverters c) → P atConnections false → P (st .stage) (st .current)
+  by-opens o five nine = go (eqb (st .stage) 5) (eqb (st .stage) 9) (st .current) refl refl o
+    where
+      go : (x y c : Bool) → eqb (st .stage) 5 ≡ x → eqb (st .stage) 9 ≡ y → (x || (y && not c)) ≡ true → P (st .stage) c
+      go true y c ex ey o = subst⁻¹ (λ (n : ℕ). P n c) (eqb-true (st .stage) 5 ex) (five c)
+      go false true true ex ey o = absurd (passed-failed o refl)
+      go false true false ex ey o = subst⁻¹ (λ (n : ℕ). P n false) (eqb-true (st .stage) 9 ey) nine
+      go false false c ex ey o = absurd (passed-failed o refl)
+
+  pub by-begins : begins st ≡ true → ((c : Bool) → P atSteps c) → ((c : Bool) → P atInverters c) → P atConnections false → P (st .stage) (st .current)
+  by-begins b four five nine = go (eqb (st .stage) 4) refl b
+    where
+      go : (x : Bool) → eqb (st .stage) 4 ≡ x → (x || opens st) ≡ true → P (st .stage) (st .current)
+      go true e b = subst⁻¹ (λ (n : ℕ). P n (st .current)) (eqb-true (st .stage) 4 e) (four (st .current))
+      go false e b = by-opens b five nine
+
+  pub by-closes : closes st ≡ true → ((c : Bool) → P atSteps c) → ((c : Bool) → P atInverters c) → P atConnections false → ((c : Bool) → P atReading c) → P (st .stage) (st .current)
+  by-closes c four five nine eight = go (begins st) (eqb (st .stage) 8) refl refl c
+    where
+      go : (x y : Bool) → begins st ≡ x → eqb (st .stage) 8 ≡ y → (x || y) ≡ true → P (st .stage) (st .current)
+      go true y ex ey c = by-begins ex four five nine
+      go false true ex ey c = subst⁻¹ (λ (n : ℕ). P n (st .current)) (eqb-true (st .stage) 8 ey) (eight (st .current))
+      go false false ex ey c = absurd (passed-failed c refl)
+
+-- ---- a field that is taken
 pub data Took (file : List ℕ) (st : State) (i : ℕ) (m : State) : Type 0 where
   fleet : tagAt file i ≡ 1 → st .stage ≡ atFleet → past file i ≡ i + 9 → fleetIn file (i + header) ≡ true
-      → m ≡ stateOf atUnits (be 1 file (i + header)) (be 1 file (i + header + 1)) (be 1 file (i + header + 1)) (st .steps) → Took file st i m
+      → m ≡ stateOf atUnits (be 1 file (i + header)) (be 1 file (i + header + 1)) (be 1 file (i + header + 1)) (st .steps) (st .current) → Took file st i m
   unit : tagAt file i ≡ 2 → st .stage ≡ atUnits → m ≡ fewer st → Took file st i m
-  settings : tagAt file i ≡ 3 → st .stage ≡ atSettings → m ≡ goneTo st atInverters 64 (st .steps) → Took file st i m
-  inverter : tagAt file i ≡ 6 → st .stage ≡ atInverters → 1 ≤ st .left → m ≡ goneTo st atTemperature (st .left - 1) (st .steps) → Took file st i m
+  settings : tagAt file i ≡ 3 → st .stage ≡ atSettings → m ≡ stateOf atConnections (st .edition) (st .units) 64 (st .steps) (byCurrent (be 1 file (i + header))) → Took file st i m
+  connections : tagAt file i ≡ 10 → st .stage ≡ atConnections → m ≡ goneTo st atInverters (st .left) (st .steps) → Took file st i m
+  inverter : tagAt file i ≡ 6 → opens st ≡ true → 1 ≤ st .left → m ≡ goneTo st atTemperature (st .left - 1) (st .steps) → Took file st i m
   warm : tagAt file i ≡ 7 → st .stage ≡ atTemperature → m ≡ goneTo st atEfficiency (st .left) (st .steps) → Took file st i m
   efficiency : tagAt file i ≡ 7 → st .stage ≡ atEfficiency → m ≡ goneTo st atInverters (st .left) (st .steps) → Took file st i m
   reading : isReading (tagAt file i) ≡ true → closes st ≡ true → i + 3 ≤ past file i → past file i ≤ i + 27 → st .steps < 65535
@@ -44,10 +72,10 @@ module _ (file : List ℕ) (st : State) (i : ℕ) (m : State) where
   curve t false false ea eb c is = absurd (passed-failed c refl)
 
   -- an inverter
-  another-one : tagAt file i ≡ 6 → (eqb (st .stage) atInverters && leb 1 (st .left)) ≡ true → m ≡ goneTo st atTemperature (st .left - 1) (st .steps) → Took file st i m
+  another-one : tagAt file i ≡ 6 → (opens st && leb 1 (st .left)) ≡ true → m ≡ goneTo st atTemperature (st .left - 1) (st .steps) → Took file st i m
   another-one t a is =
-      let both = and-parts (eqb (st .stage) atInverters) (leb 1 (st .left)) a in
-      inverter t (eqb-true (st .stage) 5 (both .0)) (leb-true 1 (st .left) (both .1)) is
+      let both = and-parts (opens st) (leb 1 (st .left)) a in
+      inverter t (both .0) (leb-true 1 (st .left) (both .1)) is
 
   by-its-tag : (tag : ℕ) → tagAt file i ≡ tag → allowed st tag ≡ true → valueOf st tag file (i + header) ≡ 0 → tooMany st tag ≡ false → lengthAt file i ≡ sizeOf st tag
       → m ≡ stateAfter st tag file (i + header) → Took file st i m
@@ -63,6 +91,8 @@ module _ (file : List ℕ) (st : State) (i : ℕ) (m : State) where
       (λ t a v n l is. another-one t a is)
       (λ t a v n l is. curve t (eqb (st .stage) 6) (eqb (st .stage) 7) refl refl a is)
       (λ t a v n l is. weather t a (omega arith) is)
+      (λ t a v n l is. reading (ap isReading t) a (omega arith) (omega arith) (step-counts st 9 refl n) is)
+      (λ t a v n l is. connections t (eqb-true (st .stage) 9 a) is)
       (λ none t a v n l is. last (eqb tag 127) refl none t a l is)
     where
       last : (b : Bool) → eqb tag 127 ≡ b → NoTag tag → tagAt file i ≡ tag → allowed st tag ≡ true → lengthAt file i ≡ sizeOf st tag
@@ -72,7 +102,7 @@ module _ (file : List ℕ) (st : State) (i : ℕ) (m : State) where
           let four : lengthAt file i ≡ 4 = l ∙ ap (sizeOf st) e127 in
           end (t ∙ e127) (subst (λ (k : ℕ). allowed st k ≡ true) e127 a) (omega arith) (is ∙ ap (λ (k : ℕ). stateAfter st k file (i + header)) e127)
       last false e none t a l is =
-          absurd (passed-failed a (sym (stands-nowhere st tag (none .n₁) (none .n₂) (none .n₃) (none .n₄) (none .n₅) (none .n₆) (none .n₇) (none .n₈) (eqb-false tag 127 e))))
+          absurd (passed-failed a (sym (stands-nowhere st tag none (eqb-false tag 127 e))))
 
   pub took : i ≤ length file → fieldAt st file i ≡ Next m → Took file st i m
   took h f =

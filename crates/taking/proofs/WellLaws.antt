@@ -34,7 +34,7 @@ use Rattle.taking.specs.Posts.{Leads}
 use Rattle.taking.proofs.LeadLaws.{few-steps}
 use Rattle.taking.proofs.TwiceLaws.{site-by}
 use Rattle.taking.proofs.FedLaws.{gone-upto, gone-leads}
-use Rattle.taking.proofs.SiteLaws.{SiteWell, site-well}
+use Rattle.taking.proofs.SiteLaws.{SiteWell, kept-few, site-well}
 use Rattle.taking.proofs.CountLaws.{accepted-site}
 use Rattle.taking.proofs.PlacedLaws.{place-parts, place-so, place-most, placed-after}
 use Rattle.taking.proofs.SunLaws.{sunny-after}
@@ -218,7 +218,7 @@ module _ (k : Kept) (well : WellKept k) (c : List ℕ) where
           }
       go false e =
           let no : (r .number ≡ 0 → ⊥) = λ z. passed-failed (eq-eqb (r .number) 0 z) e in
-          let cut : CutField (k .tail ++ c) (k .state) 0 first r = far-cut (k .tail ++ c) (k .state) 0 first (one (r .number) h no) in
+          let cut : CutField (k .tail ++ c) (k .state) 0 first r = far-cut (k .tail ++ c) (k .state) 0 first (kept-few k well) (one (r .number) h no) in
           let n = long in
           let s = cut .short in
           record {

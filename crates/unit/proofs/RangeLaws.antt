@@ -1,14 +1,15 @@
 -- A unit and a step length in their ranges, as plain bounds on numbers: what every later proof counts on. Assumes nothing.
-use mathlib.Core.Path.{_≡_}
-use mathlib.Core.Bool.{true}
+use mathlib.Core.Path.{_≡_, refl}
+use mathlib.Core.Bool.{Bool, true, false, _||_}
 use Prim.Native.Nat.{ℕ, _≤_}
-use lib.Dec.{leb}
+use native.Mathlib.Nat.{le-trans, le-of-eq, mul-le-mul}
+use lib.Dec.{leb, eqb, lit≤}
 use lib.IntN.{natAbs}
-use borrow.Author.Tests.{leb-true}
+use borrow.Author.Tests.{leb-true, eqb-true}
 use Rattle.whole.proofs.OverLaws.{and-parts}
 use Rattle.unit.specs.declared.Unit.{Unit}
 use Rattle.whole.specs.Interval.{between}
-use Rattle.unit.specs.Ranges.{idleDraw, memberIn, unitIn, Ranged}
+use Rattle.unit.specs.Ranges.{idleDraw, memberIn, unitIn, linkOf, connectionIn, Ranged}
 
 pub record Bounds (u : Unit) (seconds : ℕ) : Type 0 where
   pub rated-least : 1 ≤ u .rated
@@ -91,3 +92,15 @@ bounds {u} {seconds} r =
       seconds-least = seconds-in .0;
       seconds-most = seconds-in .1;
     }
+
+-- an ampere of a connection in its ranges is at most 120,000 W
+pub link-most : (phases volts : ℕ) → connectionIn phases volts ≡ true → linkOf phases volts ≤ 120000
+unfolding connectionIn
+link-most phases volts e = mul-le-mul (few (eqb phases 1) refl (p .0)) (within 1 40000 volts (p .1) .1)
+  where
+    p : ((eqb phases 1 || eqb phases 3) ≡ true) × (between 1 40000 volts ≡ true)
+    p = and-parts (eqb phases 1 || eqb phases 3) (between 1 40000 volts) e
+
+    few : (t : Bool) → eqb phases 1 ≡ t → (t || eqb phases 3) ≡ true → phases ≤ 3
+    few true one h = le-trans (le-of-eq (eqb-true phases 1 one)) (lit≤ tt)
+    few false one h = le-of-eq (eqb-true phases 3 h)

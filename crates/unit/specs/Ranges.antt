@@ -1,7 +1,7 @@
--- A unit's fifteen values, in the file's order, and their ranges (rules Q); the idle draw and its limit; the editions; the length of a step. The idle loss has
--- two places (U2): the DC side, `dc_loss`, and the grid connection, `grid_loss`.
+-- A unit's values, in the file's order, and their ranges (rules Q); the idle draw and its limit; the editions; the length of a step. The idle loss has
+-- two places (U2): the DC side, `dc_loss`, and the grid connection, `grid_loss`. What an ampere of its connection is in watts (P10) is `link`.
 use Prim.Native.Nat.{ℕ, _*_}
-use mathlib.Core.Bool.{Bool, true, cond, _&&_}
+use mathlib.Core.Bool.{Bool, true, cond, _&&_, _||_}
 use mathlib.Core.Path.{_≡_}
 use lib.Dec.{leb, eqb}
 use lib.IntN.{natAbs}
@@ -65,6 +65,7 @@ inEdition edition u = record {
   provide = limitIn edition (u .kva) (u .provide);
   absorb = limitIn edition (u .kva) (u .absorb);
   «grid_loss» = gridIn edition (u .«dc_loss»);
+  link = u .link;
 }
 
 -- a step of 1 to 86,400 s
@@ -89,6 +90,34 @@ holding u stored = record {
   provide = u .provide;
   absorb = u .absorb;
   «grid_loss» = u .«grid_loss»;
+  link = u .link;
+}
+
+-- the unit with a connection of so many phases at so many volts (Q46, Q47): an ampere of it is phases times volts in watts
+abbrev pub linkOf : ℕ → ℕ → ℕ
+linkOf phases volts = phases * volts
+
+unfoldable pub connectionIn : ℕ → ℕ → Bool
+connectionIn phases volts = (eqb phases 1 || eqb phases 3) && between 1 40000 volts
+
+abbrev pub linked : Unit → ℕ → Unit
+linked u link = record {
+  rated = u .rated;
+  reserve = u .reserve;
+  stored = u .stored;
+  rating = u .rating;
+  kva = u .kva;
+  «dc_loss» = u .«dc_loss»;
+  «var_request» = u .«var_request»;
+  weight = u .weight;
+  inverter = u .inverter;
+  charge = u .charge;
+  discharge = u .discharge;
+  priority = u .priority;
+  provide = u .provide;
+  absorb = u .absorb;
+  «grid_loss» = u .«grid_loss»;
+  link = link;
 }
 
 -- the idle loss, wherever it sits

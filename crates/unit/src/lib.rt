@@ -2,6 +2,7 @@
 // whole joules; efficiencies are parts in 10,000.
 mod ranges;
 
+pub use ranges::connection_in;
 pub use ranges::direct_in;
 pub use ranges::edition_in;
 pub use ranges::grid_in;
@@ -14,7 +15,8 @@ pub use ranges::seconds_in;
 pub use ranges::unit_in;
 
 // A unit's values, in the order of the file. Priority 0 is watts, 1 vars; `provide` and `absorb` are
-// the most vars either way. The idle loss sits on the DC side, or at the grid.
+// the most vars either way. The idle loss sits on the DC side, or at the grid. `link` is what an
+// ampere of its connection is in watts, 0 where no connection is given.
 pub struct Unit {
     pub rated: u64,
     pub reserve: u64,
@@ -31,4 +33,5 @@ pub struct Unit {
     pub provide: u32,
     pub absorb: u32,
     pub grid_loss: u32,
+    pub link: u32,
 }

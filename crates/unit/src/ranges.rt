@@ -1,5 +1,5 @@
 ghost use mathlib.Core.Path.{_≡_};
-ghost use Rattle.unit.specs.Ranges.{idleDraw, memberIn, unitIn, secondsIn, editionIn, limitIn, directIn, gridIn, inEdition, idleLoss};
+ghost use Rattle.unit.specs.Ranges.{idleDraw, memberIn, connectionIn, unitIn, secondsIn, editionIn, limitIn, directIn, gridIn, inEdition, idleLoss};
 use super::Unit;
 
 // The watts that the inverter of an idle unit draws.
@@ -18,6 +18,13 @@ pub fn member_in(rated: u64, reserve: u64, stored: u64, rating: u32, weight: u16
         & (stored <= rated)
         & ((1 <= rating) & (rating <= 100000000))
         & ((1 <= weight) & (weight <= 10000))
+}
+
+// A connection of 1 or 3 phases at 1 to 40,000 volts.
+pub fn connection_in(phases: u8, volts: u16) -> bool
+    ensures { λ r. ⌜ r ≡ connectionIn phases volts ⌝ }
+{
+    ((phases == 1) | (phases == 3)) & ((1 <= volts) & (volts <= 40000))
 }
 
 // Every value of the unit is in its range, and its idle draw and its var limits are at most S.
@@ -100,6 +107,7 @@ pub fn in_edition(edition: u8, u: Unit) -> Unit
         provide: limit_in(edition, u.kva, u.provide),
         absorb: limit_in(edition, u.kva, u.absorb),
         grid_loss: grid_in(edition, u.dc_loss),
+        link: u.link,
     }
 }
 

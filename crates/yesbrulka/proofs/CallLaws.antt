@@ -10,11 +10,12 @@ use mir.Val.{toZ, ofZ, boolByte}
 use Rattle.whole.specs.Call.{Call, Gave, Refused, Refusal, refusal, numberOf, heldAfter}
 use Rattle.whole.proofs.SignLaws.{read}
 use Rattle.unit.specs.declared.Unit.{Unit}
+use Rattle.rules.specs.declared.Settings.{Settings}
 use Rattle.controller.specs.declared.Passed.{Passed}
 use Rattle.controller.specs.declared.PassAnswer.{PassAnswer}
 use Rattle.controller.specs.declared.PassAnswer.the-variants.{PassDone, PassRefused}
 use Rattle.members.specs.Ranges.{Fleet}
-use Rattle.controller.specs.Answers.{passCall, passAnswer, passLeaves}
+use Rattle.controller.specs.Answers.{passCall}
 use Rattle.settling.specs.declared.Studied.{Studied}
 use Rattle.settling.specs.declared.StudyAnswer.{StudyAnswer}
 use Rattle.settling.specs.declared.StudyAnswer.the-variants.{StudyDone, StudyRefused}
@@ -54,25 +55,26 @@ module _ (a : PassAnswer) (need : ℤ) (changed : ℕ) where
     changed-is = sym (ap (λ (x : PassAnswer). heldAfter (passCall x) (λ (q : Passed). flag (q .changed)) changed) is);
   }
 
-module _ (mode : ℕ) (target : ℤ) (band factor : ℕ) (measure : ℤ) (f : Fleet) (rs : List ℤ) (ht : mag target < 2 ^ 31) (hm : mag measure < 2 ^ 63)
-    (ans : PassAnswer) (after : List ℤ)
-    (ea : ans ≡ passAnswer (settingsOf mode (toZ w32 (ofZ w32 target)) band factor) (toZ w64 (ofZ w64 measure)) f rs)
-    (el : after ≡ passLeaves (settingsOf mode (toZ w32 (ofZ w32 target)) band factor) (toZ w64 (ofZ w64 measure)) f rs) (need : ℤ) (changed : ℕ) where
-  pass-is : ans ≡ passAnswer (settingsOf mode target band factor) measure f rs
-  pass-is = ea ∙ ap₂ (λ (t m : ℤ). passAnswer (settingsOf mode t band factor) m f rs) (read w32 target ht) (read w64 measure hm)
+-- by watts or by current: what a pass answers and what it leaves, by its settings and its measure
+module _ (answer : Settings → ℤ → PassAnswer) (leaves : Settings → ℤ → List ℤ) (mode : ℕ) (target : ℤ) (band factor : ℕ) (measure : ℤ)
+    (ht : mag target < 2 ^ 31) (hm : mag measure < 2 ^ 63) (ans : PassAnswer) (after : List ℤ)
+    (ea : ans ≡ answer (settingsOf mode (toZ w32 (ofZ w32 target)) band factor) (toZ w64 (ofZ w64 measure)))
+    (el : after ≡ leaves (settingsOf mode (toZ w32 (ofZ w32 target)) band factor) (toZ w64 (ofZ w64 measure))) (need : ℤ) (changed : ℕ) where
+  abbrev s : Settings
+  s = settingsOf mode target band factor
 
-  left-is : after ≡ passLeaves (settingsOf mode target band factor) measure f rs
-  left-is = el ∙ ap₂ (λ (t m : ℤ). passLeaves (settingsOf mode t band factor) m f rs) (read w32 target ht) (read w64 measure hm)
+  pass-is : ans ≡ answer s measure
+  pass-is = ea ∙ ap₂ (λ (t m : ℤ). answer (settingsOf mode t band factor) m) (read w32 target ht) (read w64 measure hm)
+
+  left-is : after ≡ leaves s measure
+  left-is = el ∙ ap₂ (λ (t m : ℤ). leaves (settingsOf mode t band factor) m) (read w32 target ht) (read w64 measure hm)
 
   pub pass-done : (p : Passed) → ans ≡ PassDone p → mag (p .need) < 2 ^ 63
-      → PassSeen (passAnswer (settingsOf mode target band factor) measure f rs) 0 need (toZ w64 (ofZ w64 (p .need))) changed (boolByte (p .changed))
-      × (after ≡ passLeaves (settingsOf mode target band factor) measure f rs)
-  pass-done p is h = (pass-given (passAnswer (settingsOf mode target band factor) measure f rs) need changed p (sym pass-is ∙ is) h, left-is)
+      → PassSeen (answer s measure) 0 need (toZ w64 (ofZ w64 (p .need))) changed (boolByte (p .changed)) × (after ≡ leaves s measure)
+  pass-done p is h = (pass-given (answer s measure) need changed p (sym pass-is ∙ is) h, left-is)
 
-  pub pass-refused : (n : ℕ) → ans ≡ PassRefused n
-      → PassSeen (passAnswer (settingsOf mode target band factor) measure f rs) n need need changed changed
-      × (after ≡ passLeaves (settingsOf mode target band factor) measure f rs)
-  pass-refused n is = (pass-kept (passAnswer (settingsOf mode target band factor) measure f rs) need changed n (sym pass-is ∙ is), left-is)
+  pub pass-refused : (n : ℕ) → ans ≡ PassRefused n → PassSeen (answer s measure) n need need changed changed × (after ≡ leaves s measure)
+  pass-refused n is = (pass-kept (answer s measure) need changed n (sym pass-is ∙ is), left-is)
 
 -- ---- a study
 module _ (c : Call Studied) (settled passes : ℕ) where

@@ -1,4 +1,4 @@
--- What a C caller sees of a call (rules C1 to C19): the number that is returned, and each lent number afterwards, which is what the call gives or, on a
+-- What a C caller sees of a call (rules C1 to C31): the number that is returned, and each lent number afterwards, which is what the call gives or, on a
 -- refusal, what it held.
 use Prim.Native.Nat.{ℕ}
 use mathlib.Core.Bool.{Bool, cond}
@@ -12,7 +12,7 @@ use Rattle.whole.specs.Call.{Call, numberOf, heldAfter}
 use Rattle.unit.specs.declared.Unit.{Unit}
 use Rattle.rules.specs.declared.Settings.{Settings}
 use Rattle.controller.specs.declared.Passed.{Passed}
-use Rattle.members.specs.Ranges.{Fleet, fleetOf}
+use Rattle.members.specs.Ranges.{Fleet, fleetOf, fleetLinked, linksOf}
 use Rattle.controller.specs.declared.PassAnswer.{PassAnswer}
 use Rattle.controller.specs.Answers.{passCall}
 use Rattle.settling.specs.declared.Trial.{Trial}
@@ -27,7 +27,8 @@ use Rattle.storage.specs.declared.Stepped.{Stepped}
 use Rattle.storage.specs.Answers.{stepCall}
 use Rattle.storage.specs.Step.{steppedAs}
 use Rattle.site.specs.declared.Head.{Head}
-use Rattle.ask.specs.Says.{headAnswer, headCall, unitAnswer, unitCall}
+use Rattle.ask.specs.declared.Connection.{Connection}
+use Rattle.ask.specs.Says.{headAnswer, headCall, unitAnswer, unitCall, connectionAnswer, connectionCall}
 
 -- a flag as a lent byte
 abbrev pub flag : Bool → ℕ
@@ -50,7 +51,12 @@ left x = now (x .exit)
 abbrev pub fleetLent : Lent (List ℕ) → Lent (List ℕ) → Lent (List ℕ) → Lent (List ℕ) → Lent (List ℕ) → Fleet
 fleetLent rated reserve stored rating weight = fleetOf (held rated) (held reserve) (held stored) (held rating) (held weight)
 
--- yb_pass: the number, need and changed
+-- with the connections that two more hold
+abbrev pub fleetJoined : Lent (List ℕ) → Lent (List ℕ) → Lent (List ℕ) → Lent (List ℕ) → Lent (List ℕ) → Lent (List ℕ) → Lent (List ℕ) → Fleet
+fleetJoined rated reserve stored rating weight phases volts =
+    fleetLinked (held rated) (held reserve) (held stored) (held rating) (held weight) (linksOf (held phases) (held volts))
+
+-- yb_pass and yb_pass_current: the number, need and changed
 pub record PassSeen (a : PassAnswer) (number : ℕ) (need need′ : ℤ) (changed changed′ : ℕ) : Type 0 where
   pub number-is : number ≡ numberOf (passCall a)
   pub need-is : need′ ≡ heldAfter (passCall a) (λ (p : Passed). p .need) need
@@ -90,6 +96,7 @@ unitOf rated reserve stored rating kva idle var weight inverter charge discharge
   provide = provide;
   absorb = absorb;
   «grid_loss» = 0;
+  link = 0;
 }
 
 pub record StepSeen (a : Stepped) (number : ℕ) (watts watts′ vars vars′ : ℤ) (stored stored′ loss loss′ : ℕ) : Type 0 where
@@ -134,9 +141,12 @@ abbrev pub LitTold : Lit → ℕ → Lent ℕ → Lent ℤ → Lent ℤ → Lent
 LitTold a number on watts vars dc =
     LitSeen a number (held on) (left on) (held watts) (left watts) (held vars) (left vars) (held dc) (left dc)
 
--- yb_settings and yb_unit: what a file says, as a call's answer
+-- yb_settings, yb_unit and yb_connection: what a file says, as a call's answer
 abbrev pub headSaid : List ℕ → Call Head
 headSaid file = headCall file (headAnswer file)
 
 abbrev pub unitSaid : List ℕ → ℕ → Call Unit
 unitSaid file i = unitCall file (unitAnswer file i)
+
+abbrev pub connectionTold : List ℕ → ℕ → Call Connection
+connectionTold file i = connectionCall file (connectionAnswer file i)

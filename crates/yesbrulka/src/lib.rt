@@ -9,7 +9,7 @@ ghost use Rattle.whole.specs.Call.{numberOf, heldAfter};
 ghost use Rattle.reading.specs.Conversion.{wattsOf, wattsCall};
 ghost use Rattle.unit.specs.declared.Unit.{Unit};
 ghost use Rattle.unit.specs.Ranges.{idleLoss};
-ghost use Rattle.controller.specs.Answers.{passAnswer, passLeaves};
+ghost use Rattle.controller.specs.Answers.{passAnswer, passLeaves, currentAnswer, currentLeaves};
 ghost use Rattle.settling.specs.Answers.{studyAnswer, studyLeaves, studyCall};
 ghost use Rattle.site.specs.declared.Head.{Head};
 ghost use Rattle.stick.specs.Check.{checkOf};
@@ -18,10 +18,13 @@ ghost use Rattle.season.specs.Answers.{roomOf, runAnswer, runLeaves};
 ghost use Rattle.kept.specs.Layout.{stateSize};
 ghost use Rattle.feed.specs.Answers.{startNumber, startLeaves, roomFor, feedNumber, feedLeaves, feedWrites, endNumber, endLeaves, endWrites, placeTold, stepsTold};
 ghost use Rattle.rescue.specs.Answers.{rescueOf, outputRoom, changesTold, rescueAnswer, rescueWrites, rescueLists};
+ghost use Rattle.ask.specs.declared.Connection.{Connection};
 ghost use Rattle.ask.specs.Says.{unitsSaid, invertersSaid, secondsSaid, fileStudy, fileStudyLeaves, fileStudyCall};
-ghost use Rattle.yesbrulka.specs.Calls.{held, left, fleetLent, settingsOf, PassTold, trialOf, StudyTold, unitOf, StepTold, inverterOf, litLent, LitTold, headSaid, unitSaid};
+ghost use Rattle.yesbrulka.specs.Calls.{held, left, fleetLent, fleetJoined, connectionTold, settingsOf, PassTold, trialOf, StudyTold, unitOf, StepTold, inverterOf, litLent, LitTold, headSaid, unitSaid};
+use ask::ConnectionAnswer;
 use ask::HeadAnswer;
 use ask::UnitAnswer;
+use controller::Aim;
 use controller::PassAnswer;
 use reading::Watts;
 use rules::Settings;
@@ -132,6 +135,59 @@ pub extern "C" fn yb_pass(
         factor,
     };
     match controller::pass(s, measure, rated, reserve, stored, rating, weight, requests) {
+        PassAnswer::PassDone(p) => {
+            let wanted = p.need;
+            *need = wanted;
+            *changed = p.changed as u8;
+            0
+        }
+        PassAnswer::PassRefused(n) => n as u32,
+    }
+}
+
+// One pass by current over lent lists, modes 4 and 5, in mA: 0, the requests after it, need and
+// whether a request changed (1 or 0); or 10, 5 or 10.
+#[no_mangle]
+pub extern "C" fn yb_pass_current(
+    mode: u8,
+    target: i32,
+    band: u32,
+    factor: u16,
+    measure: i64,
+    rated: &[u64],
+    reserve: &[u64],
+    stored: &[u64],
+    rating: &[u32],
+    weight: &[u16],
+    phases: &[u8],
+    volts: &[u16],
+    requests: &mut [i32],
+    need: &mut i64,
+    changed: &mut u8,
+) -> u32
+    ensures { λ r. ⌜ PassTold (currentAnswer (settingsOf mode target band factor) measure (fleetJoined rated reserve stored rating weight phases volts) (held phases) (held volts) (held requests)) r need changed ⌝ }
+    ensures { λ _. ⌜ left requests ≡ currentLeaves (settingsOf mode target band factor) measure (fleetJoined rated reserve stored rating weight phases volts) (held phases) (held volts) (held requests) ⌝ }
+{
+    let aim = Aim {
+        settings: Settings {
+            mode,
+            target,
+            band,
+            factor,
+        },
+        measure,
+    };
+    match controller::pass_current(
+        aim,
+        rated,
+        reserve,
+        stored,
+        rating,
+        weight,
+        phases,
+        volts,
+        requests,
+    ) {
         PassAnswer::PassDone(p) => {
             let wanted = p.need;
             *need = wanted;
@@ -277,6 +333,7 @@ pub extern "C" fn yb_step_as(
         provide,
         absorb,
         grid_loss: 0,
+        link: 0,
     };
     match storage::step_as(edition, u, seconds, request) {
         Stepped::Done(o) => {
@@ -470,6 +527,24 @@ pub extern "C" fn yb_var_limits(file: &[u8], unit: u32, provide: &mut u32, absor
             0
         }
         UnitAnswer::UnitRefused(n) => n as u32,
+    }
+}
+
+// What a file says: 0 and the connection of a unit; or the check's number, or 10 for a unit outside
+// the fleet and where the file has no connections.
+#[no_mangle]
+pub extern "C" fn yb_connection(file: &[u8], unit: u32, phases: &mut u8, volts: &mut u16) -> u32
+    ensures { λ r. ⌜ r ≡ numberOf (connectionTold (now (file .entry)) unit) ⌝ }
+    ensures { λ _. ⌜ now (phases .exit) ≡ heldAfter (connectionTold (now (file .entry)) unit) (λ (c : Connection). c .phases) (now (phases .entry)) ⌝ }
+    ensures { λ _. ⌜ now (volts .exit) ≡ heldAfter (connectionTold (now (file .entry)) unit) (λ (c : Connection). c .volts) (now (volts .entry)) ⌝ }
+{
+    match ask::connection_of(file, unit) {
+        ConnectionAnswer::ConnectionSaid(c) => {
+            *phases = c.phases;
+            *volts = c.volts;
+            0
+        }
+        ConnectionAnswer::ConnectionRefused(n) => n as u32,
     }
 }
 

@@ -1,6 +1,7 @@
 -- A part of n elements, at most 65, out of 65 has length n.
 use mathlib.Core.Path.{sym}
 use native.Mathlib.Omega.{arith}
+use lib.ListN.{length-replicate}
 use lib.Seq.{length-take-le}
 use borrow.Author.Needs.{needs}
 use Rattle.cases.proofs.fleets.pass.Statement.{statement}
@@ -61,7 +62,17 @@ slice-aggregate-pass-of-6 : tie.Need-slice-aggregate-pass-of-6
 slice-aggregate-pass-of-6 c = sym (length-take-le _ _ (omega arith))
 
 pass-of-requires : tie.Need-pass-of-requires
-pass-of-requires c κs = search needs
+pass-of-requires c κs = (
+  search needs,
+  record {
+    rated = search needs;
+    reserve = search needs;
+    stored = search needs;
+    rating = search needs;
+    weight = search needs;
+    link = length-replicate _ 0;
+  },
+)
 
 returns-3 : tie.Need-returns-3
 returns-3 c = search needs

@@ -1,11 +1,21 @@
 -- The site part is laid as 0, nothing stands, and the mark is that before any byte: the bytes are all those of a state.
-use Rattle.feed.proofs.CallLaws.{start-not, started}
 use borrow.Author.Needs.{needs}
+use Prim.Native.Nat.{ℕ}
+use mathlib.Core.Path.{ap, _∙_}
+use mathlib.Core.List.{List, []}
+use Rattle.octets.specs.BigEndian.{laid}
+use Rattle.solar.specs.Weather.{dark}
+use Rattle.fields.specs.declared.State.{State}
+use Rattle.kept.specs.Layout.{topOf}
+use Rattle.feed.proofs.CallLaws.{start-not, started}
 use Rattle.feed.proofs.calls.start.Statement.{statement}
 use Rattle.feed.proofs.calls.start.Tie as tie
 
 returns : tie.Need-returns
 returns c = start-not (c .before .before .args .s .now) (c .if1 .taken)
+
+first-requires : tie.Need-first-requires
+first-requires c κs = search needs
 
 zero-requires : tie.Need-zero-requires
 zero-requires c κs = search needs
@@ -27,14 +37,18 @@ returns-2 c =
     let p = c .before .before in
     let u = p .before .before .before .before .before in
     let t = u .before .before .before .before in
-    let e = t .before .before in
-    started (e .before .before .args .s .now) (e .if1 .left) (t .zero .last .0) (u .clear-stands .last .0) (p .put-top .last .0) (t .zero .ensures) (u .clear-stands .ensures) (p .put-top .ensures)
+    let first = t .before .before in
+    let e = first .before in
+    let put : State → List ℕ = λ st. laid (u .clear-stands .last .0) 0 (topOf (record { place = 0; state = st; site = 0; tail = 0; sun = dark }) []) in
+    started (e .before .before .args .s .now) (e .if1 .left) (t .zero .last .0) (u .clear-stands .last .0) (p .put-top .last .0) (t .zero .ensures) (u .clear-stands .ensures)
+    (p .put-top .ensures ∙ ap put (first .first .ensures))
 
 pub start-spec : {M : Type 1} → statement M
 start-spec =
     tie.close
     (tie.spec
     returns
+    first-requires
     zero-requires
     clear-stands-requires
     slice-aggregate-put-top

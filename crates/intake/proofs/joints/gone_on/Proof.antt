@@ -15,10 +15,11 @@ use Rattle.fields.specs.Fields.{headOf}
 use Rattle.stick.specs.Check.{fieldAt, reached, reachOf}
 use Rattle.chunks.specs.Sizes.{largest}
 use Rattle.chunks.specs.Holds.{moved}
+use Rattle.chunks.proofs.FieldChunks.{Few}
 use Rattle.kept.specs.declared.Mark.{Mark}
 use Rattle.kept.specs.Layout.{tailPart, stateIn, markIn, keptIn}
 use Rattle.taking.specs.Chunk.{goneBy}
-use Rattle.intake.proofs.OpenLaws.{open-sized, open-tail, open-waits}
+use Rattle.intake.proofs.OpenLaws.{open-sized, open-few, open-tail, open-waits}
 use Rattle.intake.proofs.JointLaws.{take-most, stops-first, three, tail-first, past-within, goes-first}
 use Rattle.intake.proofs.joints.gone_on.Statement.{statement}
 use Rattle.intake.proofs.joints.gone_on.Tie as tie
@@ -47,6 +48,9 @@ tail-is s = let (o, (m, l)) = s .pre in ap (λ (k : Mark). k .tail) m ∙ sym (o
 
 some-tail : (s : tie.Start) → 0 < length (tailPart (s .args .s .now))
 some-tail s = let (o, (m, l)) = s .pre in omega (arith, l, tail-is s)
+
+few-said : (s : tie.Start) → Few (stateIn (s .args .s .now))
+few-said s = open-few (s .args .s .now) (s .pre .0)
 
 waited : (s : tie.Start) → (eqb (stateIn (s .args .s .now) .stage) 0 ≡ false) × (headOf (stateIn (s .args .s .now)) (tailPart (s .args .s .now)) 0 ≡ 1)
 waited s = let (o, (m, l)) = s .pre in open-waits (s .args .s .now) o (omega (arith, some-tail s, open-tail (s .args .s .now) o))
@@ -116,11 +120,11 @@ beyond-requires c κs =
     let w = waited s in
     let same = joint-read j in
     let (o, (m, l)) = s .pre in (
-      omega (arith, ap length same, three st tail chunk (some-tail s) (w .0) (w .1) (n .next .given .0 .0) e),
+      omega (arith, ap length same, three st (few-said s) tail chunk (some-tail s) (w .0) (w .1) (n .next .given .0 .0) e),
       (
-        omega (arith, ap (λ (l : List ℕ). past l 0) same, tail-is s, tail-first st tail chunk (some-tail s) (w .0) (w .1) (n .next .given .0 .0) e),
+        omega (arith, ap (λ (l : List ℕ). past l 0) same, tail-is s, tail-first st (few-said s) tail chunk (some-tail s) (w .0) (w .1) (n .next .given .0 .0) e),
         (
-          omega (arith, ap (λ (l : List ℕ). past l 0) same, tail-is s, past-within st tail chunk (some-tail s) (w .0) (w .1) (n .next .given .0 .0) e),
+          omega (arith, ap (λ (l : List ℕ). past l 0) same, tail-is s, past-within st (few-said s) tail chunk (some-tail s) (w .0) (w .1) (n .next .given .0 .0) e),
           omega (arith, tail-is s, open-tail (s .args .s .now) o, open-sized (s .args .s .now) o .tail-fits),
         ),
       ),
@@ -134,7 +138,7 @@ returns c =
     let s = first (f .before .before .before .before) in
     let w = waited s in
     ap (reached (n .number .given .0 .0) 0) (state-is s)
-    ∙ stops-first (stateIn (s .args .s .now)) (tailPart (s .args .s .now)) (s .args .chunk .now) (some-tail s) (w .0) (w .1) (n .number .given .0 .0) (stop-is n)
+    ∙ stops-first (stateIn (s .args .s .now)) (few-said s) (tailPart (s .args .s .now)) (s .args .chunk .now) (some-tail s) (w .0) (w .1) (n .number .given .0 .0) (stop-is n)
 
 returns-2 : tie.Need-returns-2
 unfolding goneBy keptIn
@@ -148,7 +152,7 @@ returns-2 c =
     let next = n .next .given .0 .0 in
     c .beyond .ensures
     ∙ ap₂ (λ (t : ℕ) (l : List ℕ). moved t (reachOf (length chunk) next chunk (past l 0 - t))) (tail-is s) (joint-read j)
-    ∙ goes-first (stateIn (s .args .s .now)) (tailPart (s .args .s .now)) chunk (some-tail s) (w .0) (w .1) next (next-is n)
+    ∙ goes-first (stateIn (s .args .s .now)) (few-said s) (tailPart (s .args .s .now)) chunk (some-tail s) (w .0) (w .1) next (next-is n)
 
 pub gone-on-spec : {M : Type 1} → statement M
 gone-on-spec =

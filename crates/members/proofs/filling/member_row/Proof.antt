@@ -1,4 +1,4 @@
--- The row is the unit's, and the rating and the weight fit their places.
+-- The row is the unit's, and rating, weight and link fit their places.
 use native.Mathlib.Omega.{arith}
 use borrow.Author.Needs.{needs}
 use mathlib.Core.Path.{subst⁻¹}
@@ -13,8 +13,8 @@ row-requires c κs = search needs
 returns : tie.Need-returns
 returns c =
     let s = c .before in
-    subst⁻¹ (MemberRow (s .args .rated) (s .args .reserve) (s .args .rating) (s .args .weight)) (c .row .ensures)
-    (member-row _ _ _ (omega (arith, s .fits .rating)) (omega (arith, s .fits .weight)))
+    subst⁻¹ (MemberRow (s .args .rated) (s .args .reserve) (s .args .rating) (s .args .weight) (s .args .link)) (c .row .ensures)
+    (member-row _ _ _ (omega (arith, s .fits .rating)) (omega (arith, s .fits .weight)) (omega (arith, s .fits .link)))
 
 pub member-row-spec : {M : Type 1} → statement M
 member-row-spec = tie.close (tie.spec row-requires returns)

@@ -54,10 +54,13 @@ cast-t17 c = omega (arith, c .struct-known11 .given)
 cast-t19 : tie.Need-cast-t19
 cast-t19 c = search needs
 
+cast-t20 : tie.Need-cast-t20
+cast-t20 c = omega (arith, c .struct-known12 .given)
+
 returns : tie.Need-returns
 unfolding rowOf
 returns c =
-    let q = c .before .before .before .before .before .before .before .before .before .before .before in
+    let q = c .before .before .before .before .before .before .before .before .before .before .before .before in
     let p = q .before in
     let s = p .before .before in
     let told = p .before .struct-told .given in
@@ -84,4 +87,5 @@ row-spec =
     cast-t16
     cast-t17
     cast-t19
+    cast-t20
     returns)

@@ -183,10 +183,22 @@ index-2-t100 c = search needs
 cast-t102 : tie.Need-cast-t102
 cast-t102 c = search needs
 
+mul-t103 : tie.Need-mul-t103
+mul-t103 c = search needs
+
+index-1-t107 : tie.Need-index-1-t107
+index-1-t107 c = search needs
+
+index-2-t107 : tie.Need-index-2-t107
+index-2-t107 c = search needs
+
+cast-t109 : tie.Need-cast-t109
+cast-t109 c = search needs
+
 returns : tie.Need-returns
 unfolding unitBy
 returns c =
-    let v = c .before .before .before .before .before .before .before .before in
+    let v = c .before .before .before .before .before .before .before .before .before in
     let s = v .before .before .before .before .before .before .before .before in
     ap (unitWith (getD (s .args .units .now) (s .args .i) [])) (read w32 (v .signed-of .result) (v .signed-of .ok) ∙ v .signed-of .ensures)
 
@@ -252,4 +264,8 @@ unit-of-spec =
     index-1-t100
     index-2-t100
     cast-t102
+    mul-t103
+    index-1-t107
+    index-2-t107
+    cast-t109
     returns)

@@ -23,7 +23,7 @@ returns c =
     let s = t .before .args .s in
     let h : mag (s .target) < 2 ^ 31 = t .struct-told .given .1 .0 .1 in
     let e = c .before .before .before .before .before .size32 .ensures ∙ ap natAbs (read w32 (s .target) h) in
-    ap (λ (n : ℕ). between 1 3 (s .mode) && leb n 100000000 && leb (s .band) 200000000 && between 1 1000 (s .factor)) e
+    ap (λ (n : ℕ). between 1 5 (s .mode) && leb n 100000000 && leb (s .band) 200000000 && between 1 1000 (s .factor)) e
 
 pub settings-in-spec : {M : Type 1} → statement M
 settings-in-spec = tie.close (tie.spec size32-requires returns)

@@ -1,10 +1,10 @@
 -- Each test is the definition's, in the order of rule N15, and a study is made only where both hold; a refusal touches nothing.
 use mathlib.Core.Path.{_≡_, refl, sym, _∙_}
 use mathlib.Core.Bool.{true, _&&_}
-use lib.ListN.{length}
+use lib.ListN.{length, length-replicate}
 use borrow.Author.Tests.{not-false}
 use Rattle.members.specs.Ranges.{Fleet, fleetOf, lengthsIn}
-use Rattle.controller.proofs.SoundLaws.{same-lengths, by-first}
+use Rattle.controller.proofs.SoundLaws.{same-lengths, by-first, no-link}
 use Rattle.settling.proofs.TrialLaws.{values-are, trying}
 use Rattle.settling.proofs.AnswerLaws.{studyValues, wrong-lengths, wrong-values, all-fine}
 use borrow.Author.Needs.{needs}
@@ -49,7 +49,7 @@ units-in-requires c κs =
     let e = c .before in
     let s = start (e .before) in
     let n = length (s .args .requests .now) in
-    by-first (fleet s) n (same-lengths (fleet s) n (lengths e))
+    by-first (fleet s) n (same-lengths (fleet s) n (lengths e) (length-replicate (length (s .args .rated .now)) 0))
 
 returns-2 : tie.Need-returns-2
 returns-2 c =
@@ -65,7 +65,8 @@ settle-over-requires c κs =
     let u = g .before in
     let e = u .before .before in
     let s = start (e .before) in
-    trying (s .args .q) (fleet s) (length (s .args .requests .now)) (lengths e) (u .before .trial-in .result && u .units-in .result) (values u) (g .if2 .left)
+    let n = length (s .args .rated .now) in
+    trying (s .args .q) (fleet s) (length-replicate n 0) (no-link n) (length (s .args .requests .now)) (lengths e) (u .before .trial-in .result && u .units-in .result) (values u) (g .if2 .left)
 
 same-length : tie.Need-same-length
 same-length c = search needs

@@ -40,8 +40,10 @@ returns c =
     let draw = d .result + u .«grid_loss» in
     let small : draw < 4294967296 = omega (arith, draws k) in
     let is : c .row .result ≡ rowOf u draw (v .result) = c .row .ensures ∙ ap (rowOf u draw) (read w32 (v .result) (v .ok)) in
+    -- its link is a number of 32 bits
+    let link : u .link < 4294967296 = omega (arith, s .good .0 .1 .1 .1 .1 .1 .1 .1 .1 .1 .1 .1 .1 .1 .1 .1) in
     record {
-      unit-is = ap unitBy is ∙ unit-back u draw (v .result) (s .pre);
+      unit-is = ap unitBy is ∙ unit-back u draw (v .result) (s .pre) link;
       draw-is = ap drawBy is ∙ draw-back u draw (v .result) small ∙ ap (λ (n : ℕ). n + u .«grid_loss») (d .ensures);
       vars-is = ap varsBy is ∙ vars-back u draw (v .result) (record { sfits = v .ok }) ∙ v .ensures;
     }
