@@ -12,7 +12,7 @@
 ** thread at any time, as long as nobody else writes what is lent to a call, or reads what it may write, before it
 ** returns. A call needs at most 65,536 bytes of stack.
 **
-** Power is in whole watts, positive for discharge; energy is in whole joules.
+** Power is in whole watts, positive for discharge; energy is in whole joules; current is in whole milliamperes, mA.
 */
 #ifndef YESBRULKA_H
 #define YESBRULKA_H
@@ -33,18 +33,18 @@ enum {
     YB_UNKNOWN_TAG = 2, /* the tag is unknown */
     YB_WRONG_LENGTH = 3, /* the length is not the tag's */
     YB_OUT_OF_ORDER = 4, /* the field may not come at this point */
-    YB_OUT_OF_RANGE = 5, /* a value is outside its range */
-    YB_NOT_USABLE = 6, /* a reading does not convert to watts, or a weather does not convert to thousandths */
+    YB_OUT_OF_RANGE = 5, /* a value is outside its range, or a reading is of another kind than the mode goes by */
+    YB_NOT_USABLE = 6, /* a reading does not convert to watts or mA, or a weather not to thousandths */
     YB_WRONG_COUNT = 7, /* the end field counts other steps than there are */
     YB_END_MISSING = 8, /* the bytes stop between two fields, before the end field */
     YB_AFTER_END = 9, /* there are bytes after the end field */
-    YB_DOES_NOT_FIT = 10, /* wrong lengths of lists, a request beyond its rating, both signs, or no such unit */
+    YB_DOES_NOT_FIT = 10, /* wrong lengths of lists, a request beyond its rating, both signs, no such unit */
     YB_ROOM_TOO_SHORT = 11, /* the room is shorter than the result */
     YB_TOO_MANY = 12 /* the file is longer than 2,097,152 bytes, or has a step after its 65,535th */
 };
 
-/* The modes of the controller. */
-enum { YB_PEAK_SHAVE = 1, YB_SUPPORT = 2, YB_PEAK_SHAVE_LOW = 3 };
+/* The modes of the controller. The first three go by watts; the last two are the first and the third by current. */
+enum { YB_PEAK_SHAVE = 1, YB_SUPPORT = 2, YB_PEAK_SHAVE_LOW = 3, YB_I_PEAK_SHAVE = 4, YB_I_PEAK_SHAVE_LOW = 5 };
 
 /* The phase choice: the sum of the three, one of them, or the largest or the smallest as signed numbers. */
 enum {
@@ -68,19 +68,20 @@ enum { YB_MOST_UNITS = 64, YB_MOST_INVERTERS = 64, YB_MOST_STEPS = 65535, YB_MOS
 enum { YB_LEAST_POINTS = 2, YB_MOST_POINTS = 16 };
 
 /* The ranges of the values: each goes up to its most, and from where it is said; one with a sign from minus its most.
-** Ratings in W and VA, var requests, targets, phase powers and the load of a study have one most. Reserve and stored
-** energy are from 0 to the rated.
+** Ratings in W and VA, var requests, targets, phase powers, phase currents and the load of a study have one most.
+** Reserve and stored energy are from 0 to the rated. In modes 4 and 5 target and band are in mA.
 */
 enum {
     YB_MOST_SECONDS = 86400, /* a step's length, from 1 */
-    YB_MOST_POWER = 100000000, /* W, VA or var: ratings from 1, a load from 0, the others with a sign */
+    YB_MOST_POWER = 100000000, /* W, VA, var or mA: ratings from 1, load and current from 0, others with a sign */
     YB_MOST_IDLE_LOSS = 10000000, /* W, from 0 */
     YB_MOST_WEIGHT = 10000, /* from 1 */
     YB_LEAST_EFFICIENCY = 1000, /* parts in 10,000 */
     YB_MOST_EFFICIENCY = 10000,
-    YB_MOST_BAND = 200000000, /* W, from 0 */
+    YB_MOST_BAND = 200000000, /* W or mA, from 0 */
     YB_MOST_FACTOR = 1000, /* thousandths, from 1 */
-    YB_MOST_MEASURE = 300000000, /* W, with a sign */
+    YB_MOST_MEASURE = 300000000, /* W, with a sign; mA, from 0 */
+    YB_MOST_VOLTS = 40000, /* of a connection, from 1 */
     YB_MOST_BUDGET = 10000 /* passes of a study, from 1 */
 };
 #define YB_MOST_RATED UINT64_C(10000000000000) /* J, from 1 */
@@ -118,8 +119,9 @@ uint64_t yb_value_len(const uint8_t *file, size_t file_len, uint64_t place);
 ** yb_units returns the number of its units, 1 to 64, yb_inverters that of its inverters, 0 to 64, and yb_seconds the
 ** length of its steps, 1 to 86,400. Of a file that is not complete all three return 0.
 **
-** yb_settings stores the settings of the file: mode, target and band in W, factor in thousandths, and the phase
-** choice. Returns 0, or the number of yb_check. The five are written only when 0 is returned.
+** yb_settings stores the settings of the file: mode, target and band in W or in modes 4 and 5 in mA, factor in
+** thousandths, and the phase choice. Returns 0, or the number of yb_check. The five are written only when 0 is
+** returned.
 **
 ** yb_unit stores the values of one unit, counted from 0, as they are before the first step: rated, reserve and stored
 ** energy; power rating, kVA rating, idle loss and var request; weight; the efficiencies of inverter, charge and
@@ -128,10 +130,13 @@ uint64_t yb_value_len(const uint8_t *file, size_t file_len, uint64_t place);
 ** yb_var_limits stores how many vars that unit may provide and how many it may absorb, each 0 to its kVA rating; in a
 ** file of edition 1 both are the kVA rating.
 **
-** Both return 0, or the first of these that holds:
+** yb_connection stores the connection of that unit: its phases, 1 or 3, and its volts from phase to neutral, 1 to
+** 40,000. Files of modes 4 and 5 have connections, others may.
+**
+** The three return 0, or the first of these that holds:
 **     the number of yb_check
-**    10  the file's fleet has no such unit
-** The twelve, and the two, are written only when 0 is returned.
+**    10  the file's fleet has no such unit or, for yb_connection, the file has no connections
+** The twelve, and the two of each, are written only when 0 is returned.
 */
 uint32_t yb_units(const uint8_t *file, size_t file_len);
 uint32_t yb_inverters(const uint8_t *file, size_t file_len);
@@ -142,6 +147,7 @@ uint32_t yb_unit(const uint8_t *file, size_t file_len, uint32_t unit, uint64_t *
     uint64_t *stored, uint32_t *rating, uint32_t *kva, uint32_t *idle_loss, int32_t *var_request, uint16_t *weight,
     uint16_t *inverter, uint16_t *charge, uint16_t *discharge, uint8_t *priority);
 uint32_t yb_var_limits(const uint8_t *file, size_t file_len, uint32_t unit, uint32_t *provide, uint32_t *absorb);
+uint32_t yb_connection(const uint8_t *file, size_t file_len, uint32_t unit, uint8_t *phases, uint16_t *volts);
 
 /* Run a file: take its steps in turn, each one pass of the controller (none where the reading is missing), one step of
 ** every unit and one of every inverter, and write the result file.
@@ -176,7 +182,7 @@ uint32_t yb_run(const uint8_t *file, size_t file_len, uint8_t *room, size_t room
 */
 uint32_t yb_watts(double kw, int32_t *watts);
 
-/* Make one controller pass over a fleet.
+/* Make one controller pass over a fleet, by watts.
 **
 ** mode is 1 PeakShave, 2 Support or 3 PeakShaveLow; target is -100,000,000 to 100,000,000 W, band 0 to
 ** 200,000,000 W, factor 1 to 1,000 thousandths, measure -300,000,000 to 300,000,000 W.
@@ -201,11 +207,36 @@ uint32_t yb_pass(uint8_t mode, int32_t target, uint32_t band, uint16_t factor, i
     const uint16_t *weight, size_t weight_len, int32_t *requests, size_t requests_len,
     int64_t *need, uint8_t *changed);
 
+/* Make one controller pass over a fleet, by current.
+**
+** mode is 4 I-PeakShave or 5 I-PeakShaveLow; target is -100,000,000 to 100,000,000 mA, band 0 to 200,000,000 mA, factor
+** 1 to 1,000 thousandths, measure 0 to 300,000,000 mA.
+**
+** The eight lists have an element for each unit of the fleet, 1 to 64 of them: six are those of yb_pass; phases is 1 or
+** 3, volts, from phase to neutral, 1 to 40,000. What the measure is above the target becomes watts for each unit, by
+** its phases times its volts, and so does the band; each unit then has a share of its own need.
+**
+** Stores the new requests, in W, over the old ones, in *need the need in mA that the pass found, measure less target,
+** and in *changed 1 if a request is another than before, else 0. A unit that cannot help gets 0, as in yb_pass: mode 4
+** is as mode 1 there, 5 as 3.
+**
+** Returns 0, or the first of these that holds:
+**    10  the lists are not of one length, or it is 0 or above 64
+**     5  a value is outside its range
+**    10  a request is beyond its unit's rating, or there are requests of both signs
+** requests, *need and *changed are written only when 0 is returned.
+*/
+uint32_t yb_pass_current(uint8_t mode, int32_t target, uint32_t band, uint16_t factor, int64_t measure,
+    const uint64_t *rated, size_t rated_len, const uint64_t *reserve, size_t reserve_len,
+    const uint64_t *stored, size_t stored_len, const uint32_t *rating, size_t rating_len,
+    const uint16_t *weight, size_t weight_len, const uint8_t *phases, size_t phases_len,
+    const uint16_t *volts, size_t volts_len, int32_t *requests, size_t requests_len, int64_t *need, uint8_t *changed);
+
 /* Study where a fleet settles over a fixed load.
 **
 ** Makes passes in mode 1 from requests of zero, each over a measure of the load less the sum of all
 ** requests, until one changes nothing or budget passes are made. load is 0 to 100,000,000 W, budget 1 to
-** 10,000; the other values are as for yb_pass. What requests holds before the call does not matter.
+** 10,000; the other values are as for yb_pass, in W. What requests holds before the call does not matter.
 **
 ** Stores the last requests in requests, in *settled 1 if the last pass changed nothing, else 0, and in
 ** *passes the number of passes that changed a request.
@@ -224,7 +255,8 @@ uint32_t yb_settle(int64_t load, int32_t target, uint32_t band, uint16_t factor,
 /* Study where the fleet of a complete file settles over a fixed load.
 **
 ** This is yb_settle over the file's units, as they are before the first step, and its target, band and factor; mode
-** and phase choice of the file do not matter. requests has an element for each unit of the file.
+** and phase choice of the file do not matter: target and band of a file of mode 4 or 5, which are in mA, are taken as
+** W. requests has an element for each unit of the file.
 **
 ** Returns 0, or the first of these that holds:
 **     the number of yb_check
@@ -343,8 +375,8 @@ enum { YB_CHANGE_BYTES = 17 };
 
 /* Rescue a damaged file: keep of it what can be kept, as a file that yb_check accepts, and list what was changed.
 **
-** The size of the file and its fields up to the first step must be good. From there on a power reading that does not
-** convert becomes a missing one, and its step stays. At any other fault the rescue ends; all bytes from there on are
+** The size of the file and its fields up to the first step must be good. From there on a reading that does not convert
+** becomes a missing one, and its step stays. At any other fault the rescue ends; all bytes from there on are
 ** dropped, and an end field with the number of steps before it takes their place. A weather whose reading is lost that
 ** way is dropped with it. Bytes behind a good end field are dropped. So a complete file comes back as it is.
 **
@@ -360,8 +392,9 @@ enum { YB_CHANGE_BYTES = 17 };
 ** Returns 0, or the first of these that holds:
 **    12  the file is longer than 2,097,152 bytes; the place is 0, and so are the steps
 **     the number of yb_check, whose place and steps are the check's, if that is for a field due before the steps: at a
-**     fleet, unit or settings, at a curve that an inverter waits for, at whatever stands there instead of these, and
-**     before any weather or reading also at a further inverter or a curve
+**     fleet, unit or settings, at connections that the mode asks for, at a curve that an inverter waits for, at
+**     whatever stands there instead of these, and before any weather or reading also at a further inverter, a curve or
+**     connections
 **    12  the rescued file would be longer than 2,097,152 bytes; the place is 0, and so are the steps
 **    11  out is shorter than the rescued file, or list shorter than the changes; the place is then the file's length,
 **        and the steps are those of yb_rescue_steps

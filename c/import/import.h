@@ -1,9 +1,9 @@
 /* What the parts of the import tool share; each part says at its start what it does.
 **
-** What a stick says is asked of the library, and nothing here reads a stick's values by itself, but for two that no
-** call tells: the edition, and the S of a unit that was refused; and in what a rescue gives the count of the end. The
-** library's answers are proved, but nothing here trusts them with memory: a place or a size that cannot be about the
-** file is a fault, is told, and ends the command.
+** What a stick says is asked of the library, and nothing here reads a stick's values by itself, but for four that no
+** call tells of a stick that is refused: the edition, the number of units, the mode, and the S of a unit; and in what a
+** rescue gives the count of the end. The library's answers are proved, but nothing here trusts them with memory: a place
+** or a size that cannot be about the file is a fault, is told, and ends the command.
 */
 #ifndef IMPORT_H
 #define IMPORT_H
@@ -28,16 +28,22 @@ enum {
     INVERTER_TAG = 0x06,
     CURVE_TAG = 0x07,
     WEATHER_TAG = 0x08,
+    CURRENT_TAG = 0x09,
+    CONNECTIONS_TAG = 0x0A,
     END_TAG = 0x7F
 };
 
-/* What stands before a place: how many units and inverters, how many curves right before it, and the last tag, which
-** is 0 where nothing does.
+/* What stands before a place: how many units and inverters, how many curves right before it, the mode of the settings,
+** 0 where there are none, and the last tag, which is 0 where nothing does.
 */
 struct before {
     unsigned units, inverters, curves;
-    uint8_t last;
+    uint8_t mode, last;
 };
+
+/* Whether a mode goes by current; and a field is one that closes a step. */
+int is_by_current(unsigned mode);
+int is_reading(uint8_t tag);
 
 /* A stick as far as it was fed to the library, and the library's answer. A caller gives its name; and says whether the
 ** bytes of a refused field are to be shown, and whether all bytes are to be kept, to be fed again. All else is the
@@ -170,6 +176,12 @@ int fault(const char *name);
 */
 enum { LIMITS_EDITION = 2, OLDER_MODEL_EDITION = 3 };
 unsigned edition_of(const struct stick *stick);
+
+/* The units that the fleet counts; 0 where there is no fleet, or it is refused. */
+unsigned fleet_units(const struct stick *stick);
+
+/* What a mode is called, in brackets behind its number; nothing for a number that is no mode. */
+const char *mode_name(unsigned mode);
 
 /* Print a file's line and, of a refused one, what to do; and the refused field's bytes where they are shown. */
 void print_answer(const struct stick *stick);

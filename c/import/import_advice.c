@@ -9,9 +9,12 @@
 */
 enum { UNIT_BYTES = 49, LIMITED_UNIT_BYTES = 57, UNIT_S = 28, UNIT_S_WIDTH = 4 };
 
+/* The bytes that connections have for each unit. */
+enum { CONNECTION_BYTES = 3 };
+
 /* What stands in the file's line, and what the person should know and do. In the second, # is the field that is
-** meant, ! what should be in its place, @ the row of the readings, and ~ the fleet's edition; of a unit, % is the
-** length that it says, & the one that it should have, and $ its S.
+** meant, ! what should be in its place, @ the row of the readings, ^ the mode, and ~ the fleet's edition; of a unit
+** or of connections, % is the length that it says, & the one that it should have, and $ a unit's S.
 */
 struct words {
     const char *name, *advice;
@@ -79,8 +82,8 @@ static const struct words one_too_many = {"field out of order",
     "Here the file has #, and a stick holds at most 64. Ask the manager to write the stick anew with no more "
     "inverters than that."};
 static const struct words after_steps = {"field out of order",
-    "Here the file has #, where ! should be: inverters and their curves come before the first step. Do not repair "
-    "the file; ask the manager to write the stick anew."};
+    "Here the file has #, where ! should be: connections, inverters and their curves come before the first step. Do "
+    "not repair the file; ask the manager to write the stick anew."};
 static const struct words no_reading = {"field out of order",
     "Here the file has #, and the weather before it has no reading, which would close its step. Ask the manager for "
     "@, or to leave that weather out, and to write the stick anew."};
@@ -94,6 +97,26 @@ static const struct words bad_weather = {"reading not usable",
     "The irradiance or the temperature is no number or is beyond 100,000, or the irradiance is below 0. Ask the "
     "manager for the weather of @, and have it entered again or left out; without it the step has no sun."};
 
+/* The same where it is about a reading's kind, a current, or the units' connections. */
+static const struct words power_by_current = {"value out of range",
+    "The reading has powers, and in mode ^, which goes by current, a reading has currents or is missing. Ask the "
+    "manager for @ in amperes, or whether the mode of the settings is right, and to write the stick anew."};
+static const struct words current_by_watts = {"value out of range",
+    "The reading has currents, and in mode ^, which goes by watts, a reading has powers or is missing. Ask the manager "
+    "for @ in kW, or whether the mode of the settings is right, and to write the stick anew."};
+static const struct words bad_current = {"reading not usable",
+    "A phase current is no number, is below 0 or is beyond 100,000 A. Ask the manager for @, and have it entered again "
+    "or marked as missing."};
+static const struct words no_connections = {"field out of order",
+    "Here the file has #, where ! should be: in mode ^ a stick says the phases and volts of every unit. Do not repair "
+    "the file; ask the manager to write the stick anew, with the connections."};
+static const struct words connections_length = {"wrong length",
+    "The length of # is %, and for the units of this fleet it is &, three bytes for each. Copy the stick again; if it "
+    "stays so, ask the manager to write it anew."};
+static const struct words bad_connections = {"value out of range",
+    "In # the phases of a unit are not 1 or 3, or its volts are not 1 to 40,000. Ask the manager to correct # and to "
+    "write the stick anew."};
+
 /* The tag of the refused field; 0 where its tag and length are not there. */
 static uint8_t refused_tag(const struct stick *stick)
 {
@@ -102,15 +125,17 @@ static uint8_t refused_tag(const struct stick *stick)
 
 static int has_steps_before(const struct before *before)
 {
-    return before->last == POWER_TAG || before->last == MISSING_TAG || before->last == WEATHER_TAG;
+    return is_reading(before->last) || before->last == WEATHER_TAG;
 }
 
 static const struct words *order_words(uint8_t tag, const struct before *before)
 {
     if (tag == INVERTER_TAG && before->inverters == YB_MOST_INVERTERS && before->curves == 2)
         return &one_too_many;
-    if ((tag == INVERTER_TAG || tag == CURVE_TAG) && has_steps_before(before))
+    if ((tag == INVERTER_TAG || tag == CURVE_TAG || tag == CONNECTIONS_TAG) && has_steps_before(before))
         return &after_steps;
+    if (before->last == SETTINGS_TAG && is_by_current(before->mode))
+        return &no_connections;
     return tag == END_TAG && before->last == WEATHER_TAG ? &no_reading : &refusals[YB_OUT_OF_ORDER];
 }
 
@@ -145,6 +170,12 @@ static const struct words *range_words(const struct stick *stick, uint8_t tag)
         return &bad_inverter;
     case CURVE_TAG:
         return &bad_curve;
+    case POWER_TAG:
+        return &power_by_current;
+    case CURRENT_TAG:
+        return &current_by_watts;
+    case CONNECTIONS_TAG:
+        return &bad_connections;
     default:
         return &refusals[YB_OUT_OF_RANGE];
     }
@@ -158,10 +189,14 @@ static const struct words *words_of(const struct stick *stick)
         return order_words(tag, &stick->before);
     if (number == YB_WRONG_LENGTH && tag == UNIT_TAG)
         return unit_length_words(stick);
+    if (number == YB_WRONG_LENGTH && tag == CONNECTIONS_TAG && edition_of(stick) != 0)
+        return &connections_length;
     if (number == YB_OUT_OF_RANGE)
         return range_words(stick, tag);
     if (number == YB_NOT_USABLE && tag == WEATHER_TAG)
         return &bad_weather;
+    if (number == YB_NOT_USABLE && tag == CURRENT_TAG)
+        return &bad_current;
     if (number == YB_TOO_MANY && stick->place == 0)
         return &too_long;
     return refusals[number].name != NULL ? &refusals[number] : &refusals[0];
@@ -200,6 +235,7 @@ static void print_field(uint8_t tag, const struct before *before)
         printf("the settings");
         break;
     case POWER_TAG:
+    case CURRENT_TAG:
     case MISSING_TAG:
         printf("a reading");
         break;
@@ -211,6 +247,9 @@ static void print_field(uint8_t tag, const struct before *before)
         break;
     case WEATHER_TAG:
         printf("a weather");
+        break;
+    case CONNECTIONS_TAG:
+        printf("the connections");
         break;
     case END_TAG:
         printf("the end");
@@ -234,9 +273,19 @@ static void print_behind_units(uint8_t tag, const struct before *before)
         printf("the settings");
 }
 
-static void print_behind_settings(const struct before *before)
+/* What may stand behind the connections; and behind the settings, where these may still come and in some modes must. */
+static void print_behind_connections(const struct before *before)
 {
     printf("%sa step or the end", before->inverters < YB_MOST_INVERTERS ? "an inverter, " : "");
+}
+
+static void print_behind_settings(const struct before *before)
+{
+    printf("the connections");
+    if (is_by_current(before->mode))
+        return;
+    printf(", ");
+    print_behind_connections(before);
 }
 
 static void print_due(uint8_t tag, const struct before *before)
@@ -261,7 +310,10 @@ static void print_due(uint8_t tag, const struct before *before)
         if (before->curves == 1)
             print_curve(before);
         else
-            print_behind_settings(before);
+            print_behind_connections(before);
+        break;
+    case CONNECTIONS_TAG:
+        print_behind_connections(before);
         break;
     case WEATHER_TAG:
         printf("the reading that follows a weather");
@@ -280,7 +332,7 @@ static void print_row(uint32_t steps)
         printf("the row of readings after the first %" PRIu32, steps);
 }
 
-/* The edition, and the numbers of a unit's field, by what marks them. */
+/* The edition, the mode, and the numbers of a unit's field or of connections, by what marks them. */
 static uint64_t marked_number(char mark, const struct stick *stick)
 {
     switch (mark) {
@@ -288,8 +340,10 @@ static uint64_t marked_number(char mark, const struct stick *stick)
         return edition_of(stick);
     case '%':
         return said_length(stick);
+    case '^':
+        return stick->before.mode;
     case '&':
-        return unit_length(stick);
+        return refused_tag(stick) == UNIT_TAG ? unit_length(stick) : CONNECTION_BYTES * fleet_units(stick);
     default:
         return number_at(refused_bytes(stick) + HEADER + UNIT_S, UNIT_S_WIDTH);
     }
@@ -316,6 +370,7 @@ void print_advice(const struct stick *stick)
             print_row(stick->steps);
             break;
         case '~':
+        case '^':
         case '%':
         case '&':
         case '$':

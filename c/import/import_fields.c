@@ -75,10 +75,20 @@ static int put_aside(struct stick *stick, const uint8_t *field, size_t len)
     return COMPLETE;
 }
 
+int is_by_current(unsigned mode)
+{
+    return mode == YB_I_PEAK_SHAVE || mode == YB_I_PEAK_SHAVE_LOW;
+}
+
+int is_reading(uint8_t tag)
+{
+    return tag == POWER_TAG || tag == CURRENT_TAG || tag == MISSING_TAG;
+}
+
 /* From the first step on there are only these. */
 static int is_of_steps(uint8_t tag)
 {
-    return tag == POWER_TAG || tag == MISSING_TAG || tag == WEATHER_TAG || tag == END_TAG;
+    return is_reading(tag) || tag == WEATHER_TAG || tag == END_TAG;
 }
 
 /* Counts the whole fields from the window's start up to an end, and gives in *past the bytes that they have. */
@@ -93,6 +103,8 @@ static int count_fields(struct stick *stick, size_t end, size_t *past)
         if (!is_of_steps(field[0]) && put_aside(stick, field, len) != COMPLETE)
             return FAILED;
         before->last = field[0];
+        if (before->last == SETTINGS_TAG)
+            before->mode = field[HEADER];
         before->units += before->last == UNIT_TAG;
         before->inverters += before->last == INVERTER_TAG;
         before->curves = before->last == CURVE_TAG ? before->curves + 1 : 0;

@@ -13,7 +13,7 @@
 /* A change in the list, by its first bytes; the value of a power reading; and the end field, by its last four bytes,
 ** which count the steps.
 */
-enum { CHANGE_KIND = 8, CHANGE_DROPPED = 9, POWER_BYTES = 24, END_COUNT = 3, END_BYTES = 7 };
+enum { CHANGE_KIND = 8, CHANGE_DROPPED = 9, READING_BYTES = 24, END_COUNT = 3, END_BYTES = 7 };
 
 /* FILE, or a byte more of it than may be lent; what is kept of it; the list; FILE with its readings made missing. */
 static uint8_t file[YB_MOST_FILE_BYTES + 1], kept[YB_MOST_FILE_BYTES];
@@ -82,7 +82,7 @@ static int pass_kept(struct walk *walk, const struct rescue *rescue, uint64_t pl
         const uint8_t *field = file + walk->in;
         if (place - walk->in < HEADER || place - walk->in < field_len(field))
             return 0;
-        walk->readings += field[0] == POWER_TAG || field[0] == MISSING_TAG;
+        walk->readings += is_reading(field[0]);
         walk->in += field_len(field);
     }
     if (memcmp(file + from, kept + walk->out, walk->in - from) != 0)
@@ -94,11 +94,14 @@ static int pass_kept(struct walk *walk, const struct rescue *rescue, uint64_t pl
 /* The same for a reading that was made missing, and for the last change, which takes all that is left. */
 static int pass_reading(struct walk *walk, const struct rescue *rescue, uint64_t dropped)
 {
-    static const uint8_t power[] = {POWER_TAG, 0, POWER_BYTES}, missing[] = {MISSING_TAG, 0, 0};
-    if (dropped != POWER_BYTES || rescue->len - walk->in < HEADER + POWER_BYTES || rescue->room - walk->out < HEADER ||
-        memcmp(file + walk->in, power, HEADER) != 0 || memcmp(kept + walk->out, missing, HEADER) != 0)
+    static const uint8_t missing[] = {MISSING_TAG, 0, 0};
+    const uint8_t *field = file + walk->in;
+    if (dropped != READING_BYTES || rescue->len - walk->in < HEADER + READING_BYTES ||
+        rescue->room - walk->out < HEADER || memcmp(kept + walk->out, missing, HEADER) != 0)
         return 0;
-    walk->in += HEADER + POWER_BYTES;
+    if ((field[0] != POWER_TAG && field[0] != CURRENT_TAG) || field_len(field) != HEADER + READING_BYTES)
+        return 0;
+    walk->in += HEADER + READING_BYTES;
     walk->out += HEADER;
     walk->readings++;
     return 1;
@@ -227,6 +230,7 @@ static const char *const endings[] = {
     [YB_UNKNOWN_TAG] = "no field begins like the bytes at byte #",
     [YB_WRONG_LENGTH] = "the field at byte # has a wrong length",
     [YB_OUT_OF_ORDER] = "the field at byte # is out of order",
+    [YB_OUT_OF_RANGE] = "the reading at byte # is of another kind than the mode goes by",
     [YB_NOT_USABLE] = "the weather at byte # could not be used",
     [YB_WRONG_COUNT] = "the end field at byte # counted other steps than there are",
     [YB_END_MISSING] = "the stick broke off at byte #, without its end",

@@ -66,6 +66,15 @@ static int refused_study(const char *name, uint32_t number, int64_t load, const 
     return REFUSED;
 }
 
+/* A study has a mode of its own, and says so of a stick that has another. */
+static void print_mode(unsigned mode)
+{
+    if (mode == YB_PEAK_SHAVE)
+        return;
+    printf("a study is in mode 1 (PeakShave) and by watts; the stick's mode is %u%s%s\n", mode, mode_name(mode),
+        is_by_current(mode) ? ", and its target and band, which are in mA, are taken as W" : "");
+}
+
 static void print_study(const struct study *study, const char *name, int64_t load, int64_t budget)
 {
     int64_t sum = 0, target = study->settings.target, band = study->settings.band;
@@ -74,6 +83,7 @@ static void print_study(const struct study *study, const char *name, int64_t loa
         printf(": settled after %" PRIu32 " changing passes\n", study->passes);
     else
         printf(": not settled within %" PRId64 " passes, %" PRIu32 " changed a request\n", budget, study->passes);
+    print_mode(study->settings.mode);
     printf("unit\trequest W\trating W\n");
     for (unsigned i = 0; i < study->units; i++) {
         printf("%u\t%" PRId32 "\t%" PRIu32 "\n", i, study->requests[i], study->ratings[i]);

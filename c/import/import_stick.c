@@ -43,6 +43,19 @@ unsigned edition_of(const struct stick *stick)
     return stick->head_len > HEADER ? stick->head[HEADER] : 0;
 }
 
+unsigned fleet_units(const struct stick *stick)
+{
+    return stick->head_len > HEADER + 1 ? stick->head[HEADER + 1] : 0;
+}
+
+const char *mode_name(unsigned mode)
+{
+    static const char *const names[] = {"", [YB_PEAK_SHAVE] = " (PeakShave)", [YB_SUPPORT] = " (Support)",
+        [YB_PEAK_SHAVE_LOW] = " (PeakShaveLow)", [YB_I_PEAK_SHAVE] = " (I-PeakShave)",
+        [YB_I_PEAK_SHAVE_LOW] = " (I-PeakShaveLow)"};
+    return names[mode < sizeof names / sizeof names[0] ? mode : 0];
+}
+
 /* Why there are no value bytes where the field was refused. */
 static const char *no_value(const struct stick *stick)
 {

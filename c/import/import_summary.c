@@ -115,20 +115,29 @@ static void print_lines(const struct line *lines, const struct stick *stick)
     print_rows(rows, stick->units + 2, COLUMNS);
 }
 
+/* By current they are in milliamperes, and shown in amperes. */
+static void print_target(const struct settings *settings)
+{
+    char target[KW_TEXT], band[KW_TEXT];
+    if (!is_by_current(settings->mode)) {
+        printf("target %" PRId32 " W, band %" PRIu32 " W, ", settings->target, settings->band);
+        return;
+    }
+    kw_text(target, settings->target);
+    kw_text(band, settings->band);
+    printf("target %s A, band %s A, ", target, band);
+}
+
 /* A plan of the older model is told from others, for its power and energy are not to be read beside theirs. */
 static void print_settings(const struct stick *stick, uint32_t seconds, const struct settings *settings)
 {
     static const char older[] = ", older storage model (edition 3): idle loss at the grid";
-    static const char *const modes[] = {
-        [YB_PEAK_SHAVE] = " (PeakShave)", [YB_SUPPORT] = " (Support)", [YB_PEAK_SHAVE_LOW] = " (PeakShaveLow)"};
-    unsigned mode = settings->mode;
-    int named = mode < sizeof modes / sizeof modes[0] && modes[mode] != NULL;
     printf("%u units, ", stick->units);
     if (stick->inverters != 0)
         printf("%u inverters, ", stick->inverters);
-    printf("steps of %" PRIu32 " s, mode %u%s, ", seconds, mode, named ? modes[mode] : "");
-    printf("target %" PRId32 " W, band %" PRIu32 " W, factor %u%s\n", settings->target, settings->band,
-        (unsigned)settings->factor, edition_of(stick) == OLDER_MODEL_EDITION ? older : "");
+    printf("steps of %" PRIu32 " s, mode %u%s, ", seconds, (unsigned)settings->mode, mode_name(settings->mode));
+    print_target(settings);
+    printf("factor %u%s\n", (unsigned)settings->factor, edition_of(stick) == OLDER_MODEL_EDITION ? older : "");
 }
 
 /* All lines, and the seconds of a step. */

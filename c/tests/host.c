@@ -117,11 +117,13 @@ struct lent {
     size_t length, room;
 };
 
-/* The six lists of a fleet in the order of the calls, and up to twelve out-numbers after them. */
-enum { RATED, RESERVE, STORED, RATING, WEIGHT, REQUESTS, LISTS };
+/* The lists of a fleet in the order of the calls, those of its connections among them, and up to twelve out-numbers
+** after them.
+*/
+enum { RATED, RESERVE, STORED, RATING, WEIGHT, PHASES, VOLTS, REQUESTS, LISTS };
 enum { FIRST = LISTS, SECOND, THIRD, FOURTH, FIFTH, TWELFTH = FIRST + 11, ALL_LENT };
 
-static const size_t widths[LISTS] = {8, 8, 8, 4, 2, 4};
+static const size_t widths[LISTS] = {8, 8, 8, 4, 2, 1, 2, 4};
 static struct lent lent[ALL_LENT];
 static struct lent lent_file, lent_room, lent_list, lent_state;
 
@@ -197,11 +199,13 @@ static int disturbed(int from, int to)
     return 0;
 }
 
-/* The lists of a call: their six lengths in elements, u32, and the elements of each list in turn. */
-static void take_lists(struct rest *rest, void *lists[LISTS], size_t lengths[LISTS])
+/* The lists of a call: their lengths in elements, u32, and the elements of each list in turn. Those of the connections
+** are part of a call by current alone; for the others they are empty.
+*/
+static void take_lists(struct rest *rest, void *lists[LISTS], size_t lengths[LISTS], int by_current)
 {
     for (int i = 0; i < LISTS; i++)
-        lengths[i] = take_number(rest, 4);
+        lengths[i] = by_current || (i != PHASES && i != VOLTS) ? take_number(rest, 4) : 0;
     for (int i = 0; i < LISTS; i++) {
         size_t bytes = lengths[i] * widths[i];
         lists[i] = lend(&lent[i], take(rest, bytes), bytes);
@@ -247,12 +251,9 @@ static void put_fleet_left(uint32_t number)
     put_requests();
 }
 
-/* 'P': any number of passes. Each is mode u8, target i32, band u32, factor u16, measure i64, the lists;
-** for each what it left, the need i64 and changed u8.
-*/
-static void call_pass(const uint8_t *payload, size_t length)
+/* Takes the passes of a payload, by power or by current. */
+static void call_passes(struct rest rest, int by_current)
 {
-    struct rest rest = {payload, length, "op P: the payload is no row of passes"};
     while (rest.length != 0) {
         void *list[LISTS];
         size_t n[LISTS];
@@ -261,16 +262,37 @@ static void call_pass(const uint8_t *payload, size_t length)
         uint32_t band = (uint32_t)take_number(&rest, 4);
         uint16_t factor = (uint16_t)take_number(&rest, 2);
         int64_t measure = (int64_t)take_number(&rest, 8);
-        take_lists(&rest, list, n);
+        take_lists(&rest, list, n, by_current);
         int64_t *need = lend_number(&lent[FIRST], sizeof *need);
         uint8_t *changed = lend_number(&lent[SECOND], sizeof *changed);
-        put_fleet_left(yb_pass(mode, target, band, factor, measure, list[RATED], n[RATED], list[RESERVE],
-            n[RESERVE], list[STORED], n[STORED], list[RATING], n[RATING], list[WEIGHT], n[WEIGHT],
-            list[REQUESTS], n[REQUESTS], need, changed));
+        uint32_t number = by_current
+            ? yb_pass_current(mode, target, band, factor, measure, list[RATED], n[RATED], list[RESERVE], n[RESERVE],
+                list[STORED], n[STORED], list[RATING], n[RATING], list[WEIGHT], n[WEIGHT], list[PHASES], n[PHASES],
+                list[VOLTS], n[VOLTS], list[REQUESTS], n[REQUESTS], need, changed)
+            : yb_pass(mode, target, band, factor, measure, list[RATED], n[RATED], list[RESERVE], n[RESERVE],
+                list[STORED], n[STORED], list[RATING], n[RATING], list[WEIGHT], n[WEIGHT], list[REQUESTS],
+                n[REQUESTS], need, changed);
+        put_fleet_left(number);
     }
 }
 
-/* 'T': any number of settling studies. Each is load i64, target i32, band u32, factor u16, budget u32, the
+/* 'P': any number of passes. Each is mode u8, target i32, band u32, factor u16, measure i64, the six lists: rated,
+** reserve, stored, rating, weight, requests; for each what it left, the need i64 and changed u8.
+*/
+static void call_pass(const uint8_t *payload, size_t length)
+{
+    call_passes((struct rest){payload, length, "op P: the payload is no row of passes"}, 0);
+}
+
+/* 'B': any number of passes by current. Each is what a pass of 'P' is, with the lists of phases and volts before the
+** requests; for each what it left, as there.
+*/
+static void call_pass_current(const uint8_t *payload, size_t length)
+{
+    call_passes((struct rest){payload, length, "op B: the payload is no row of passes by current"}, 1);
+}
+
+/* 'T': any number of settling studies. Each is load i64, target i32, band u32, factor u16, budget u32, the six
 ** lists; for each what it left, settled u8 and the passes u32.
 */
 static void call_settle(const uint8_t *payload, size_t length)
@@ -284,7 +306,7 @@ static void call_settle(const uint8_t *payload, size_t length)
         uint32_t band = (uint32_t)take_number(&rest, 4);
         uint16_t factor = (uint16_t)take_number(&rest, 2);
         uint32_t budget = (uint32_t)take_number(&rest, 4);
-        take_lists(&rest, list, n);
+        take_lists(&rest, list, n, 0);
         uint8_t *settled = lend_number(&lent[FIRST], sizeof *settled);
         uint32_t *passes = lend_number(&lent[SECOND], sizeof *passes);
         put_fleet_left(yb_settle(load, target, band, factor, budget, list[RATED], n[RATED], list[RESERVE],
@@ -491,23 +513,48 @@ static void call_one_limits(const uint8_t *file, uint32_t unit)
     put_file_left(yb_var_limits(file, lent_file.length, unit, provide, absorb), FIRST, SECOND);
 }
 
-/* 'U': any number of files and units of them. Each is a count u32, that many unit numbers, u32, and the file;
-** for each unit number what yb_unit left: rated, reserve and stored u64, rating, kva and idle loss u32, var request
-** i32, weight, inverter, charge and discharge u16, priority u8; and what yb_var_limits left: provide and absorb u32.
-*/
-static void call_unit(const uint8_t *payload, size_t length)
+/* The same of both. */
+static void call_unit_and_limits(const uint8_t *file, uint32_t unit)
 {
-    struct rest rest = {payload, length, "op U: the payload is no row of unit numbers and files"};
+    call_one_unit(file, unit);
+    call_one_limits(file, unit);
+}
+
+/* The same of the unit's connection. */
+static void call_one_connection(const uint8_t *file, uint32_t unit)
+{
+    uint8_t *phases = lend_number(&lent[FIRST], sizeof *phases);
+    uint16_t *volts = lend_number(&lent[SECOND], sizeof *volts);
+    put_file_left(yb_connection(file, lent_file.length, unit, phases, volts), FIRST, SECOND);
+}
+
+/* Asks for units of files: each is a count u32, that many unit numbers, u32, and the file. */
+static void call_units(struct rest rest, void (*ask)(const uint8_t *file, uint32_t unit))
+{
     while (rest.length != 0) {
         uint64_t count = take_number(&rest, 4);
         const uint8_t *numbers = take(&rest, 4 * count);
         const uint8_t *file = take_file(&rest);
-        for (uint64_t i = 0; i < count; i++) {
-            uint32_t unit = (uint32_t)number_at(numbers + 4 * i, 4);
-            call_one_unit(file, unit);
-            call_one_limits(file, unit);
-        }
+        for (uint64_t i = 0; i < count; i++)
+            ask(file, (uint32_t)number_at(numbers + 4 * i, 4));
     }
+}
+
+/* 'U': any number of files and units of them; for each unit number what yb_unit left: rated, reserve and stored u64,
+** rating, kva and idle loss u32, var request i32, weight, inverter, charge and discharge u16, priority u8; and what
+** yb_var_limits left: provide and absorb u32.
+*/
+static void call_unit(const uint8_t *payload, size_t length)
+{
+    struct rest rest = {payload, length, "op U: the payload is no row of unit numbers and files"};
+    call_units(rest, call_unit_and_limits);
+}
+
+/* 'N': the same; for each unit number what yb_connection left: phases u8, volts u16. */
+static void call_connection(const uint8_t *payload, size_t length)
+{
+    struct rest rest = {payload, length, "op N: the payload is no row of unit numbers and files"};
+    call_units(rest, call_one_connection);
 }
 
 /* 'Y': any number of studies over files. Each is load i64, budget u32, the length of the requests u32, the
@@ -698,6 +745,7 @@ static const struct {
 } ops[] = {
     {'W', call_watts},
     {'P', call_pass},
+    {'B', call_pass_current},
     {'T', call_settle},
     {'S', call_step},
     {'A', call_step_as},
@@ -706,6 +754,7 @@ static const struct {
     {'V', call_value},
     {'F', call_settings},
     {'U', call_unit},
+    {'N', call_connection},
     {'Y', call_study},
     {'R', call_run},
     {'E', call_feed},

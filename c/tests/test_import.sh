@@ -144,7 +144,8 @@ small_sticks() {
 }
 
 # The suites, each in a part of its own.
-for part in check run faults settle result limits older roof advice feed rescue rescue_out canned rescue_canned; do
+for part in check run faults settle result limits older roof current advice feed rescue rescue_out canned \
+    rescue_canned; do
     # shellcheck disable=SC1090 # one of the parts beside this
     . "c/tests/test_import_$part.sh" || exit 1
 done
@@ -170,6 +171,9 @@ all_suites() {
     roof_result_suite
     other_roof_suite
     refused_roof_suite
+    current_suite
+    current_words_suite
+    current_rescue_suite
     feed_suite
     refused_feed_suite
     pipe_suite

@@ -73,6 +73,7 @@ canned_run_suite() {
     good test "$(sed -n 2p "$work/output")" = \
         '3 units, steps of 3600 s, mode 255, target -1 W, band 2 W, factor 3'
     check 0 "$stick: not settled within 1 passes, 1 changed a request
+a study is in mode 1 (PeakShave) and by watts; the stick's mode is 255
 unit	request W	rating W
 0	1	2
 1	1	2

@@ -104,7 +104,7 @@ were left out from there on"
         not_rescued "examples/refused-$name.stick"
     done
     # None was left out above.
-    good test "$(find examples -name 'refused-*' | wc -l)" = 21
+    good test "$(find examples -name 'refused-*' | wc -l)" = 24
 }
 
 # A stick of one unit, without a roof, of five steps, whose fields are at 76 (weather), 95, 122, 125, 152 (weather),

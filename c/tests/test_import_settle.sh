@@ -35,6 +35,7 @@ sum of requests 0 W, reading left 0 W: not within half the band (20 W) of the ta
     good like "$status $output" '0 *sum of requests 1100 W, reading left 99998900 W: not within *'
     # The mode of the file is not the study's.
     check 0 "$work/taking: settled after 1 changing passes
+a study is in mode 1 (PeakShave) and by watts; the stick's mode is 3 (PeakShaveLow)
 unit	request W	rating W
 0	5000	5000
 sum of requests 5000 W, reading left 1000 W: not within half the band (0 W) of the target (0 W)" '' \

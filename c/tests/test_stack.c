@@ -18,6 +18,7 @@ enum { UNITS = 64, STEPS = 8760, HEAD = 9 + 52 * UNITS + 15, FILE_LEN = HEAD + 2
 enum { INVERTERS = 64, INVERTER = 22 + 132 + 132, ROOF_HEAD = HEAD + INVERTER * INVERTERS };
 enum { ROOF_LEN = ROOF_HEAD + (19 + 27) * STEPS + 7, TOO_LONG = 2097153 };
 enum { LIMITS = 8, LIMITED_LEN = FILE_LEN + LIMITS * UNITS };
+enum { CONNECTIONS = 3 + 3 * UNITS, CURRENT_LEN = FILE_LEN + CONNECTIONS };
 enum { BAD_LEN = HEAD + 27 * (YB_MOST_STEPS + 1), KEPT_LEN = HEAD + 3 * YB_MOST_STEPS + 7 };
 enum { ROOF_CUT = ROOF_LEN - 7 - 27, ROOF_KEPT = ROOF_HEAD + (19 + 3) * (STEPS - 1) + 7 };
 enum { RESULT_LEN = 40 * UNITS * STEPS + 7, ROOF_RESULT_LEN = (40 * UNITS + 29 * INVERTERS) * STEPS + 7 };
@@ -26,11 +27,13 @@ static uint8_t *stack;
 static ucontext_t home, away;
 
 /* What the calls are about, and the answers that were not as expected. */
-static uint8_t file[TOO_LONG], result[ROOF_RESULT_LEN], state[23163], list[YB_CHANGE_BYTES * (YB_MOST_STEPS + 1)];
+static uint8_t file[TOO_LONG], result[ROOF_RESULT_LEN], state[23421], list[YB_CHANGE_BYTES * (YB_MOST_STEPS + 1)];
 static uint64_t rated[UNITS], reserve[UNITS], stored[UNITS];
 static uint32_t rating[UNITS];
 static uint16_t weight[UNITS];
 static int32_t requests[UNITS];
+static uint8_t phases[UNITS];
+static uint16_t volts[UNITS];
 static unsigned wrong;
 
 static void expect(uint64_t got, uint64_t expected)
@@ -196,6 +199,32 @@ static void put_edition(uint8_t edition, uint8_t mode)
 static void put_file(uint8_t mode)
 {
     put_edition(1, mode);
+}
+
+/* Each unit's connection is another, and one in two has three phases. */
+static uint8_t *put_connections(uint8_t *at)
+{
+    put(at, 0x0A0000 + 3 * UNITS, 3);
+    for (unsigned i = 0; i < UNITS; i++) {
+        phases[i] = i % 2 == 0 ? 1 : 3;
+        volts[i] = (uint16_t)(1 + 634 * i);
+        put(at + 3 + 3 * i, phases[i], 1);
+        put(at + 4 + 3 * i, volts[i], 2);
+    }
+    return at + CONNECTIONS;
+}
+
+/* A complete file by current: the readings are those of a file by watts, none of them below 0. */
+static void put_current(uint8_t mode)
+{
+    uint8_t *at = put_connections(put_head(1, mode));
+    for (unsigned step = 0; step < STEPS; step++, at += 27) {
+        put_reading(at, step);
+        at[0] = 0x09;
+        for (unsigned phase = 0; phase < 3; phase++)
+            at[3 + 8 * phase] &= 0x7F;
+    }
+    put_end(at);
 }
 
 /* One with as many inverters as there can be, and weather in every step. */
@@ -364,6 +393,22 @@ static void call_var_limits(void)
     expect_units(ask_limits, FILE_LEN);
 }
 
+static uint32_t ask_connection(size_t len, uint32_t unit)
+{
+    uint8_t unit_phases;
+    uint16_t unit_volts;
+    return yb_connection(file, len, unit, &unit_phases, &unit_volts);
+}
+
+/* Of a file that has connections, and of one that has none. */
+static void call_connection(void)
+{
+    put_current(4);
+    expect_units(ask_connection, CURRENT_LEN);
+    put_file(1);
+    expect(ask_connection(FILE_LEN, 0), 10);
+}
+
 /* The check of a complete file of any length, what the file says, and the check of it cut. */
 static void expect_complete(size_t len, uint64_t room)
 {
@@ -435,6 +480,16 @@ static void call_older_run(void)
     expect_limited_run(3);
 }
 
+/* By current. */
+static void call_current_run(void)
+{
+    for (uint8_t mode = 4; mode <= 5; mode++) {
+        put_current(mode);
+        expect(yb_run(file, CURRENT_LEN, result, RESULT_LEN), 0);
+    }
+    expect(yb_run(file, CURRENT_LEN, result, RESULT_LEN - 1), 11);
+}
+
 /* The same in edition 1 with 64 inverters. */
 static void call_roof_run(void)
 {
@@ -483,7 +538,7 @@ static void call_roof_feed(void)
 {
     put_roof_file(1);
     expect(feed_file(ROOF_LEN, 65536), 0);
-    expect(feed_file(ROOF_HEAD, 131), 8);
+    expect(feed_file(ROOF_HEAD, 194), 8);
     expect(feed_file(ROOF_LEN - 8, 300000), 1);
     expect(yb_feed_place(state, sizeof state), ROOF_LEN - 34);
     expect(yb_feed_steps(state, sizeof state), STEPS - 1);
@@ -567,6 +622,20 @@ static void call_pass(void)
             expect(yb_pass(mode, 50000, 10, 999, mode == 3 ? -300000000 : 300000000, rated, UNITS, reserve, UNITS,
                 stored, UNITS, rating, UNITS, weight, UNITS, requests, UNITS, &need, &changed),
                 mode >= 1 && mode <= 3 ? 0 : 5);
+        }
+}
+
+static void call_pass_current(void)
+{
+    put_connections(file);
+    for (uint8_t mode = 3; mode <= 6; mode++)
+        for (int sign = -1; sign <= 1; sign++) {
+            int64_t need;
+            uint8_t changed;
+            put_fleet(sign * 100000);
+            expect(yb_pass_current(mode, mode == 5 ? 100000000 : 50000, 10, 999, mode == 5 ? 0 : 300000000, rated,
+                UNITS, reserve, UNITS, stored, UNITS, rating, UNITS, weight, UNITS, phases, UNITS, volts, UNITS,
+                requests, UNITS, &need, &changed), mode == 4 || mode == 5 ? 0 : 5);
         }
 }
 
@@ -684,12 +753,14 @@ static const struct {
     {"yb_settings", call_settings},
     {"yb_unit", call_unit},
     {"yb_var_limits", call_var_limits},
+    {"yb_connection", call_connection},
     {"the check and what a file says, in editions 2 and 3", call_limited_check},
     {"the check and what a file says, with 64 inverters", call_roof_check},
     {"yb_run_room", call_run_room},
     {"yb_run", call_run},
     {"yb_run in edition 2", call_limited_run},
     {"yb_run in edition 3", call_older_run},
+    {"yb_run by current", call_current_run},
     {"yb_run with 64 inverters", call_roof_run},
     {"yb_feed and the calls beside it, in edition 3", call_feed},
     {"yb_feed and the calls beside it, with 64 inverters", call_roof_feed},
@@ -700,6 +771,7 @@ static const struct {
     {"yb_rescue and the calls beside it, with 64 inverters", call_roof_rescue},
     {"yb_watts", call_watts},
     {"yb_pass", call_pass},
+    {"yb_pass_current", call_pass_current},
     {"yb_settle", call_settle},
     {"yb_study", call_study},
     {"yb_step", call_step},

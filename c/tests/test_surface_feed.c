@@ -12,7 +12,7 @@
 #include "test_surface_roof.h"
 #include "yesbrulka.h"
 
-enum { STATE = 23163, STAGE = 13, LAST = 7, MOST_RESULT = 400 };
+enum { STATE = 23421, STAGE = 13, LAST = 7, MOST_RESULT = 400 };
 
 /* What *written holds before a call. */
 #define LEFT_ALONE UINT64_C(0x5A5A5A5A5A5A5A5A)

@@ -100,6 +100,26 @@ static uint8_t *put_inverter(uint8_t *at)
     return put_curve(at, 0, 10000);
 }
 
+static uint8_t *put_connections(uint8_t *at, const struct file *file)
+{
+    at = put(put(at, 0x0A, 1), 3 * file->units, 2);
+    for (size_t i = 0; i < file->units; i++)
+        at = put(put(at, file->connection[i].phases, 1), file->connection[i].volts, 2);
+    return at;
+}
+
+/* Three powers or, by current, three currents, none of which is below 0. */
+static uint8_t *put_reading(uint8_t *at, uint8_t mode)
+{
+    enum { SECOND = 11 };
+    memcpy(at, complete + 76, 27);
+    if (mode >= 4) {
+        at[0] = 0x09;
+        at[SECOND] &= 0x7F;
+    }
+    return at + 27;
+}
+
 /* 1.5 kW/m2 and minus 2 degrees C. */
 static uint8_t *put_weather(uint8_t *at)
 {
@@ -116,10 +136,11 @@ void write_file(struct file *file)
     for (size_t i = 0; i < file->units; i++)
         at = put_unit(at, file->edition, &file->unit[i], &file->limits[i]);
     at = put_settings(at, &file->settings);
+    if (file->is_connected)
+        at = put_connections(at, file);
     for (size_t i = 0; i < file->inverters; i++)
         at = put_inverter(at);
-    memcpy(at, complete + 76, 27);
-    at += 27;
+    at = put_reading(at, file->settings.mode);
     if (file->inverters != 0)
         at = put_weather(at);
     memcpy(at, complete + 76 + 27, 3);
@@ -154,6 +175,7 @@ void draw_file(struct file *file, size_t units)
     file->edition = 1;
     file->units = units;
     file->inverters = 0;
+    file->is_connected = 0;
     file->seconds = (uint32_t)draw_between(1, 86400);
     for (size_t i = 0; i < units; i++) {
         file->unit[i] = draw_unit();
@@ -167,6 +189,17 @@ void draw_file(struct file *file, size_t units)
         .factor = (uint16_t)draw_between(1, 1000),
         .phase = (uint8_t)draw(6),
     };
+    write_file(file);
+}
+
+void connect_file(struct file *file, uint8_t mode)
+{
+    file->is_connected = 1;
+    file->settings.mode = mode;
+    for (size_t i = 0; i < file->units; i++) {
+        file->connection[i].phases = draw(2) == 0 ? 1 : 3;
+        file->connection[i].volts = (uint16_t)draw_between(1, 40000);
+    }
     write_file(file);
 }
 

@@ -7,10 +7,10 @@
 #include <stddef.h>
 #include <stdint.h>
 
-enum { MOST_UNITS = 64, MOST_INVERTERS = 64, MOST_HEAD = 9 + 60 * MOST_UNITS + 15 + 286 * MOST_INVERTERS };
+enum { MOST_UNITS = 64, MOST_INVERTERS = 64, MOST_HEAD = 9 + 63 * MOST_UNITS + 18 + 286 * MOST_INVERTERS };
 enum { MOST_FILE = MOST_HEAD + 27 + 19 + 3 + 7 };
 
-/* The values of a unit, its var limits and the settings, in the order of the calls. */
+/* The values of a unit, its var limits, its connection and the settings, in the order of the calls. */
 struct unit {
     uint64_t rated, reserve, stored;
     uint32_t rating, kva, idle_loss;
@@ -23,6 +23,11 @@ struct limits {
     uint32_t provide, absorb;
 };
 
+struct connection {
+    uint8_t phases;
+    uint16_t volts;
+};
+
 struct settings {
     uint8_t mode;
     int32_t target;
@@ -32,7 +37,8 @@ struct settings {
 };
 
 /* What a file says, and its bytes: a head, a reading, a missing one with weather, and the end. Of the inverters, whose
-** values no call tells, there is only the number. The limits do not stand in the bytes of an edition 1 file.
+** values no call tells, there is only the number. The limits do not stand in the bytes of an edition 1 file, and the
+** connections not in those of one that is not connected; one by current, of mode 4 or 5, must be.
 */
 struct file {
     uint8_t edition;
@@ -40,6 +46,8 @@ struct file {
     uint32_t seconds;
     struct unit unit[MOST_UNITS];
     struct limits limits[MOST_UNITS];
+    int is_connected;
+    struct connection connection[MOST_UNITS];
     struct settings settings;
     uint8_t bytes[MOST_FILE];
     size_t len;
@@ -55,6 +63,9 @@ void write_file(struct file *file);
 ** edition. Each value is at its least or its most now and then, and else anything between.
 */
 void draw_file(struct file *file, size_t units);
+
+/* The same with connections, which are drawn, and in a mode. */
+void connect_file(struct file *file, uint8_t mode);
 
 /* The same in another edition: the bytes are written anew. */
 void set_edition(struct file *file, uint8_t edition);

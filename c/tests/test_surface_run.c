@@ -364,7 +364,7 @@ static void test_run_refused(void)
         uint8_t byte;
         uint32_t number;
     } changes[] = {{0, 0x7E, 2}, {2, 5, 3}, {4, 2, 4}, {3, 2, 3}, {3, 3, 3}, {3, 4, 5}, {4, 65, 5}, {53, 0, 5},
-        {64, 4, 5}, {79, 0x7F, 6}, {142, 3, 7}};
+        {64, 4, 4}, {64, 6, 5}, {79, 0x7F, 6}, {142, 3, 7}};
     for (size_t i = 0; i < sizeof changes / sizeof changes[0]; i++) {
         memcpy(file, complete, sizeof complete);
         file[changes[i].at] = changes[i].byte;

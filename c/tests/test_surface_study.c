@@ -191,7 +191,7 @@ static void test_study_refused(void)
         uint8_t byte;
         uint32_t number;
     } changes[] = {{0, 0x7E, 2}, {2, 5, 3}, {4, 3, 4}, {3, 2, 3}, {3, 3, 3}, {3, 4, 5}, {4, 0, 5}, {4, 65, 5},
-        {53, 0, 5}, {116, 4, 5}, {127, 6, 5}, {131, 0x7F, 6}, {164, 3, 7}};
+        {53, 0, 5}, {116, 4, 4}, {116, 6, 5}, {127, 6, 5}, {131, 0x7F, 6}, {164, 3, 7}};
     enum { TOO_LONG = 2097153 };
     struct file file;
     uint8_t *bytes = calloc(1, TOO_LONG);

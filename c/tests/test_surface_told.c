@@ -1,4 +1,5 @@
-/* The tests of yb_units, yb_inverters, yb_seconds, yb_settings, yb_unit and yb_var_limits: what a complete file says.
+/* The tests of yb_units, yb_inverters, yb_seconds, yb_settings, yb_unit, yb_var_limits and yb_connection: what a
+** complete file says.
 */
 #include <inttypes.h>
 #include <stdio.h>
@@ -9,7 +10,7 @@
 #include "test_surface_file.h"
 #include "yesbrulka.h"
 
-/* What yb_settings, yb_unit and yb_var_limits write, each number between two of its kind. */
+/* What yb_settings, yb_unit, yb_var_limits and yb_connection write, each number between two of its kind. */
 struct told_settings {
     uint8_t mode[3];
     int32_t target[3];
@@ -28,6 +29,11 @@ struct told_unit {
 
 struct told_limits {
     uint32_t provide[3], absorb[3];
+};
+
+struct told_connection {
+    uint8_t phases[3];
+    uint16_t volts[3];
 };
 
 /* The memory of a call, and the same as it is due where nothing is written; another at the end of the pages. */
@@ -137,6 +143,27 @@ static void check_limits(const uint8_t *file, size_t len, uint32_t which, uint32
     }
 }
 
+/* The same for its connection. */
+static void check_connection(const uint8_t *file, size_t len, uint32_t which, uint32_t number,
+    const struct connection *connection)
+{
+    for (int at_end = 0; at_end < 2; at_end++) {
+        struct told_connection told, due;
+        paint(&told, &due, sizeof due, at_end);
+        if (number == 0) {
+            due.phases[1] = connection->phases;
+            due.volts[1] = connection->volts;
+        }
+        uint32_t got = yb_connection(lend(file, len, at_end), len, which, &told.phases[1], &told.volts[1]);
+        if (got != number || memcmp(&told, &due, sizeof due) != 0) {
+            wrong++;
+            fprintf(stderr, "yb_connection, unit %" PRIu32 " of a file of %zu bytes: %" PRIu32 ", %u and %u; expected %"
+                PRIu32 ", %u and %u\n",
+                which, len, got, told.phases[1], told.volts[1], number, due.phases[1], due.volts[1]);
+        }
+    }
+}
+
 /* A unit that the file has; in edition 1 its S is both its limits. */
 static void check_there(const struct file *file, uint32_t which)
 {
@@ -144,6 +171,7 @@ static void check_there(const struct file *file, uint32_t which)
     struct limits kva = {unit->kva, unit->kva};
     check_unit(file->bytes, file->len, which, 0, unit);
     check_limits(file->bytes, file->len, which, 0, file->edition == 1 ? &kva : &file->limits[which]);
+    check_connection(file->bytes, file->len, which, file->is_connected ? 0 : 10, &file->connection[which]);
 }
 
 /* Nothing of a unit, for it is not there or its file is refused. */
@@ -151,6 +179,7 @@ static void not_told(const uint8_t *file, size_t len, uint32_t which, uint32_t n
 {
     check_unit(file, len, which, number, NULL);
     check_limits(file, len, which, number, NULL);
+    check_connection(file, len, which, number, NULL);
 }
 
 /* All of what a file says, and nothing of units that it has not. */
@@ -205,6 +234,33 @@ static void test_told_complete(void)
             draw_file(&file, units);
             check_editions(&file);
         }
+}
+
+/* Connections, in every mode, with inverters and without; and what is refused of them. */
+static void test_told_connected(void)
+{
+    struct file file;
+    for (uint8_t mode = 1; mode <= 5; mode++)
+        for (size_t units = 1; units <= 64; units += units < 3 || units > 61 ? 1 : 29)
+            for (size_t inverters = 0; inverters <= 2; inverters += 2) {
+                draw_file(&file, units);
+                file.inverters = inverters;
+                connect_file(&file, mode);
+                check_editions(&file);
+            }
+    enum { CONNECTIONS = 76 };
+    for (uint8_t mode = 1; mode <= 5; mode++) {
+        draw_file(&file, 1);
+        connect_file(&file, mode);
+        cut_told(&file);
+        /* Two phases, no volts, volts beyond the most, another length, and connections in their own place only. */
+        check_changes(file.bytes, file.len, (struct change[]){{CONNECTIONS + 3, 2, 5, CONNECTIONS, 0},
+            {CONNECTIONS + 3, 0, 5, CONNECTIONS, 0}, {CONNECTIONS + 4, 0xFF, 5, CONNECTIONS, 0},
+            {CONNECTIONS + 2, 6, 3, CONNECTIONS, 0}, {61 + 3, mode < 4 ? 4 : 1, 5, CONNECTIONS + 6, 0}}, 5);
+        file.is_connected = 0;
+        write_file(&file);
+        check_file(file.bytes, file.len, mode < 4 ? 0 : 4, mode < 4 ? file.len : CONNECTIONS, mode < 4 ? 2 : 0);
+    }
 }
 
 /* Inverters, none to as many as there can be, change nothing of what is told of the fleet. */
@@ -313,7 +369,7 @@ static void test_told_refused(void)
         uint8_t byte;
         uint32_t number;
     } changes[] = {{0, 0x7E, 2}, {2, 5, 3}, {4, 2, 4}, {3, 2, 3}, {3, 3, 3}, {3, 4, 5}, {4, 0, 5}, {4, 65, 5},
-        {53, 0, 5}, {64, 4, 5}, {75, 6, 5}, {79, 0x7F, 6}, {142, 3, 7}};
+        {53, 0, 5}, {64, 4, 4}, {64, 6, 5}, {75, 6, 5}, {79, 0x7F, 6}, {142, 3, 7}};
     enum { TOO_LONG = 2097153 };
     uint8_t *file = calloc(1, TOO_LONG);
     if (file == NULL)
@@ -339,6 +395,7 @@ const struct test told_tests[] = {
     {"yb_units, yb_seconds, yb_settings, yb_unit, yb_var_limits: complete files", test_told_complete},
     {"yb_units, yb_seconds, yb_settings, yb_unit, yb_var_limits: values at their limits", test_told_limits},
     {"yb_inverters, yb_units, yb_seconds, yb_settings, yb_unit, yb_var_limits: files with inverters", test_told_roof},
+    {"yb_connection, yb_units, yb_seconds, yb_settings, yb_unit, yb_var_limits: connections", test_told_connected},
     {"yb_units, yb_seconds, yb_settings, yb_unit, yb_var_limits: no steps, and all that there can be", test_told_steps},
     {"yb_units, yb_seconds, yb_settings, yb_unit, yb_var_limits: files cut at every byte", test_told_cut},
     {"yb_units, yb_seconds, yb_settings, yb_unit, yb_var_limits: refused files", test_told_refused},

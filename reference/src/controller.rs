@@ -1,17 +1,21 @@
-//! The controller: its settings, one pass over a fleet, and the settling study.
+//! The controller: its settings, one pass over a fleet by power or by current, and the settling study.
 
-use crate::ranges::{self, BAND, BUDGET, FACTOR, LOAD, MEASURE, MODE, RATING, TARGET, UNITS, WEIGHT};
+use crate::connection::Connections;
+use crate::ranges::{
+    self, BAND, BUDGET, CURRENT_MEASURE, CURRENT_MODE, FACTOR, LOAD, MEASURE, MODE, POWER_MODE, RATING,
+    TARGET, UNITS, WEIGHT,
+};
 use crate::storage::Unit;
 use crate::whole::quotient_cut;
 use crate::{LISTS_OR_REQUESTS, OUT_OF_RANGE};
 
 #[derive(Clone, Copy, Debug, PartialEq, Eq)]
 pub struct Settings {
-    /// 1 PeakShave and 2 Support discharge, 3 PeakShaveLow charges.
+    /// 1 PeakShave, 2 Support and 4 I-PeakShave discharge, 3 PeakShaveLow and 5 I-PeakShaveLow charge.
     pub mode: u8,
-    /// Watts.
+    /// Watts; milliamperes in modes 4 and 5.
     pub target: i32,
-    /// Watts.
+    /// Watts; milliamperes in modes 4 and 5.
     pub band: u32,
     /// Thousandths.
     pub factor: u16,
@@ -23,6 +27,69 @@ impl Settings {
             && TARGET.contains(&self.target)
             && BAND.contains(&self.band)
             && FACTOR.contains(&self.factor)
+    }
+
+    /// The mode regulates a current, and takes no other reading than of one.
+    pub fn by_current(&self) -> bool {
+        CURRENT_MODE.contains(&self.mode)
+    }
+
+    /// The state in which the mode is to have the fleet.
+    pub fn own_state(&self) -> State {
+        match self.mode {
+            3 | 5 => State::Charging,
+            _ => State::Discharging,
+        }
+    }
+
+    pub fn charges(&self) -> bool {
+        self.own_state() == State::Charging
+    }
+
+    /// Rule 1: the need in the unit of the measure.
+    fn plain_need(&self, measure: i64) -> i64 {
+        let target = i64::from(self.target);
+        if self.mode == 2 {
+            measure + target
+        } else {
+            measure - target
+        }
+    }
+
+    /// Rule 2: what is added to the need, which is nothing unless the fleet runs against the mode.
+    fn added_power(&self, requests: &[i32]) -> i64 {
+        let state = State::of(requests);
+        if state == self.own_state() {
+            return 0;
+        }
+        // The sum of an idle fleet is nothing.
+        requests.iter().map(|&request| i64::from(request)).sum()
+    }
+}
+
+/// What a pass goes by.
+#[derive(Clone, Debug, PartialEq, Eq)]
+pub struct Goal {
+    /// The need that the pass reports.
+    pub need: i64,
+    /// Each unit's own need and its own band, in watts.
+    pub own: Vec<(i64, i64)>,
+}
+
+impl Goal {
+    /// Of a site that buys by power: one need and one band for all.
+    fn of_power(settings: &Settings, measure: i64, requests: &[i32]) -> Goal {
+        let need = settings.plain_need(measure) + settings.added_power(requests);
+        Goal { need, own: vec![(need, settings.band.into()); requests.len()] }
+    }
+
+    /// Of a site that buys by current: need and band are watts of each unit's own connection, and what rule 2 adds is
+    /// added behind that. The reported need is that of the current, and has nothing added.
+    pub fn of_current(settings: &Settings, measure: i64, units: &Connections, requests: &[i32]) -> Goal {
+        let need = settings.plain_need(measure);
+        let added = settings.added_power(requests);
+        let own = units.units().map(|unit| (unit.watts(need) + added, unit.watts(settings.band.into())));
+        Goal { need, own: own.collect() }
     }
 }
 
@@ -110,79 +177,93 @@ pub struct Passed {
     pub rule: u8,
 }
 
-/// One pass. The requests become the new ones, or on a refusal stay as they were.
+/// One pass of a site that buys by power. The requests become the new ones, or on a refusal stay as they were.
 pub fn pass(settings: &Settings, measure: i64, fleet: &Fleet, requests: &mut [i32]) -> Result<Passed, u32> {
     if !fleet.lengths_fit(requests.len()) {
         return Err(LISTS_OR_REQUESTS);
     }
-    if !(settings.in_range() && MEASURE.contains(&measure) && fleet.in_range()) {
+    let fits = POWER_MODE.contains(&settings.mode) && MEASURE.contains(&measure);
+    if !(fits && settings.in_range() && fleet.in_range()) {
         return Err(OUT_OF_RANGE);
     }
     if !fleet.takes(requests) {
         return Err(LISTS_OR_REQUESTS);
     }
-    Ok(accepted_pass(settings, measure, fleet, requests))
+    Ok(accepted_pass(settings, &Goal::of_power(settings, measure, requests), fleet, requests))
 }
 
-fn accepted_pass(settings: &Settings, measure: i64, fleet: &Fleet, requests: &mut [i32]) -> Passed {
-    let (need, rule, new) = rules(settings, measure, fleet, requests);
+/// One pass of a site that buys by current, over units that are so connected. The requests become the new ones, or on a
+/// refusal stay as they were.
+pub fn pass_current(
+    settings: &Settings,
+    measure: i64,
+    fleet: &Fleet,
+    units: &Connections,
+    requests: &mut [i32],
+) -> Result<Passed, u32> {
+    if !(fleet.lengths_fit(requests.len()) && units.lengths_fit(requests.len())) {
+        return Err(LISTS_OR_REQUESTS);
+    }
+    let fits = settings.by_current() && CURRENT_MEASURE.contains(&measure);
+    if !(fits && settings.in_range() && fleet.in_range() && units.in_range()) {
+        return Err(OUT_OF_RANGE);
+    }
+    if !fleet.takes(requests) {
+        return Err(LISTS_OR_REQUESTS);
+    }
+    Ok(accepted_pass(settings, &Goal::of_current(settings, measure, units, requests), fleet, requests))
+}
+
+fn accepted_pass(settings: &Settings, goal: &Goal, fleet: &Fleet, requests: &mut [i32]) -> Passed {
+    let (rule, new) = rules(settings, goal, fleet, requests);
     let changed = new != requests;
     requests.copy_from_slice(&new);
-    Passed { need, changed, rule }
+    Passed { need: goal.need, changed, rule }
 }
 
-/// The six rules in their order: the need, the rule that decided, and the new requests.
-fn rules(settings: &Settings, measure: i64, fleet: &Fleet, requests: &[i32]) -> (i64, u8, Vec<i32>) {
-    let own = if settings.mode == 3 { State::Charging } else { State::Discharging };
-    let state = State::of(requests);
-    let fleet_power: i64 = requests.iter().map(|&request| i64::from(request)).sum();
-    let target = i64::from(settings.target);
+/// Rules 3 to 6 in their order: the rule that decided, and the new requests.
+fn rules(settings: &Settings, goal: &Goal, fleet: &Fleet, requests: &[i32]) -> (u8, Vec<i32>) {
+    let charges = settings.charges();
 
-    // 1. The need.
-    let mut need = if settings.mode == 2 { measure + target } else { measure - target };
-
-    // 2. A fleet that runs against the mode.
-    if state != own && state != State::Idle {
-        need += fleet_power;
-    }
-
-    // 3. Nothing to start with.
-    let wanted = if own == State::Charging { need < 0 } else { need > 0 };
-    if state != own && !wanted {
-        return (need, 3, requests.to_vec());
+    // 3. Nothing to start any unit with.
+    let calls = |need: i64| if charges { need < 0 } else { need > 0 };
+    if State::of(requests) != settings.own_state() && !goal.own.iter().any(|&(need, _)| calls(need)) {
+        return (3, requests.to_vec());
     }
 
     // 4. Nothing to give, or no room to take.
     let total = |list: &[u64]| list.iter().map(|&joules| u128::from(joules)).sum::<u128>();
     let stored = total(&fleet.stored);
-    let exhausted =
-        if own == State::Charging { stored == total(&fleet.rated) } else { stored <= total(&fleet.reserve) };
+    let exhausted = if charges { stored == total(&fleet.rated) } else { stored <= total(&fleet.reserve) };
     if exhausted {
-        return (need, 4, vec![0; requests.len()]);
+        return (4, vec![0; requests.len()]);
     }
 
-    // 5. Within half the band on either side.
-    if 2 * need.abs() <= i64::from(settings.band) {
-        return (need, 5, requests.to_vec());
+    // 5. Every unit within half its band on either side.
+    if goal.own.iter().all(|&(need, band)| 2 * need.abs() <= band) {
+        return (5, requests.to_vec());
     }
+    (6, shares(settings, goal, fleet, requests))
+}
 
-    // 6. The shares. Every weight counts, and a battery that has nothing to give, or nowhere to put it, is
-    // asked for nothing.
+/// Rule 6, the shares. Every weight counts, and a battery that has nothing to give, or nowhere to put it, is asked for
+/// nothing.
+fn shares(settings: &Settings, goal: &Goal, fleet: &Fleet, requests: &[i32]) -> Vec<i32> {
     let weights: u64 = fleet.weight.iter().map(|&weight| u64::from(weight)).sum();
     let mut new = Vec::new();
     for (i, &request) in requests.iter().enumerate() {
-        if fleet.idles(i, own) {
+        if fleet.idles(i, settings.own_state()) {
             new.push(0);
             continue;
         }
-        let portion = need * i64::from(fleet.weight[i]) * i64::from(settings.factor);
+        let portion = goal.own[i].0 * i64::from(fleet.weight[i]) * i64::from(settings.factor);
         let share = quotient_cut(portion, weights * 1_000);
         let rating = i64::from(fleet.rating[i]);
         let limited = (i64::from(request) + share).clamp(-rating, rating);
-        let against = if own == State::Charging { limited > 0 } else { limited < 0 };
+        let against = if settings.charges() { limited > 0 } else { limited < 0 };
         new.push(if against { 0 } else { limited as i32 });
     }
-    (need, 6, new)
+    new
 }
 
 /// What a settling study reports.
@@ -215,7 +296,8 @@ pub fn settle(
     let mut passes = 0;
     for _ in 0..budget {
         let fleet_power: i64 = requests.iter().map(|&request| i64::from(request)).sum();
-        if !accepted_pass(&settings, load - fleet_power, fleet, requests).changed {
+        let goal = Goal::of_power(&settings, load - fleet_power, requests);
+        if !accepted_pass(&settings, &goal, fleet, requests).changed {
             return Ok(Study { settled: true, passes });
         }
         passes += 1;
@@ -226,6 +308,7 @@ pub fn settle(
 #[cfg(test)]
 mod tests {
     use super::*;
+    use crate::samples::currents::{self, CurrentCall};
     use crate::samples::fleets::{self, half_full, PassCall, StudyCall};
     use crate::samples::Draw;
 
@@ -432,6 +515,128 @@ mod tests {
             }
         }
         assert!(depleted > 1_000 && settled > 500, "{depleted} depleted, {settled} settled");
+    }
+
+    /// Numbers by hand: what a current is to each unit, F behind the conversion, rules 3 and 5 for every unit, a band
+    /// that is cut to nothing, and the need that is reported.
+    #[test]
+    fn passes_by_current() {
+        for (mut call, (need, changed, rule, requests)) in currents::figure_passes() {
+            assert_eq!(call.pass(), Ok(Passed { need, changed, rule }), "{call:?}");
+            assert_eq!(call.pass.requests, requests, "{call:?}");
+        }
+    }
+
+    /// What each unit goes by, where the fleet runs against the mode: 10 A less the 5,000 W that it takes.
+    #[test]
+    fn the_power_of_the_fleet_is_added_to_each_units_watts() {
+        let goal = |mode, measure, requests: &[i32]| {
+            let call = currents::figure_call(mode, [20_000, 9, 0], [0, 0], [(1, 230), (3, 10_000)]);
+            Goal::of_current(&call.pass.settings, measure, &call.units, requests)
+        };
+        let of = |need, first, second| Goal { need, own: vec![(first, 2), (second, 270)] };
+        assert_eq!(goal(4, 30_000, &[-2_000, -3_000]), of(10_000, -2_700, 295_000));
+        assert_eq!(goal(4, 30_000, &[0, 0]), of(10_000, 2_300, 300_000));
+        assert_eq!(goal(4, 30_000, &[2_000, 3_000]), of(10_000, 2_300, 300_000));
+        assert_eq!(goal(5, 10_000, &[2_000, 3_000]), of(-10_000, 2_700, -295_000));
+        assert_eq!(goal(5, 10_000, &[-2_000, -3_000]), of(-10_000, -2_300, -300_000));
+    }
+
+    /// 400 kA above the target and 100 kA below it, at three phases of 40 kV; beside what 64 units take or give against
+    /// the mode, and without.
+    #[test]
+    fn the_largest_needs_of_a_unit() {
+        let mut low = currents::figure_call(5, [100_000_000, 0, 0], [0, 0], [(3, 40_000); 2]);
+        low.resize([64; 8], &mut Draw::from_seed(0));
+        low.pass.fleet.rating.fill(100_000_000);
+        let high = low.with_pass(|call| {
+            call.settings.mode = 4;
+            (call.settings.target, call.measure) = (-100_000_000, 300_000_000);
+        });
+        let of = |call: &CurrentCall, request: i32| {
+            let mut call = call.with_pass(|call| call.requests.fill(request));
+            let PassCall { settings, measure, requests, .. } = &call.pass;
+            let own = Goal::of_current(settings, *measure, &call.units, requests).own[63].0;
+            let need = call.pass().map(|passed| passed.need);
+            assert!(call.pass.requests.windows(2).all(|two| two[0] == two[1]));
+            (own, need, call.pass.requests[0])
+        };
+        let most = 100_000_000;
+        assert_eq!(of(&low, 0), (-12_000_000_000, Ok(-100_000_000), -most));
+        assert_eq!(of(&low, most), (-5_600_000_000, Ok(-100_000_000), 0));
+        assert_eq!(of(&high, 0), (48_000_000_000, Ok(400_000_000), most));
+        assert_eq!(of(&high, -most), (41_600_000_000, Ok(400_000_000), most));
+    }
+
+    /// At one phase of 1,000 V a milliampere is a watt: a pass by current is then one by power.
+    #[test]
+    fn a_milliampere_at_a_thousand_volts_is_a_watt() {
+        let mut draw = Draw::from_seed(55);
+        let mut met = [0; 7];
+        for _ in 0..30_000 {
+            let mut call = currents::pass_call(5, &mut draw);
+            call.units.phases.fill(1);
+            call.units.volts.fill(1_000);
+            let mut by_power =
+                call.pass.with(|call| call.settings.mode = [1, 3][usize::from(call.settings.mode) - 4]);
+            let added = Goal::of_current(&call.pass.settings, 0, &call.units, &call.pass.requests).own[0].0
+                + i64::from(call.pass.settings.target);
+            let passed = pass(&by_power.settings, by_power.measure, &by_power.fleet, &mut by_power.requests);
+            let expected = passed.map(|passed| Passed { need: passed.need - added, ..passed });
+            assert_eq!(call.pass(), expected, "{call:?}");
+            assert_eq!(call.pass.requests, by_power.requests);
+            met[usize::from(expected.unwrap().rule)] += 1;
+        }
+        assert!(met[3..].iter().all(|&count| count > 1_000), "{met:?}");
+    }
+
+    fn refused_current(mut call: CurrentCall) -> Option<u32> {
+        let before = call.pass.requests.clone();
+        let number = call.pass().err();
+        assert!(number.is_none() || call.pass.requests == before);
+        number
+    }
+
+    #[test]
+    fn refusals_of_a_pass_by_current() {
+        let mut draw = Draw::from_seed(56);
+        for _ in 0..200 {
+            let call = currents::pass_call(5, &mut draw);
+            let unit = draw.below(call.pass.requests.len() as u64) as usize;
+            assert_eq!(refused_current(call.clone()), None);
+            for end in currents::ENDS {
+                assert_eq!(refused_current(call.with(|call| end(call, unit))), None);
+            }
+            for spoil in currents::BAD_VALUES {
+                let bad = call.with(|call| spoil(call, unit));
+                assert_eq!(refused_current(bad.clone()), Some(5));
+                // A wrong value comes before a wrong request.
+                assert_eq!(
+                    refused_current(bad.with_pass(|call| fleets::BAD_REQUEST[0](call, unit))),
+                    Some(5)
+                );
+            }
+            for end in fleets::FLEET_ENDS {
+                assert_eq!(refused_current(call.with_pass(|call| call.fleet_value(end, unit))), None);
+            }
+            for spoil in fleets::BAD_FLEET {
+                assert_eq!(refused_current(call.with_pass(|call| spoil(&mut call.fleet, unit))), Some(5));
+            }
+            for spoil in fleets::BAD_REQUEST {
+                assert_eq!(refused_current(call.with_pass(|call| spoil(call, unit))), Some(10));
+            }
+            for lengths in fleets::bad_lengths(call.pass.requests.len(), &mut draw) {
+                let mut call = call.with(|call| call.pass.measure = -1);
+                call.resize(lengths, &mut draw);
+                assert_eq!(refused_current(call), Some(10), "{lengths:?}");
+            }
+            // A mode of one kind is none of the other's.
+            for mode in [4, 5] {
+                let mut other = call.pass.with(|call| call.settings.mode = mode);
+                let refused = pass(&other.settings, other.measure, &other.fleet, &mut other.requests);
+                assert_eq!(refused, Err(5));
+            }
+        }
     }
 
     fn refused_pass(mut call: PassCall) -> Option<u32> {

@@ -4,6 +4,7 @@
 //! proved library. Where there is a choice of method it takes the plainest one, and a different one
 //! from what a quick program would take. It answers any input; a refusal is the document's number.
 
+pub mod connection;
 pub mod controller;
 pub mod curve;
 pub mod feed;

@@ -39,13 +39,19 @@ pub const EFFICIENCY: RangeInclusive<u16> = 1_000..=10_000;
 /// 0 watt, 1 var.
 pub const PRIORITY: RangeInclusive<u8> = 0..=1;
 
-/// 1 PeakShave, 2 Support, 3 PeakShaveLow.
-pub const MODE: RangeInclusive<u8> = 1..=3;
+/// 1 PeakShave, 2 Support, 3 PeakShaveLow, 4 I-PeakShave, 5 I-PeakShaveLow.
+pub const MODE: RangeInclusive<u8> = 1..=5;
 
-/// Watts.
+/// The modes of a site that buys by power.
+pub const POWER_MODE: RangeInclusive<u8> = 1..=3;
+
+/// The modes of a site that buys by current.
+pub const CURRENT_MODE: RangeInclusive<u8> = 4..=5;
+
+/// Watts, or milliamperes in a mode of current.
 pub const TARGET: RangeInclusive<i32> = -100_000_000..=100_000_000;
 
-/// Watts.
+/// Watts, or milliamperes in a mode of current.
 pub const BAND: RangeInclusive<u32> = 0..=200_000_000;
 
 /// Thousandths.
@@ -56,6 +62,18 @@ pub const PHASE: RangeInclusive<u8> = 0..=5;
 
 /// Watts, of a measure that is handed straight to a pass.
 pub const MEASURE: RangeInclusive<i64> = -300_000_000..=300_000_000;
+
+/// Milliamperes, of a measure that is handed straight to a pass in a mode of current.
+pub const CURRENT_MEASURE: RangeInclusive<i64> = 0..=300_000_000;
+
+/// Milliamperes of a phase, after the conversion; beyond its end nothing converts.
+pub const CURRENT: RangeInclusive<i32> = 0..=100_000_000;
+
+/// The phases that a unit is connected to.
+pub const PHASES: [u8; 2] = [1, 3];
+
+/// From phase to neutral.
+pub const VOLTS: RangeInclusive<u16> = 1..=40_000;
 
 /// Watts, of the fixed load of a study.
 pub const LOAD: RangeInclusive<i64> = 0..=100_000_000;

@@ -1,6 +1,7 @@
 //! Inputs to try: one generator with a fixed seed, and the doubles where a conversion goes wrong; in modules
 //! of their own, the calls of the other functions.
 
+pub mod currents;
 pub mod curves;
 pub mod fleets;
 pub mod inverters;

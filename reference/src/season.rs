@@ -1,6 +1,6 @@
 //! The season: a run over all steps of a file, and the result file.
 
-use crate::controller::{self, Fleet, Passed};
+use crate::controller::Passed;
 use crate::octets::{put_f64, put_i32, put_u16, put_u32, put_u64, put_u8};
 use crate::reading::{kw, Reading};
 use crate::site::Site;
@@ -79,10 +79,8 @@ pub fn step(site: &Site, standing: &mut Standing, step: u32, reading: &Reading, 
     let with_store = |(unit, &stored): (&Unit, &u64)| Unit { stored, ..*unit };
     let units: Vec<Unit> = site.units.iter().zip(&*stored).map(with_store).collect();
     let measure = reading.measure(site.phase).expect("an accepted reading converts");
-    let passed = measure.map(|measure| {
-        controller::pass(&site.settings, measure, &Fleet::of(&units), requests)
-            .expect("an accepted fleet takes a pass")
-    });
+    let passed =
+        measure.map(|measure| site.pass(measure, &units, requests).expect("an accepted fleet takes a pass"));
     let mut records = Vec::new();
     for (i, unit) in units.iter().enumerate() {
         let stepped = storage::step_as(site.edition, site.seconds, unit, requests[i])
@@ -187,12 +185,14 @@ pub fn run(file: &[u8], room: usize) -> Result<Vec<u8>, Answer> {
 #[cfg(test)]
 mod tests {
     use super::*;
+    use crate::connection::Connection;
+    use crate::controller::Settings;
     use crate::octets::{f64_at, i32_at, u16_at, u32_at, u64_at, u8_at};
     use crate::reading::Phases;
     use crate::samples::inverters::document_inverter;
     use crate::samples::sticks::{self, whole_case};
     use crate::samples::units::figure_unit;
-    use crate::samples::{limits, older, roofs, seasons, Draw};
+    use crate::samples::{currents, limits, older, roofs, seasons, Draw};
     use crate::solar::{self, Weather};
 
     fn hex(bytes: &[u8]) -> String {
@@ -237,6 +237,43 @@ mod tests {
         assert_eq!((run(&[], 100), room_needed(&[])), (Err(Answer { number: 8, place: 0, steps: 0 }), 0));
     }
 
+    /// A site that buys by current, two units alike but for their connections: 10 A above the target call one for half
+    /// of 2,300 W and the other for half of 6,900 W; then the reading is missing, and then the current is below the
+    /// target.
+    #[test]
+    fn a_run_by_current() {
+        let of = |amperes: f64| Reading::Current(Phases::of([amperes, 0.0, 0.0]));
+        let run = sticks::with(&whole_case(), |run| {
+            let unit = Unit { idle_loss: 0, ..run.site.units[0] };
+            run.site.units = vec![unit; 2];
+            run.site.settings = Settings { mode: 4, target: 20_000, band: 100, factor: 1_000 };
+            run.site.connections =
+                vec![Connection { phases: 1, volts: 230 }, Connection { phases: 3, volts: 230 }];
+            run.readings = vec![of(30.0), Reading::Missing, of(18.0), of(20.05)];
+        });
+        let all = steps(&run);
+        assert_eq!(all, steps(&stick::read(&sticks::file(&run)).unwrap()));
+        let asked: Vec<_> =
+            all.iter().map(|step| step.records.iter().map(|r| r.request).collect::<Vec<_>>()).collect();
+        assert_eq!(asked, [[1_150, 3_450], [1_150, 3_450], [920, 2_760], [920, 2_760]]);
+        let needs: Vec<_> =
+            all.iter().map(|step| step.passed.map(|passed| (passed.need, passed.rule))).collect();
+        assert_eq!(needs, [Some((10_000, 6)), None, Some((-2_000, 6)), Some((50, 5))]);
+        assert_eq!(all[0].records[1].stepped.stored, 3_600_000 - 60 * 3_450);
+    }
+
+    /// Connections in a mode of power change no byte of the result.
+    #[test]
+    fn connections_do_nothing_where_power_is_bought() {
+        let mut draw = Draw::from_seed(89);
+        for round in 0..300 {
+            let run = currents::run_in(&[1, 2, 3], 1 + round % 4, round % 2, 5, &mut draw);
+            let without = sticks::with(&run, |run| run.site.connections.clear());
+            assert!(steps(&run) == steps(&without));
+            assert_ne!(sticks::file(&run), sticks::file(&without));
+        }
+    }
+
     /// Requests and watts of each unit, step by step.
     fn asked_and_given(run: &Run) -> Vec<Vec<(i32, i32)>> {
         let of = |step: &Step| step.records.iter().map(|r| (r.request, r.stepped.watts)).collect();
@@ -251,8 +288,9 @@ mod tests {
                 edition: 1,
                 seconds: 60,
                 units: vec![figure_unit(500_000)],
-                settings: controller::Settings { mode: 1, target: 700, band: 20, factor: 1_000 },
+                settings: Settings { mode: 1, target: 700, band: 20, factor: 1_000 },
                 phase: 0,
+                connections: Vec::new(),
                 inverters: Vec::new(),
             },
             readings: vec![
@@ -282,8 +320,9 @@ mod tests {
                 edition: 1,
                 seconds: 60,
                 units: vec![figure_unit(75_750 + 75_749)],
-                settings: controller::Settings { mode: 1, target: 0, band: 0, factor: 1_000 },
+                settings: Settings { mode: 1, target: 0, band: 0, factor: 1_000 },
                 phase: 1,
+                connections: Vec::new(),
                 inverters: Vec::new(),
             },
             readings: vec![power(0.9), power(0.0001), power(0.0001), power(1.0)],
@@ -310,8 +349,9 @@ mod tests {
                 edition: 1,
                 seconds: 60,
                 units: vec![unit, Unit { priority: 1, ..unit }],
-                settings: controller::Settings { mode: 2, target: 1_000, band: 0, factor: 1_000 },
+                settings: Settings { mode: 2, target: 1_000, band: 0, factor: 1_000 },
                 phase: 5,
+                connections: Vec::new(),
                 inverters: Vec::new(),
             },
             readings: vec![power(0.0)],

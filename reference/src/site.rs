@@ -1,6 +1,7 @@
 //! The site: what a run file says before its steps, and the settling study over it.
 
-use crate::controller::{self, Fleet, Settings, Study};
+use crate::connection::{Connection, Connections};
+use crate::controller::{self, Fleet, Passed, Settings, Study};
 use crate::solar::Inverter;
 use crate::stick;
 use crate::storage::Unit;
@@ -17,6 +18,8 @@ pub struct Site {
     pub settings: Settings,
     /// The phase choice of every reading.
     pub phase: u8,
+    /// One for each unit, or none at all.
+    pub connections: Vec<Connection>,
     /// Up to 64 of them; the first has the number 0.
     pub inverters: Vec<Inverter>,
 }
@@ -25,6 +28,22 @@ impl Site {
     /// The unit of a number; 10 for a number outside the fleet.
     pub fn unit(&self, number: u32) -> Result<Unit, u32> {
         self.units.get(number as usize).copied().ok_or(LISTS_OR_REQUESTS)
+    }
+
+    /// The connection of the unit of a number; 10 for a number outside the fleet, or where the file says none.
+    pub fn connection(&self, number: u32) -> Result<Connection, u32> {
+        self.connections.get(number as usize).copied().ok_or(LISTS_OR_REQUESTS)
+    }
+
+    /// One pass over the site's units as they are now, in its own mode.
+    pub fn pass(&self, measure: i64, units: &[Unit], requests: &mut [i32]) -> Result<Passed, u32> {
+        let fleet = Fleet::of(units);
+        if self.settings.by_current() {
+            let connected = Connections::of(&self.connections);
+            controller::pass_current(&self.settings, measure, &fleet, &connected, requests)
+        } else {
+            controller::pass(&self.settings, measure, &fleet, requests)
+        }
     }
 
     /// The settling study over the fleet, with the target, the band and the factor of the settings; in mode 1,
@@ -51,7 +70,7 @@ mod tests {
     use super::*;
     use crate::samples::fleets::{self, figure_study};
     use crate::samples::sticks::{self, whole_case};
-    use crate::samples::Draw;
+    use crate::samples::{currents, Draw};
 
     #[test]
     fn the_whole_case() {
@@ -81,15 +100,31 @@ mod tests {
         }
     }
 
+    /// The connections of a file that has them, and of one that has none.
+    #[test]
+    fn every_connection_has_its_units_number() {
+        let mut draw = Draw::from_seed(65);
+        for count in 1..=64 {
+            let run = currents::run_in(&[1, 2, 3, 4, 5], count, 0, 1, &mut draw);
+            let site = of(&sticks::file(&run)).unwrap();
+            for number in 0..=255 {
+                let expected = run.site.connections.get(number as usize).copied().ok_or(10);
+                assert_eq!(site.connection(number), expected);
+            }
+            let without = of(&sticks::file(&sticks::run(count, 1, &mut draw))).unwrap();
+            assert_eq!((without.connection(0), without.connection(count as u32)), (Err(10), Err(10)));
+        }
+    }
+
     /// The file's mode does not matter, and neither do its readings.
     #[test]
     fn c1_over_a_file_in_every_mode() {
         let mut draw = Draw::from_seed(62);
         let call = figure_study(10_000);
-        for mode in 1..=3 {
+        for mode in 1..=5 {
             for steps in 0..4 {
-                let mut run = sticks::study_run(&call, steps, &mut draw);
-                run.site.settings.mode = mode;
+                let run = sticks::study_run(&call, steps, &mut draw);
+                let run = currents::in_mode(mode, run, &mut draw);
                 let mut requests = [7, -7];
                 let study = study(&sticks::file(&run), call.load, call.budget, &mut requests);
                 assert_eq!((study, requests), (Ok(Study { settled: true, passes: 4 }), [100, 193]));

@@ -1,30 +1,19 @@
 //! The proved controller pass and settling study beside the reference, over the C surface.
 
+mod frames;
 mod host;
+mod passes;
 
 use std::collections::BTreeMap;
 
+use frames::Rest;
 use host::{refuses_cut_rows, Host, LEFT_ALONE};
-use yesbrulka_reference::controller::{self, Fleet, Settings, State};
+use passes::{
+    each_rule_decides, expected_pass, put_lists, put_pass, take_requests, PassLeft, Rules, FRAME, LEFT_BYTE,
+};
+use yesbrulka_reference::controller::{Fleet, Settings};
 use yesbrulka_reference::samples::fleets::{self, PassCall, StudyCall};
 use yesbrulka_reference::samples::Draw;
-
-/// Calls go over in frames of this many.
-const FRAME: usize = 512;
-
-/// What the host leaves in out-numbers that a call did not write.
-const LEFT_BYTE: u8 = LEFT_ALONE as u8;
-const LEFT_NEED: i64 = (LEFT_ALONE as i64) << 32 | LEFT_ALONE as i64;
-
-/// What a pass returns and leaves behind.
-#[derive(Debug, PartialEq)]
-struct PassLeft {
-    number: u32,
-    disturbed: u8,
-    need: i64,
-    changed: u8,
-    requests: Vec<i32>,
-}
 
 /// What a study returns and leaves behind.
 #[derive(Debug, PartialEq)]
@@ -36,17 +25,6 @@ struct StudyLeft {
     requests: Vec<i32>,
 }
 
-/// By the reference; and what was met, for the tally: the rule that decided, or 0 for a refusal.
-fn expected_pass(call: &PassCall) -> (PassLeft, u8) {
-    let mut requests = call.requests.clone();
-    let answer = controller::pass(&call.settings, call.measure, &call.fleet, &mut requests);
-    let (number, need, changed, rule) = match answer {
-        Ok(passed) => (0, passed.need, passed.changed.into(), passed.rule),
-        Err(number) => (number, LEFT_NEED, LEFT_BYTE, 0),
-    };
-    (PassLeft { number, disturbed: 0, need, changed, requests }, rule)
-}
-
 fn expected_study(call: &StudyCall) -> StudyLeft {
     let mut call = call.clone();
     let (number, settled, passes) = match call.settle() {
@@ -56,98 +34,18 @@ fn expected_study(call: &StudyCall) -> StudyLeft {
     StudyLeft { number, disturbed: 0, settled, passes, requests: call.requests }
 }
 
-fn put_lists(payload: &mut Vec<u8>, fleet: &Fleet, requests: &[i32]) {
-    let Fleet { rated, reserve, stored, rating, weight } = fleet;
-    let lengths = [rated.len(), reserve.len(), stored.len(), rating.len(), weight.len(), requests.len()];
-    payload.extend(lengths.iter().flat_map(|&length| (length as u32).to_le_bytes()));
-    for list in [rated, reserve, stored] {
-        payload.extend(list.iter().flat_map(|joules| joules.to_le_bytes()));
-    }
-    payload.extend(rating.iter().flat_map(|rating| rating.to_le_bytes()));
-    payload.extend(weight.iter().flat_map(|weight| weight.to_le_bytes()));
-    payload.extend(requests.iter().flat_map(|request| request.to_le_bytes()));
-}
-
-fn put_pass(payload: &mut Vec<u8>, call: &PassCall) {
-    let Settings { mode, target, band, factor } = call.settings;
-    payload.push(mode);
-    payload.extend(target.to_le_bytes());
-    payload.extend(band.to_le_bytes());
-    payload.extend(factor.to_le_bytes());
-    payload.extend(call.measure.to_le_bytes());
-    put_lists(payload, &call.fleet, &call.requests);
-}
-
 fn put_study(payload: &mut Vec<u8>, call: &StudyCall) {
     payload.extend(call.load.to_le_bytes());
     payload.extend(call.target.to_le_bytes());
     payload.extend(call.band.to_le_bytes());
     payload.extend(call.factor.to_le_bytes());
     payload.extend(call.budget.to_le_bytes());
-    put_lists(payload, &call.fleet, &call.requests);
+    put_lists(payload, &call.fleet, None, &call.requests);
 }
 
-/// What is left of an answer.
-struct Rest<'a>(&'a [u8]);
-
-impl Rest<'_> {
-    fn take<const N: usize>(&mut self) -> [u8; N] {
-        assert!(self.0.len() >= N, "the answer is cut short");
-        let (taken, rest) = self.0.split_at(N);
-        self.0 = rest;
-        taken.try_into().expect("as many bytes as were taken")
-    }
-
-    fn requests(&mut self, length: usize) -> Vec<i32> {
-        (0..length).map(|_| i32::from_le_bytes(self.take())).collect()
-    }
-}
-
-/// Makes every pass with the archive and with the reference, and compares. Gives how often each rule
-/// decided, by mode and the state of the fleet, and by rule 0 the refusals.
-fn compare_passes(calls: impl IntoIterator<Item = PassCall>) -> BTreeMap<(u8, u8, &'static str), u32> {
-    let mut host = Host::start();
-    let mut met = BTreeMap::new();
-    let (mut wrong, mut all) = (0, 0);
-    let mut calls = calls.into_iter();
-    loop {
-        let frame: Vec<PassCall> = calls.by_ref().take(FRAME).collect();
-        if frame.is_empty() {
-            break;
-        }
-        let mut payload = Vec::new();
-        frame.iter().for_each(|call| put_pass(&mut payload, call));
-        let answer = host.call(b'P', &payload);
-        let mut rest = Rest(&answer);
-        for call in &frame {
-            let got = PassLeft {
-                number: u32::from_le_bytes(rest.take()),
-                disturbed: u8::from_le_bytes(rest.take()),
-                need: i64::from_le_bytes(rest.take()),
-                changed: u8::from_le_bytes(rest.take()),
-                requests: rest.requests(call.requests.len()),
-            };
-            let (expected, rule) = expected_pass(call);
-            all += 1;
-            if got != expected {
-                wrong += 1;
-                if wrong <= 5 {
-                    eprintln!("{call:?}\n  archive   {got:?}\n  reference {expected:?}");
-                }
-            }
-            let state = match State::of(&call.requests) {
-                State::Idle => "idle",
-                State::Discharging => "discharging",
-                State::Charging => "charging",
-            };
-            let mode = if rule == 0 { expected.number as u8 } else { call.settings.mode };
-            *met.entry((rule, mode, state)).or_default() += 1;
-        }
-        assert!(rest.0.is_empty(), "an answer for each pass and nothing more");
-    }
-    assert!(host.end().0.success(), "the host ended badly");
-    assert_eq!(wrong, 0, "wrong passes of {all}");
-    met
+/// Makes every pass with the archive and with the reference, and compares.
+fn compare_passes(calls: impl IntoIterator<Item = PassCall>) -> Rules {
+    passes::compare_passes(calls, |_, _, _| ())
 }
 
 /// The same for studies. Gives how often each number was met, and of studies not refused which settled and
@@ -172,7 +70,7 @@ fn compare_studies(calls: impl IntoIterator<Item = StudyCall>) -> BTreeMap<(u32,
                 disturbed: u8::from_le_bytes(rest.take()),
                 settled: u8::from_le_bytes(rest.take()),
                 passes: u32::from_le_bytes(rest.take()),
-                requests: rest.requests(call.requests.len()),
+                requests: take_requests(&mut rest, call.requests.len()),
             };
             let expected = expected_study(call);
             all += 1;
@@ -225,28 +123,11 @@ fn passes_and_studies_of_the_documents_figures() {
     compare_studies((1..8).map(fleets::figure_study));
 }
 
-/// Each rule decides in each mode and state where it can, often.
-fn each_rule_decides(met: &BTreeMap<(u8, u8, &'static str), u32>, often: u32) {
-    for mode in 1..=3 {
-        let own = if mode == 3 { "charging" } else { "discharging" };
-        for state in ["idle", "discharging", "charging"] {
-            for rule in 3..=6 {
-                let count = met.get(&(rule, mode, state)).copied().unwrap_or(0);
-                let possible = rule != 3 || state != own;
-                assert!(
-                    if possible { count >= often } else { count == 0 },
-                    "rule {rule} in mode {mode}, {state}: {count} times"
-                );
-            }
-        }
-    }
-}
-
 #[test]
 fn passes_over_fleets_of_a_few_units() {
     let mut draw = Draw::from_seed(201);
     let met = compare_passes((0..300_000).map(|_| fleets::pass_call(5, &mut draw)));
-    each_rule_decides(&met, 700);
+    each_rule_decides(&met, 1..=3, 700);
 }
 
 /// Units at their reserves and rated energies and one joule beside them, in every mode and state: how often
@@ -283,14 +164,14 @@ fn passes_over_units_beside_their_reserves_and_rated_energies() {
             }
         }
     }
-    each_rule_decides(&compare_passes(calls), 100);
+    each_rule_decides(&compare_passes(calls), 1..=3, 100);
 }
 
 #[test]
 fn passes_over_fleets_of_any_size() {
     let mut draw = Draw::from_seed(202);
     let met = compare_passes((0..100_000).map(|_| fleets::pass_call(64, &mut draw)));
-    each_rule_decides(&met, 300);
+    each_rule_decides(&met, 1..=3, 300);
 }
 
 /// One pass after the other over the same fleet, as a run makes them: each from where the last one left

@@ -12,7 +12,7 @@ use yesbrulka_reference::ranges::MOST_BYTES;
 use yesbrulka_reference::reading::Reading;
 use yesbrulka_reference::samples::inverters::document_inverter;
 use yesbrulka_reference::samples::sticks::{self, Field};
-use yesbrulka_reference::samples::{inverters, limits, older, roofs, seasons, Draw};
+use yesbrulka_reference::samples::{currents, inverters, limits, older, roofs, seasons, Draw};
 use yesbrulka_reference::season;
 use yesbrulka_reference::stick::{self, Run, FLEET, MISSING, TAGS, UNIT};
 use yesbrulka_reference::storage::Unit;
@@ -357,6 +357,8 @@ fn files_with_their_fields_in_another_order() {
         kinds.push(sticks::reading_field(&Reading::Missing));
         kinds.push(sticks::reading_field(&sticks::power_reading(&mut draw)));
         kinds.extend([sticks::end_field(2), sticks::end_field(0)]);
+        kinds.push(sticks::reading_field(&currents::current_reading(&mut draw)));
+        kinds.push(sticks::connections_field(&currents::connections(1, &mut draw)));
         files.check_orders(&fields, fields.len(), &kinds);
     }
     for _ in 0..15_000 {
@@ -441,7 +443,7 @@ fn fields_with_two_things_wrong() {
             let then = |field: &Field, left: usize| checks::ending(&fields[..at], field, left);
             for (tag, _) in TAGS {
                 let edition = if at == 0 { 1 } else { run.site.edition };
-                let length = stick::length_in(edition, tag).expect("a tag of the list");
+                let length = stick::length_in(edition, at.min(1), tag).expect("a tag of the list");
                 let bad = files.check_spoiled(&fields[..at], tag, length, &mut draw);
                 let number = if tag == fields[at].tag { 5 } else { 4 };
                 files.check_is(number, then(&bad, usize::MAX));

@@ -8,9 +8,12 @@ mod host;
 use fed::{Comparison, Row};
 use frames::Room;
 use host::{refuses_cut_rows, Host};
-use yesbrulka_reference::feed::{self, Going, Stage, State, FLAGS, SITE, SIZE, STAGES, UNITS};
+use yesbrulka_reference::feed::{
+    self, Going, Stage, State, CLOSE, FLAGS, LARGEST_FIELD, LONGEST, MOST_PLACE, MOST_SITE, MOST_TAIL,
+    OF_END, OF_WEATHER, SHORTEST, SITE, SIZE, STAGES, STANDING, TAIL, UNITS,
+};
 use yesbrulka_reference::reading::Reading;
-use yesbrulka_reference::samples::{inverters, older, roofs, seasons, sticks, Draw};
+use yesbrulka_reference::samples::{currents, inverters, older, roofs, seasons, sticks, Draw};
 use yesbrulka_reference::season::Standing;
 use yesbrulka_reference::solar::{Sun, Weather};
 use yesbrulka_reference::stick::{self, Answer, Run, MISSING};
@@ -32,7 +35,7 @@ fn plain(edition: u8, units: usize, steps: usize, draw: &mut Draw) -> Run {
 
 /// A small file of any edition that is to be refused, or is not for all that was done to it.
 fn damaged(draw: &mut Draw) -> Vec<u8> {
-    match draw.below(8) {
+    match draw.below(9) {
         0 => older::shuffled_file(draw),
         1 => sticks::noise(60, draw),
         2 => {
@@ -54,18 +57,20 @@ fn damaged(draw: &mut Draw) -> Vec<u8> {
         }
         5 => [sticks::file(&sticks::small_run(draw)), vec![draw.any() as u8; 3]].concat(),
         6 => sticks::damaged_file(draw),
+        7 => currents::damaged_file(draw),
         _ => older::damaged_file(draw),
     }
 }
 
 /// A file of any kind.
 fn any_file(draw: &mut Draw) -> Vec<u8> {
-    match draw.below(6) {
+    match draw.below(7) {
         0 | 1 => damaged(draw),
         2 => {
             let run = seasons::run(1 + draw.below(3) as usize, draw.below(6) as usize, draw);
             sticks::file(&run)
         }
+        3 => sticks::file(&currents::small_run(draw)),
         _ => sticks::file(&older::small_run(draw)),
     }
 }
@@ -111,6 +116,9 @@ fn every_cut_in_two() {
         files.push(sticks::file(&older::in_edition(edition, run, &mut draw)));
     }
     files.extend((0..100).map(|_| damaged(&mut draw)));
+    // One whose end is missing.
+    let whole = sticks::file(&plain(2, 1, 3, &mut draw));
+    files.push(whole[..whole.len() - 7].to_vec());
     for file in &files {
         for cut in 0..=file.len() {
             runs.cut(file, &[cut], &mut draw);
@@ -322,8 +330,11 @@ fn large_sites() {
             2 => (1, 64),
             _ => (1 + draw.below(64) as usize, draw.below(20) as usize),
         };
-        let run = roofs::run(units, inverters, 3, &mut draw);
-        let file = sticks::file(&older::in_edition(1 + round % 3, run, &mut draw));
+        let run = match round % 2 {
+            0 => currents::plain_run(&[1, 4, 5], units, inverters, 3, &mut draw),
+            _ => roofs::run(units, inverters, 3, &mut draw),
+        };
+        let file = sticks::file(&older::in_edition(3 - round % 3, run, &mut draw));
         let count = draw.below(5) as usize;
         runs.cut(&file, &cuts(count, &file, &mut draw), &mut draw);
         let mut row = Row::start(&mut draw);
@@ -374,7 +385,7 @@ fn as_many_steps_as_there_can_be() {
         assert_eq!(row.end(Room::Exact), 0);
         runs.add(row);
     }
-    for size in [132, 1_000, 4_096, 65_536, 1 << 20] {
+    for size in [132, LARGEST_FIELD, 1_000, 4_096, 65_536, 1 << 20] {
         let mut row = Row::start(&mut draw);
         for chunk in file.chunks(size) {
             assert_eq!(row.feed(chunk, Room::Exact), 0);
@@ -503,9 +514,9 @@ fn states_with_every_byte_changed() {
 fn large_states_with_bytes_changed() {
     let mut draw = Draw::from_seed(1_113);
     let mut runs = Comparison::start();
-    let run = roofs::run(64, 64, 2, &mut draw);
+    let run = currents::plain_run(&[4], 64, 64, 2, &mut draw);
     let file = sticks::file(&older::in_edition(3, run, &mut draw));
-    let states = [file.len() - 1, file.len() - 9, 22_100].map(|length| state_after(&file[..length]));
+    let states = [file.len() - 1, file.len() - 9, MOST_SITE - 100].map(|length| state_after(&file[..length]));
     for round in 0..1_200 {
         let state = &states[round % 3];
         let mut changed = state.clone();
@@ -545,22 +556,25 @@ fn states_with_numbers_at_their_ends_or_beside_them() {
             let mut changes: Vec<(usize, usize, u64)> = Vec::new();
             let steps = u64::from(feed::steps(&state));
             let but_steps = feed::place(&state) - 22 * steps;
-            for place in [but_steps + 3 * steps, but_steps + 46 * steps] {
+            for place in [but_steps + SHORTEST * steps, but_steps + LONGEST * steps] {
                 changes.extend([place.wrapping_sub(1), place, place + 1].map(|place| (1, 8, place)));
             }
             changes.extend([0, 1, 1 << 32, 1 << 63, u64::MAX].map(|place| (1, 8, place)));
             changes.extend([0, 1, 2, 3, 4, 65_535, 65_536, 1 << 31].map(|steps| (9, 4, steps)));
             changes.extend((0..=12).chain([255]).map(|number| (0, 1, number)));
-            changes.extend((0..=10).chain([255]).map(|stage| (13, 1, stage)));
+            changes.extend((0..=STAGES.len() as u64).chain([255]).map(|stage| (13, 1, stage)));
             let site = u64::from(state[14]) << 8 | u64::from(state[15]);
-            changes.extend([site - 1, site + 1, 0, 7, 22_168, 22_175, 22_176, 65_535].map(|n| (14, 2, n)));
-            changes.extend([0, 1, 2, 3, 4, 130, 131, 132, 255].map(|tail| (16, 1, tail)));
+            let most = (MOST_SITE + CLOSE.len()) as u64;
+            let lengths = [site - 1, site + 1, 0, 7, MOST_SITE as u64, most, most + 1, 65_535];
+            changes.extend(lengths.map(|n| (14, 2, n)));
+            let tail = MOST_TAIL as u64;
+            changes.extend([0, 1, 2, 3, 4, 131, tail - 1, tail, tail + 1, 255].map(|tail| (16, 1, tail)));
             let sun = [0, 1, 99_999_999, 100_000_000, 100_000_001, 1 << 31, -1i64 as u64];
             changes.extend(sun.map(|sun| (17, 4, sun)));
             changes.extend(sun.map(|sun| (21, 4, sun)));
             changes.extend([-100_000_000i64, -100_000_001].map(|sun| (21, 4, sun as u64)));
             for (i, unit) in run.site.units.iter().enumerate() {
-                let at = UNITS + 12 * i;
+                let at = UNITS + STANDING * i;
                 let rated = unit.rated;
                 changes.extend([0, rated - 1, rated, rated + 1, u64::MAX].map(|stored| (at, 8, stored)));
                 let rating = i64::from(unit.rating);
@@ -623,17 +637,17 @@ fn states_that_no_call_makes() {
             draw.one_of(&[&[][..], &[], &[4], &[9, 9], &[5, 0], &[4, 0, 24], &[7, 0, 129, 1], &[6, 0, 18]]);
         let tail = if stage == Stage::Ended { &[] } else { tail };
         let open = match stage {
-            Stage::AfterWeather => 19,
-            Stage::Ended => 7,
+            Stage::AfterWeather => OF_WEATHER,
+            Stage::Ended => OF_END,
             _ => 0,
         };
-        let least = (site.len() + open + tail.len()) as u64 + 3 * u64::from(steps);
+        let least = (site.len() + tail.len()) as u64 + open + SHORTEST * u64::from(steps);
         let sun = Sun {
             irradiance: draw.within(0, 100_000_000) as i32,
             temperature: draw.within(0, 200_000_000) as i32 - 100_000_000,
         };
         let state = State::Going(Going {
-            place: least + draw.below(43 * u64::from(steps) + 1),
+            place: least + draw.below((LONGEST - SHORTEST) * u64::from(steps) + 1),
             steps,
             stage,
             site,
@@ -657,9 +671,16 @@ fn states_that_no_call_makes() {
     }
     // Refusals of every number, with places and steps in their ranges and beyond them.
     for number in 0..=255u8 {
-        for (steps, place) in
-            [(0, 0), (0, 22_187), (0, 22_188), (3, 22_187 + 138), (65_535, 3_036_797), (65_536, 9)]
-        {
+        let of_most = MOST_PLACE + LONGEST * 65_535;
+        for (steps, place) in [
+            (0, 0),
+            (0, MOST_PLACE),
+            (0, MOST_PLACE + 1),
+            (3, MOST_PLACE + 3 * LONGEST),
+            (65_535, of_most),
+            (65_535, of_most + 1),
+            (65_536, 9),
+        ] {
             let mut state = feed::encode(&State::Over(Answer { number: 1, place, steps }));
             state[0] = number;
             let mut row = Row::of(&state);
@@ -679,8 +700,8 @@ fn states_with_a_field_of_a_step_in_the_site_part() {
     let mut runs = Comparison::start();
     let head = &sticks::file(&sticks::whole_case())[..76];
     let weather = sticks::bytes(&[roofs::weather_field(Weather { irradiance: 0.0, temperature: 0.0 })]);
-    for more in [&weather[..], &[MISSING, 0, 0], &[0x7F, 0, 4, 0, 0, 0, 0]] {
-        for close in [&[][..], &[0x7F, 0, 4, 0, 0, 0, 0]] {
+    for more in [&weather[..], &[MISSING, 0, 0], &CLOSE] {
+        for close in [&[][..], &CLOSE] {
             let part = [head, more, close].concat();
             for (stage, _) in STAGES.iter().enumerate() {
                 for (place, steps) in [(76, 0), (95, 0), (114, 0), (83, 0), (79, 1), (82, 1)] {
@@ -709,7 +730,8 @@ fn bytes_that_are_no_state() {
     let mut runs = Comparison::start();
     let file = sticks::file(&sticks::whole_case());
     let good = state_after(&file[..80]);
-    for length in [0, 1, 12, 13, 14, 987, 988, SIZE - 1, SIZE + 1, SIZE + 7, 2 * SIZE] {
+    // One that had no room for the connections among them.
+    for length in [0, 1, 12, 13, 14, TAIL, SITE - 1, SITE, 23_163, SIZE - 1, SIZE + 1, SIZE + 7, 2 * SIZE] {
         let mut state = good.clone();
         state.resize(length, 0);
         let mut row = Row::of(&state);

@@ -14,7 +14,7 @@ use yesbrulka_reference::rescue::{Kind, CHANGE};
 use yesbrulka_reference::samples::inverters::{self, Change};
 use yesbrulka_reference::samples::sticks::{self, Field};
 use yesbrulka_reference::samples::wrecks::{self, wreck, Wreck};
-use yesbrulka_reference::samples::{older, roofs, Draw};
+use yesbrulka_reference::samples::{currents, older, roofs, Draw};
 use yesbrulka_reference::stick::{self, Run, END, MISSING, POWER, TAGS, WEATHER};
 
 /// One unit, and a power, a missing reading and a power, the first and the last with a weather or none with one.
@@ -142,7 +142,7 @@ fn wrong_tags_and_lengths() {
             let tags = TAGS.map(|(tag, _)| tag).into_iter().chain((0..10).map(|_| draw.any() as u8));
             for tag in tags.collect::<Vec<_>>() {
                 with(Field { tag, ..field.clone() });
-                let length = stick::length_in(run.site.edition, tag).unwrap_or(7);
+                let length = stick::length_in(run.site.edition, 1, tag).unwrap_or(7);
                 with(Field::new(tag, vec![0; length.into()]));
             }
             for length in sticks::bad_lengths(field.tag) {
@@ -247,15 +247,15 @@ fn inverters_and_curves_damaged() {
     met.more_than(20, "weather dropped with its reading", [1]);
 }
 
-/// What can stand where a field is due in a file of an edition: nothing, a piece of a field, and of every tag a field
-/// with another length, of which bytes are missing, without a good value, and with one.
+/// What can stand where a field is due in a file of an edition and of two units: nothing, a piece of a field, and of
+/// every tag a field with another length, of which bytes are missing, without a good value, and with one.
 fn due(edition: u8, draw: &mut Draw) -> Vec<Vec<u8>> {
     let mut due = vec![Vec::new()];
     for tag in 0..=255 {
         due.extend([vec![tag], vec![tag, 0, draw.below(30) as u8]]);
     }
     for (tag, _) in TAGS {
-        let length = stick::length_in(edition, tag).expect("a tag of the list").into();
+        let length = stick::length_in(edition, 2, tag).expect("a tag of the list").into();
         let bad = Field::new(tag, vec![0xFF; length]);
         let bytes = sticks::bytes(std::slice::from_ref(&bad));
         due.extend([2, 3, bytes.len() - 1].map(|left| bytes[..left.min(bytes.len())].to_vec()));
@@ -263,33 +263,39 @@ fn due(edition: u8, draw: &mut Draw) -> Vec<Vec<u8>> {
         due.push(bytes);
     }
     due.extend((0..30).map(|_| sticks::bytes(&[roofs::any_field(draw)])));
+    due.push(sticks::bytes(&[sticks::connections_field(&currents::connections(2, draw))]));
     due
 }
 
-/// The stages by their numbers, each with the refusals that a fault can have there.
-const STAGES: [(u32, &[u32]); 9] = [
+/// The stages by their numbers, 10 for that of the connections by watts, each with the refusals that a fault can have.
+const STAGES: [(u32, &[u32]); 11] = [
     (0, &[9]),
     (1, &[1, 2, 3, 4, 5, 8]),
     (2, &[1, 2, 3, 4, 5, 8]),
     (3, &[1, 2, 3, 4, 5, 8]),
-    (4, &[1, 2, 3, 4, 6, 7, 8]),
+    (4, &[1, 2, 3, 4, 5, 6, 7, 8]),
     (5, &[1, 2, 3, 4, 5, 6, 7, 8]),
     (6, &[1, 2, 3, 4, 5, 8]),
     (7, &[1, 2, 3, 4, 5, 8]),
-    (8, &[1, 2, 3, 4, 6, 8]),
+    (8, &[1, 2, 3, 4, 5, 6, 8]),
+    (9, &[1, 2, 3, 4, 5, 8]),
+    (10, &[1, 2, 3, 4, 5, 6, 7, 8]),
 ];
 
 #[test]
 fn faults_at_every_stage() {
     let mut draw = Draw::from_seed(1_208);
     let mut files = Comparison::start(1_208);
-    for edition in 1..=3 {
+    // The fleet, two units and the settings; connections or none; then two inverters, a weather and its reading, a
+    // missing reading, a weather and its reading, the end.
+    let site: [(u8, &[u32]); 2] = [(1, &[1, 2, 2, 3, 10]), (4, &[1, 2, 2, 3, 9, 5])];
+    for (edition, (mode, site)) in (1..=3).flat_map(|edition| site.map(|site| (edition, site))) {
         let run = sticks::with(&small(edition, 2, true, &mut Draw::from_seed(edition.into())), |run| {
             run.site.units = vec![run.site.units[0]; 2];
         });
+        let run = currents::in_mode(mode, run, &mut draw);
         let fields = sticks::fields(&run);
-        // Two units, two inverters, a weather and its power, a missing reading, a weather and its power, the end.
-        let stages = [1, 2, 2, 3, 5, 6, 7, 5, 6, 7, 5, 8, 4, 4, 8, 4, 0];
+        let stages = [site, &[6, 7, 5, 6, 7, 5, 8, 4, 4, 8, 4, 0]].concat();
         assert_eq!(stages.len(), fields.len() + 1);
         for (before, stage) in stages.into_iter().enumerate() {
             let (head, rest) = (sticks::bytes(&fields[..before]), sticks::bytes(&fields[before..]));
@@ -303,13 +309,13 @@ fn faults_at_every_stage() {
                 }
                 let rescued = files.rescue(file);
                 // Before the steps a fault is refused, and behind that stage it never is.
-                let before_steps = [1, 2, 3, 6, 7].contains(&stage);
+                let before_steps = [1, 2, 3, 6, 7, 9].contains(&stage);
                 assert!(!before_steps || rescued.is_err() || fault.place > head.len() as u64);
                 assert!(![0, 4, 8].contains(&stage) || rescued.is_ok());
             }
         }
     }
-    let met = files.end(28_000);
+    let met = files.end(56_000);
     for (stage, numbers) in STAGES {
         met.more_than(2, "stage and fault", numbers.iter().map(|number| 100 * stage + number));
     }

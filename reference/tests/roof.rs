@@ -10,7 +10,7 @@ use yesbrulka_reference::ranges::MOST_BYTES;
 use yesbrulka_reference::reading::Reading;
 use yesbrulka_reference::samples::inverters::{self, document_inverter, Change};
 use yesbrulka_reference::samples::sticks::{self, Field};
-use yesbrulka_reference::samples::{roofs, Draw};
+use yesbrulka_reference::samples::{currents, roofs, Draw};
 use yesbrulka_reference::solar::Weather;
 use yesbrulka_reference::stick::{self, Run, CURVE, INVERTER, MISSING, WEATHER};
 
@@ -303,6 +303,8 @@ fn files_with_their_fields_in_another_order() {
         kinds.push(sticks::reading_field(&Reading::Missing));
         kinds.push(sticks::reading_field(&sticks::power_reading(&mut draw)));
         kinds.extend([sticks::end_field(2), sticks::end_field(0)]);
+        kinds.push(sticks::reading_field(&currents::current_reading(&mut draw)));
+        kinds.push(sticks::connections_field(&currents::connections(1, &mut draw)));
         files.check_orders(&fields, fields.len(), &kinds);
     }
     for _ in 0..15_000 {
@@ -412,15 +414,16 @@ fn fields_with_two_things_wrong() {
         for at in 3..fields.len() {
             let right = &fields[at];
             let then = |field: &Field, left: usize| checks::ending(&fields[..at], field, left);
-            for (tag, length) in stick::TAGS {
+            for (tag, _) in stick::TAGS {
+                let length = stick::length_in(1, 1, tag).expect("a tag of the list");
                 let bad = files.check_spoiled(&fields[..at], tag, length, &mut draw);
                 // What may stand at each of these places: by the order, or by its values.
                 let allowed: &[u8] = match at {
-                    3 => &[4, 5, 6, 8, 0x7F],
+                    3 => &[4, 5, 6, 8, 9, 0x0A, 0x7F],
                     4 | 5 => &[7],
-                    6 => &[4, 5, 6, 8, 0x7F],
-                    7 => &[4, 5],
-                    _ => &[4, 5, 8, 0x7F],
+                    6 => &[4, 5, 6, 8, 9, 0x7F],
+                    7 => &[4, 5, 9],
+                    _ => &[4, 5, 8, 9, 0x7F],
                 };
                 let number = match tag {
                     _ if !allowed.contains(&tag) => 4,
@@ -431,7 +434,7 @@ fn fields_with_two_things_wrong() {
                 };
                 files.check_is(number, then(&bad, usize::MAX));
             }
-            files.check_is(2, then(&Field { tag: 0x09, ..right.clone() }, 3));
+            files.check_is(2, then(&Field { tag: 0x0D, ..right.clone() }, 3));
             files.check_is(1, then(right, 2));
         }
     }

@@ -6,9 +6,10 @@ mod host;
 
 use frames::{put_file, said_units, shown, Met, Rest, FRAME};
 use host::{refuses_cut_rows, Host, LEFT_ALONE};
+use yesbrulka_reference::connection::Connection;
 use yesbrulka_reference::controller::Settings;
 use yesbrulka_reference::ranges::{MOST_BYTES, UNITS};
-use yesbrulka_reference::samples::{limits, older, roofs, seasons, sticks, units, Draw};
+use yesbrulka_reference::samples::{currents, limits, older, roofs, seasons, sticks, units, Draw};
 use yesbrulka_reference::site::{self, Site};
 use yesbrulka_reference::stick::{Run, MISSING};
 use yesbrulka_reference::storage::Unit;
@@ -58,6 +59,14 @@ struct UnitLeft {
     unit: Unit,
 }
 
+/// What `yb_connection` returns and leaves behind.
+#[derive(Debug, PartialEq)]
+struct ConnectionLeft {
+    number: u32,
+    disturbed: u8,
+    connection: Connection,
+}
+
 fn expected_site(site: &Result<Site, u32>) -> SiteLeft {
     match site {
         Ok(Site { seconds, units, settings, phase, inverters, .. }) => SiteLeft {
@@ -88,6 +97,15 @@ fn expected_unit(site: &Result<Site, u32>, number: u32) -> UnitLeft {
         Err(refused) => (refused, UNIT_LEFT),
     };
     UnitLeft { numbers: [number; 2], disturbed: [0; 2], unit }
+}
+
+fn expected_connection(site: &Result<Site, u32>, number: u32) -> ConnectionLeft {
+    let found = site.as_ref().map_err(|&refused| refused).and_then(|site| site.connection(number));
+    let (number, connection) = match found {
+        Ok(connection) => (0, connection),
+        Err(refused) => (refused, Connection { phases: LEFT_1, volts: LEFT_2 }),
+    };
+    ConnectionLeft { number, disturbed: 0, connection }
 }
 
 fn left_site(rest: &mut Rest) -> SiteLeft {
@@ -129,6 +147,17 @@ fn left_unit(rest: &mut Rest) -> UnitLeft {
     let disturbed = [disturbed, u8::from_le_bytes(rest.take())];
     let (provide, absorb) = (u32::from_le_bytes(rest.take()), u32::from_le_bytes(rest.take()));
     UnitLeft { numbers, disturbed, unit: Unit { provide, absorb, ..unit } }
+}
+
+fn left_connection(rest: &mut Rest) -> ConnectionLeft {
+    ConnectionLeft {
+        number: u32::from_le_bytes(rest.take()),
+        disturbed: u8::from_le_bytes(rest.take()),
+        connection: Connection {
+            phases: u8::from_le_bytes(rest.take()),
+            volts: u16::from_le_bytes(rest.take()),
+        },
+    }
 }
 
 fn put_unit_numbers(payload: &mut Vec<u8>, numbers: &[u32], file: &[u8]) {
@@ -184,7 +213,11 @@ impl Sites {
         let file = file.into();
         let numbers: Vec<u32> = numbers.into_iter().collect();
         let site = site::of(&file);
-        if let Ok(Site { edition, units, settings, phase, inverters, .. }) = &site {
+        if let Ok(Site { edition, units, settings, phase, connections, inverters, .. }) = &site {
+            self.met.note(
+                "connections in a mode",
+                10 * u32::from(settings.mode) + u32::from(!connections.is_empty()),
+            );
             self.met.note("edition", (*edition).into());
             self.met.note("units", units.len() as u32);
             self.met.note("inverters", inverters.len() as u32);
@@ -216,7 +249,8 @@ impl Sites {
     fn compare(&mut self) {
         let sites = self.host.call(b'F', &self.payload[0]);
         let units = self.host.call(b'U', &self.payload[1]);
-        let (mut sites, mut units) = (Rest(&sites), Rest(&units));
+        let connections = self.host.call(b'N', &self.payload[1]);
+        let (mut sites, mut units, mut connections) = (Rest(&sites), Rest(&units), Rest(&connections));
         for Asked { file, site, numbers } in self.files.drain(..) {
             let mut differ = Vec::new();
             let (got, expected) = (left_site(&mut sites), expected_site(&site));
@@ -228,6 +262,12 @@ impl Sites {
                 if got != expected {
                     differ.push(format!("  unit {number}\n  archive   {got:?}\n  reference {expected:?}"));
                 }
+                let (got, connected) =
+                    (left_connection(&mut connections), expected_connection(&site, number));
+                if got != connected {
+                    differ.push(format!("  unit {number}\n  archive   {got:?}\n  reference {connected:?}"));
+                }
+                self.met.note("connection number", connected.number);
                 self.units += 1;
                 self.met.note("unit number", expected.numbers[0]);
                 if expected.numbers[0] == 0 {
@@ -243,7 +283,8 @@ impl Sites {
                 }
             }
         }
-        assert!(sites.0.is_empty() && units.0.is_empty(), "no answer but for a file and its units");
+        let rest = [sites.0, units.0, connections.0].concat();
+        assert!(rest.is_empty(), "no answer but for a file and its units");
         self.payload.iter_mut().for_each(Vec::clear);
     }
 
@@ -379,6 +420,39 @@ fn files_with_limits() {
     met.more_than(500, "edition", 1..=3);
     met.more_than(5_000, "a limit below S", 0..=3);
     met.more_than(100, "number", [0, 1, 2, 3, 4, 5, 6, 7, 8, 9]);
+}
+
+/// Files of every mode with connections and of modes 1 to 3 without: complete, cut, damaged, and with their connections
+/// left out.
+#[test]
+fn files_with_connections() {
+    let mut draw = Draw::from_seed(621);
+    let mut sites = Sites::start();
+    for units in 1..=64 {
+        for mode in 1..=5 {
+            for round in 0..6 {
+                let steps = draw.below(4) as usize;
+                let run = currents::run_in(&[mode], units, round % 2, steps, &mut draw);
+                assert_eq!(sites.ask(sticks::file(&run), 0..units as u32 + 1), 0);
+                let without = sticks::with(&run, |run| run.site.connections.clear());
+                assert_eq!(sites.site(sticks::file(&without)), if mode > 3 { 4 } else { 0 });
+            }
+        }
+        let file = sticks::file(&currents::run(units, 0, 2, &mut draw));
+        assert_ne!(sites.site(&file[..file.len() - 1]), 0);
+        assert_eq!(sites.site([&file[..], &[0]].concat()), 9);
+    }
+    for round in 0..12_000 {
+        sites.site(match round % 4 {
+            0 => currents::shuffled_file(&mut draw),
+            _ => currents::damaged_file(&mut draw),
+        });
+    }
+    let met = sites.end(15_900, 240_000);
+    met.more_than(200, "connections in a mode", [10, 11, 20, 21, 30, 31, 41, 51]);
+    met.more_than(10_000, "connection number", [0, 10]);
+    met.more_than(1_000, "connection number", [3, 4, 5]);
+    met.more_than(100, "number", 0..=9);
 }
 
 /// Every number that a byte can say and some more, of complete files of every size and of refused ones.
@@ -579,6 +653,7 @@ fn the_host_takes_no_malformed_site() {
     let (mut site, mut units) = (Vec::new(), Vec::new());
     put_file(&mut site, &[0; 4]);
     put_unit_numbers(&mut units, &[0, 1], &[0; 4]);
+    let connections = units.clone();
     let rows = [
         (b'F', site, &[1, 4, 7][..], 29, "host: op F: the payload is no row of files\n"),
         (
@@ -587,6 +662,13 @@ fn the_host_takes_no_malformed_site() {
             &[1, 4, 11, 12, 19],
             134,
             "host: op U: the payload is no row of unit numbers and files\n",
+        ),
+        (
+            b'N',
+            connections,
+            &[1, 4, 11, 12, 19],
+            16,
+            "host: op N: the payload is no row of unit numbers and files\n",
         ),
     ];
     for (op, payload, cuts, answer, message) in rows {

@@ -8,9 +8,9 @@ use host::{refuses_cut_rows, Host};
 use yesbrulka_reference::ranges::MOST_BYTES;
 use yesbrulka_reference::reading::Reading;
 use yesbrulka_reference::samples::sticks::{self, Field};
-use yesbrulka_reference::samples::{inverters, roofs, units, Draw};
+use yesbrulka_reference::samples::{currents, inverters, roofs, units, Draw};
 use yesbrulka_reference::stick::{
-    self, Run, CURVE, END, INVERTER, MISSING, POWER, SETTINGS, TAGS, UNIT, WEATHER,
+    self, Run, CONNECTIONS, CURRENT, CURVE, END, INVERTER, MISSING, POWER, SETTINGS, TAGS, UNIT, WEATHER,
 };
 
 /// One unit, and a power reading and a missing one, with the settings of a farm.
@@ -99,7 +99,7 @@ fn files_with_bytes_left_out_or_put_in() {
 }
 
 /// Every field left out, repeated, exchanged with every other, replaced by every other, and every field of
-/// the list put in at every place, those of inverters and weather too.
+/// the list put in at every place, those of inverters, weather and currents too.
 #[test]
 fn files_with_their_fields_in_another_order() {
     let mut draw = Draw::from_seed(405);
@@ -119,6 +119,10 @@ fn files_with_their_fields_in_another_order() {
             ])
             .chain([sticks::end_field(3), sticks::end_field(0)])
             .chain(of_roofs.clone())
+            .chain([
+                sticks::reading_field(&currents::current_reading(&mut draw)),
+                sticks::connections_field(&currents::connections(units, &mut draw)),
+            ])
             .collect();
         files.check_orders(&fields, fields.len().min(12), &kinds);
     }
@@ -171,7 +175,7 @@ fn files_with_wrong_tags_and_lengths() {
                 let mut fields = fields.clone();
                 fields[at].tag = tag;
                 files.check(sticks::bytes(&fields));
-                let length = stick::length_of(tag).unwrap_or_else(|| draw.below(60) as u16);
+                let length = stick::length_in(1, at.min(1), tag).unwrap_or_else(|| draw.below(60) as u16);
                 fields[at] = Field::new(tag, vec![0; length.into()]);
                 files.check(sticks::bytes(&fields));
             }
@@ -182,7 +186,7 @@ fn files_with_wrong_tags_and_lengths() {
                 fields[at].value.resize(length.into(), 0);
                 files.check(sticks::bytes(&fields));
             }
-            for tag in [INVERTER, CURVE, WEATHER] {
+            for tag in [INVERTER, CURVE, WEATHER, CURRENT, CONNECTIONS] {
                 for length in sticks::bad_lengths(tag) {
                     let mut fields = fields.clone();
                     fields[at] = Field::new(tag, vec![0; length.into()]);
@@ -331,12 +335,16 @@ fn fields_with_two_things_wrong() {
             files.check_is(3, then(&wrong, 3));
             files.check_is(3, then(&wrong, 3 + right.value.len()));
             // Every tag at every point: with a wrong length, with bytes missing, out of order, with bad values.
-            for (tag, length) in TAGS {
+            for (tag, _) in TAGS {
+                // There is no unit before the fleet, and one behind it.
+                let length = stick::length_in(1, at.min(1), tag).expect("a tag of the list");
                 let bad = files.check_spoiled(&fields[..at], tag, length, &mut draw);
-                let in_steps = [POWER, MISSING, WEATHER, END].contains(&tag);
-                let allowed = right.tag == tag || at >= 3 && in_steps || at == 3 && tag == INVERTER;
+                let in_steps = [POWER, MISSING, CURRENT, WEATHER, END].contains(&tag);
+                let next = at == 3 && [INVERTER, CONNECTIONS].contains(&tag);
                 match tag {
-                    _ if !allowed => files.check_is(4, then(&bad, usize::MAX)),
+                    _ if !(right.tag == tag || at >= 3 && in_steps || next) => {
+                        files.check_is(4, then(&bad, usize::MAX))
+                    }
                     POWER | WEATHER => files.check_is(6, then(&bad, usize::MAX)),
                     END => files.check_is(7, then(&bad, usize::MAX)),
                     MISSING => files.check_is(8, then(&bad, usize::MAX)),
@@ -432,7 +440,11 @@ fn files_of_as_many_steps_as_there_can_be() {
         then(1, 65_535, &[&missing, &unusable], 1);
         then(1, 65_535, &[&missing, &missing], 1);
         then(3, 65_535, &[&missing, &Field { length: 1, ..missing.clone() }], 0);
-        then(2, 65_535, &[&missing, &Field { tag: 9, ..missing.clone() }], 0);
+        then(2, 65_535, &[&missing, &Field { tag: 0x0D, ..missing.clone() }], 0);
+        // A current is of the wrong kind here, and that is no matter before its order and the limit.
+        let current = sticks::reading_field(&currents::current_reading(&mut Draw::from_seed(0)));
+        then(5, 65_534, &[&current], 0);
+        then(12, 65_535, &[&missing, &current], 0);
         then(4, 65_535, &[&missing, &head[1]], 0);
         // A weather after the last step, before which the limit is not tested.
         let weather = roofs::weather_field(inverters::weather(&mut Draw::from_seed(0)));

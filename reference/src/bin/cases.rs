@@ -9,14 +9,15 @@ use std::fmt::Display;
 use std::process::ExitCode;
 use std::{env, fs};
 
-use yesbrulka_reference::controller::{self, Fleet};
+use yesbrulka_reference::connection::Connection;
+use yesbrulka_reference::controller::{self, Fleet, Settings};
 use yesbrulka_reference::octets::{put_i32, put_u16, put_u32, put_u64, put_u8};
 use yesbrulka_reference::reading::{self, Phases, Reading};
 use yesbrulka_reference::samples::fleets::{self, PassCall, StudyCall};
 use yesbrulka_reference::samples::inverters::{self, SolarCall};
 use yesbrulka_reference::samples::sticks::{self, Field};
 use yesbrulka_reference::samples::units::{self, StepCall};
-use yesbrulka_reference::samples::{self, limits, older, roofs, seasons, Draw};
+use yesbrulka_reference::samples::{self, currents, limits, older, roofs, seasons, Draw};
 use yesbrulka_reference::season;
 use yesbrulka_reference::solar::{Produced, Weather};
 use yesbrulka_reference::stick::{self, Answer, Run};
@@ -1035,6 +1036,160 @@ fn older_figure_cases(cases: &mut Cases) {
     }
 }
 
+/// A stick of one unit in a mode, with its connection, and two steps that fit it, one of them missing.
+fn connected_run(mode: u8, draw: &mut Draw) -> Run {
+    let mut run = currents::plain_run(&[mode], 1, 0, 0, draw);
+    run.readings = vec![currents::fitting_reading(&run.site.settings, draw), Reading::Missing];
+    run
+}
+
+/// Files of sites that buy by current, and of others with connections. A pass of such a site has no record of its own:
+/// the runs are its cases.
+fn current_check_cases(cases: &mut Cases) {
+    let mut draw = Draw::from_seed(20);
+    let run = connected_run(4, &mut draw);
+    let fields = sticks::fields(&run);
+    let file = sticks::bytes(&fields);
+    for length in 61..=file.len() {
+        cases.check(&file[..length]);
+    }
+    // From the settings on, each field left out, said twice, of another tag or length, or any of them after any number
+    // of others.
+    for at in 2..fields.len() {
+        field_cases(cases, &fields, at, &[4, 5, 9, 0x0A, 0x0B, 0x8A], &mut draw);
+    }
+    // The connections missing, twice, and before and behind every field, in every mode.
+    for mode in 1..=5 {
+        let run = connected_run(mode, &mut draw);
+        let without = currents::without_connections(&run);
+        let connections = sticks::connections_field(&run.site.connections);
+        cases.check(&sticks::bytes(&without));
+        for at in 0..=without.len() {
+            let (before, after) = without.split_at(at);
+            cases.check(&sticks::bytes(&[before, &[connections.clone()], after].concat()));
+        }
+        cases.check(&sticks::bytes(&[&sticks::fields(&run)[..4], &[connections.clone()]].concat()));
+        reading_kind_cases(cases, &run, &mut draw);
+    }
+    connection_value_cases(cases, &run, &mut draw);
+    // Several things wrong at once, and fleets of other sizes.
+    for _ in 0..220 {
+        cases.check(&currents::damaged_file(&mut draw));
+    }
+    for _ in 0..60 {
+        cases.check(&currents::shuffled_file(&mut draw));
+    }
+    for units in [2, 3, 4, 21, 22, 63, 64] {
+        let run = currents::run_in(&[1, 4, 5], units, units % 3, 2, &mut draw);
+        cases.check(&sticks::file(&run));
+        cases.check(&sticks::bytes(&currents::without_connections(&run)));
+    }
+}
+
+/// Readings of both kinds behind this run's, good and bad.
+fn reading_kind_cases(cases: &mut Cases, run: &Run, draw: &mut Draw) {
+    let settings = &run.site.settings;
+    let other = Settings { mode: if settings.by_current() { 1 } else { 4 }, ..*settings };
+    let readings = [
+        currents::fitting_reading(settings, draw),
+        currents::misfit_reading(settings, draw),
+        currents::unusable_reading(settings, draw),
+        currents::unusable_reading(&other, draw),
+    ];
+    for reading in readings {
+        cases.check(&sticks::file(&sticks::with(run, |run| run.readings.push(reading))));
+        let weather = Weather { irradiance: 0.5, temperature: 1.0 };
+        let sunny = sticks::with(run, |run| run.readings[0] = reading);
+        cases.check(&sticks::file(&roofs::with_weather(&sunny, 0, weather)));
+    }
+}
+
+/// Connections, modes and currents at the ends of their ranges and beside them.
+fn connection_value_cases(cases: &mut Cases, run: &Run, draw: &mut Draw) {
+    for phases in (0..=5).chain([128, 129, 131, 255]) {
+        cases.check(&sticks::file(&sticks::with(run, |run| run.site.connections[0].phases = phases)));
+    }
+    for volts in [0, 1, 230, 256, 39_999, 40_000, 40_001, 1 << 15, u16::MAX] {
+        cases.check(&sticks::file(&sticks::with(run, |run| run.site.connections[0].volts = volts)));
+    }
+    for mode in (0..=6).chain([132, 255]) {
+        cases.check(&sticks::file(&sticks::with(run, |run| run.site.settings.mode = mode)));
+    }
+    for change in sticks::SETTINGS_ENDS[3..].iter().chain(&sticks::BAD_SETTINGS) {
+        cases.check(&sticks::file(&sticks::with(run, change)));
+    }
+    let ends =
+        [0.0, -0.0, -0.0001, -0.0004, -0.0005, -0.0006, 0.0625, 0.1875, -0.0625, 100_000.0, 100_000.000_5];
+    let ends = ends.iter().flat_map(|r: &f64| samples::beside(r.to_bits()));
+    for (i, bits) in ends.chain(currents::bad_currents(draw)).enumerate() {
+        let reading = currents::bad_reading(i % 3, bits, draw);
+        cases.check(&sticks::file(&sticks::with(run, |run| run.readings[0] = reading)));
+    }
+}
+
+/// Runs in which each step is a pass of a site that buys by current. Few steps, to keep the stored files small.
+fn current_run_cases(cases: &mut Cases) {
+    let mut draw = Draw::from_seed(21);
+    current_figure_cases(cases);
+    for units in (1..=8).chain([16, 33, 64]) {
+        let steps = if units == 64 { 3 } else { 1 + units % 4 };
+        cases.run_of(0, &currents::run_in(&[4, 5], units, 0, steps, &mut draw));
+    }
+    // Every mode and phase choice, with energies that run out; in modes 1 to 3 the connections change nothing.
+    for mode in 1..=5 {
+        for phase in 0..=5 {
+            let run =
+                sticks::with(&currents::plain_run(&[mode], 2, 0, 5, &mut draw), |run| run.site.phase = phase);
+            cases.run_of(0, &run);
+        }
+    }
+    let run = currents::plain_run(&[4], 2, 1, 4, &mut draw);
+    for phases in [1, 3] {
+        for volts in [1, 2, 230, 10_000, 39_999, 40_000] {
+            let connection = Connection { phases, volts };
+            for mode in [4, 5] {
+                let run = sticks::with(&run, |run| {
+                    (run.site.settings.mode, run.site.connections[1]) = (mode, connection);
+                });
+                cases.run_of(0, &run);
+            }
+        }
+    }
+    // Rooms that fit, are longer, or fall short, with inverters or without.
+    for round in 0..200 {
+        let (units, steps) = (1 + round % 3, draw.below(7) as usize);
+        let more = draw.one_of(&[0, 0, 0, 1, 40, -1, -40]);
+        cases.run_of(more, &currents::run(units, round % 2, steps, &mut draw));
+    }
+    // Refused files, where the room would do.
+    for _ in 0..50 {
+        cases.run(600, &currents::damaged_file(&mut draw));
+    }
+    cases.run(600, &sticks::bytes(&currents::without_connections(&run)));
+    let misfit = currents::misfit_reading(&run.site.settings, &mut draw);
+    cases.run(600, &sticks::file(&sticks::with(&run, |run| run.readings[2] = misfit)));
+}
+
+/// The settings, connections and currents of the passes by hand, in runs of two like units.
+fn current_figure_cases(cases: &mut Cases) {
+    for (call, _) in currents::figure_passes() {
+        let run = sticks::with(&sticks::whole_case(), |run| {
+            let unit =
+                Unit { rating: 100_000, kva: 100_000, idle_loss: 0, stored: 1_800_000, ..run.site.units[0] };
+            run.site.units = vec![unit; 2];
+            run.site.settings = call.pass.settings;
+            let units = call.units.units();
+            run.site.connections = units.collect();
+            let of =
+                |milliamperes: i64| Reading::Current(Phases::of([milliamperes as f64 / 1000.0, 0.0, 0.0]));
+            let measure = call.pass.measure;
+            run.readings =
+                vec![of(measure), Reading::Missing, of(measure / 2), of(2 * measure), of(0), of(measure)];
+        });
+        cases.run_of(0, &run);
+    }
+}
+
 fn main() -> ExitCode {
     let names: Vec<_> = env::args_os().skip(1).collect();
     if names.len() != 2 {
@@ -1062,6 +1217,8 @@ fn main() -> ExitCode {
     limits_check_cases(&mut cases, 18, &up_to_3());
     limits_run_cases(&mut cases, 19, &up_to_3());
     older_figure_cases(&mut cases);
+    current_check_cases(&mut cases);
+    current_run_cases(&mut cases);
     for (name, bytes) in names.iter().zip([cases.records.as_slice(), cases.answers.as_bytes()]) {
         if let Err(error) = fs::write(name, bytes) {
             eprintln!("cases: {}: {error}", name.to_string_lossy());

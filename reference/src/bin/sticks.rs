@@ -1,20 +1,21 @@
 //! Writes the sample sticks: `sticks FOLDER`.
 //!
-//! `season.stick`, `harvest.stick`, `roof.stick`, `vineyard.stick` and `mill.stick` are complete; each of the others is
-//! one of these, or one like it, after one thing that happens to sticks; `refused-06-three-faults.stick` after three of
-//! them, and `rescued-three-faults.stick` is what a rescue leaves of it. The same files come out every time, so that
-//! the gate can compare them with the stored ones.
+//! `season.stick`, `harvest.stick`, `roof.stick`, `vineyard.stick`, `mill.stick` and `dairy.stick` are complete; each
+//! of the others is one of these, or one like it, after one thing that happens to sticks;
+//! `refused-06-three-faults.stick` after three of them, and `rescued-three-faults.stick` is what a rescue leaves of
+//! it. The same files come out every time, so that the gate can compare them with the stored ones.
 
 use std::path::PathBuf;
 use std::process::ExitCode;
 use std::{env, fs};
 
+use yesbrulka_reference::connection::Connection;
 use yesbrulka_reference::controller::Settings;
 use yesbrulka_reference::curve::Curve;
 use yesbrulka_reference::reading::{Phases, Reading};
 use yesbrulka_reference::rescue;
 use yesbrulka_reference::samples::sticks::{self, Field};
-use yesbrulka_reference::samples::{curves, roofs};
+use yesbrulka_reference::samples::{currents, curves, roofs};
 use yesbrulka_reference::site::Site;
 use yesbrulka_reference::solar::{Inverter, Weather};
 use yesbrulka_reference::stick::{Run, MISSING};
@@ -83,6 +84,7 @@ fn season() -> Run {
             units: vec![dairy, grain, pumps],
             settings: Settings { mode: 1, target: 120_000, band: 6_000, factor: 1_000 },
             phase: 0,
+            connections: Vec::new(),
             inverters: Vec::new(),
         },
         readings: (0..STEPS).map(reading).collect(),
@@ -185,6 +187,7 @@ fn harvest() -> Run {
             units: vec![dairy, dryer, workshop, pumps],
             settings: Settings { mode: 1, target: 90_000, band: 4_000, factor: 600 },
             phase: 0,
+            connections: Vec::new(),
             inverters: Vec::new(),
         },
         readings: (0..STEPS).map(harvest_reading).collect(),
@@ -218,11 +221,11 @@ fn harvest_reading(step: usize) -> Reading {
 const NO_NUMBER: u64 = 0x7FF8_0000_0000_0000;
 const INFINITE: u64 = 0x7FF0_0000_0000_0000;
 
-/// Sets the second phase of a power reading by its bits.
+/// Sets the second phase of a reading by its bits.
 fn set_second(run: &mut Run, step: usize, bits: u64) {
     match &mut run.readings[step] {
-        Reading::Power(phases) => phases.second = f64::from_bits(bits),
-        Reading::Missing => panic!("step {step} has no powers"),
+        Reading::Power(phases) | Reading::Current(phases) => phases.second = f64::from_bits(bits),
+        Reading::Missing => panic!("step {step} has no phases"),
     }
 }
 
@@ -295,6 +298,7 @@ fn roof() -> Run {
             units: vec![cold_store, press, hall],
             settings: Settings { mode: 3, target: -15_000, band: 3_000, factor: 700 },
             phase: 0,
+            connections: Vec::new(),
             inverters: roof_inverters(),
         },
         readings: (0..DAY).map(roof_reading).collect(),
@@ -357,23 +361,27 @@ fn quarter(meter: &[i64; 24], step: usize, noise: i64, parts: [i64; 3]) -> Readi
     Reading::Power(Phases { first, second, third })
 }
 
+/// The sun of a clear day by the hour in W/m², and tenths of a degree on the panels.
+const SUN: [i64; 24] =
+    [0, 0, 0, 0, 0, 12, 95, 210, 380, 560, 730, 860, 940, 960, 910, 790, 620, 420, 220, 70, 4, 0, 0, 0];
+const PANELS: [i64; 24] = [
+    112, 108, 104, 101, 99, 104, 128, 175, 248, 331, 405, 468, 512, 537, 528, 486, 421, 347, 268, 207, 172,
+    150, 134, 121,
+];
+
+/// A weather of so many W/m² and tenths of a degree.
+fn measured(sun: i64, panels: i64) -> Weather {
+    Weather { irradiance: sun as f64 / 1000.0, temperature: panels as f64 / 10.0 }
+}
+
 /// A quarter's weather: a clear morning, clouds after noon, and a station that was silent for an hour in the morning
 /// and now and then.
 fn roof_weather(step: usize) -> Option<Weather> {
     if (38..42).contains(&step) || step % 31 == 17 {
         return None;
     }
-    // W/m², and tenths of a degree on the panels.
-    let sun =
-        [0, 0, 0, 0, 0, 12, 95, 210, 380, 560, 730, 860, 940, 960, 910, 790, 620, 420, 220, 70, 4, 0, 0, 0];
-    let panels = [
-        112, 108, 104, 101, 99, 104, 128, 175, 248, 331, 405, 468, 512, 537, 528, 486, 421, 347, 268, 207,
-        172, 150, 134, 121,
-    ];
     let clouds = if (54..66).contains(&step) { [100, 35, 72, 21, 88][step % 5] } else { 100 };
-    let irradiance = between_hours(&sun, step) * clouds / 100;
-    let temperature = between_hours(&panels, step);
-    Some(Weather { irradiance: irradiance as f64 / 1000.0, temperature: temperature as f64 / 10.0 })
+    Some(measured(between_hours(&SUN, step) * clouds / 100, between_hours(&PANELS, step)))
 }
 
 /// A quarter's reading: the meter is behind the roofs, and shows what the co-operative gives at noon as negative. It was
@@ -523,6 +531,7 @@ fn vineyard() -> Run {
             units: vec![cellar, press, pumps, store],
             settings: Settings { mode: 1, target: 55_000, band: 4_000, factor: 600 },
             phase: 0,
+            connections: Vec::new(),
             inverters: roof_inverters()[..1].to_vec(),
         },
         readings: (0..DAY).map(vineyard_reading).collect(),
@@ -622,6 +631,7 @@ fn mill() -> Run {
             units: vec![mill, bakery, ice_house],
             settings: Settings { mode: 1, target: 48_000, band: 3_000, factor: 500 },
             phase: 0,
+            connections: Vec::new(),
             inverters: Vec::new(),
         },
         readings: (0..DAY).map(mill_reading).collect(),
@@ -641,6 +651,118 @@ fn mill_reading(step: usize) -> Reading {
         340, 320, 310, 300,
     ];
     quarter(&meter, step, (step * 47 % 43) as i64 - 21, [38, 32, 30])
+}
+
+/// A working week of hours.
+const WEEK: usize = 5 * 24;
+
+/// A dairy that buys by the current of its main fuse, which is to carry no more than 63 A in any phase. The parlour's
+/// battery hangs on three phases of the house, the small one at the calves on one, and the cold store's on the line of
+/// 10 kV. On the parlour is a roof.
+fn dairy() -> Run {
+    let kwh = 3_600_000;
+    let parlour = Unit {
+        rated: 400 * kwh,
+        reserve: 40 * kwh,
+        stored: 390 * kwh,
+        rating: 15_000,
+        kva: 16_000,
+        idle_loss: 120,
+        var_request: 3_000,
+        weight: 20,
+        inverter: 9_600,
+        charge: 9_500,
+        discharge: 9_500,
+        priority: 0,
+        provide: 16_000,
+        absorb: 16_000,
+    };
+    let calves = Unit {
+        rated: 12 * kwh,
+        reserve: kwh,
+        stored: 12 * kwh,
+        rating: 2_000,
+        kva: 2_300,
+        idle_loss: 15,
+        var_request: 0,
+        weight: 5,
+        inverter: 9_300,
+        charge: 9_200,
+        discharge: 9_200,
+        ..parlour
+    };
+    let cold_store = Unit {
+        rated: 900 * kwh,
+        reserve: 90 * kwh,
+        stored: 850 * kwh,
+        rating: 20_000,
+        kva: 30_000,
+        idle_loss: 250,
+        var_request: -6_000,
+        weight: 1,
+        ..parlour
+    };
+    let connections = [(3, 230), (1, 230), (3, 10_000)];
+    Run {
+        site: Site {
+            edition: 1,
+            seconds: 3_600,
+            units: vec![parlour, calves, cold_store],
+            settings: Settings { mode: 4, target: 63_000, band: 2_000, factor: 800 },
+            phase: 4,
+            connections: connections.map(|(phases, volts)| Connection { phases, volts }).to_vec(),
+            inverters: roof_inverters()[..1].to_vec(),
+        },
+        readings: (0..WEEK).map(dairy_reading).collect(),
+        weather: (0..WEEK).map(dairy_weather).collect(),
+    }
+}
+
+/// An hour's currents: the milkings in the morning and in the evening. The clamps were off in Wednesday's evening
+/// milking, and once in a night.
+fn dairy_reading(step: usize) -> Reading {
+    let (day, hour) = (step / 24, step % 24);
+    if step == 2 * 24 + 17 || step == 3 * 24 + 2 {
+        return Reading::Missing;
+    }
+    // In tenths of an ampere. The meter is behind the batteries: once these give, it shows less.
+    let load = match hour {
+        5 => 810,
+        6..=7 | 17..=18 => 632,
+        16 => 860,
+        8..=15 => 440,
+        19 => 520,
+        _ => 300,
+    };
+    let noise = (step * 37 + day * 11) as i32 % 9 - 4;
+    let amperes = |part: i32| f64::from((load + noise) * part) / 1000.0;
+    Reading::Current(Phases::of([amperes(91), amperes(100), amperes(84)]))
+}
+
+/// An hour's weather: two clear days, a dull one, and a station that was silent in one night.
+fn dairy_weather(step: usize) -> Option<Weather> {
+    let (day, hour) = (step / 24, step % 24);
+    let clear = [100, 80, 30, 95, 100][day];
+    (day != 1 || hour > 4).then(|| measured(SUN[hour] * clear / 100, PANELS[hour]))
+}
+
+/// The complete stick of the dairy, and what happened to others like it.
+fn dairy_examples() -> Vec<(&'static str, u32, Vec<u8>)> {
+    let run = dairy();
+    let with = |change: &dyn Fn(&mut Run)| sticks::file(&sticks::with(&run, change));
+    vec![
+        ("dairy.stick", 0, sticks::file(&run)),
+        // The mode was set to buy by current, and nobody said how the batteries are connected.
+        ("refused-04-connections-missing.stick", 4, sticks::bytes(&currents::without_connections(&run))),
+        // For an hour the meter was set to powers.
+        (
+            "refused-05-reading-does-not-fit.stick",
+            5,
+            with(&|run| run.readings[61] = Reading::Power(Phases::of([10.1, 9.2, 8.8]))),
+        ),
+        // A clamp was put on the wrong way round.
+        ("refused-06-current-below-zero.stick", 6, with(&|run| set_second(run, 88, (-63.2f64).to_bits()))),
+    ]
 }
 
 /// The steps of the roof's day whose readings cannot be used: one without a weather, and one with it.
@@ -711,6 +833,7 @@ fn examples() -> Vec<(&'static str, u32, Vec<u8>)> {
     all.extend(vineyard_examples());
     all.push(("mill.stick", 0, sticks::file(&mill())));
     all.extend(rescue_examples());
+    all.extend(dairy_examples());
     all
 }
 
@@ -736,7 +859,7 @@ mod tests {
     use super::*;
     use yesbrulka_reference::rescue::{Kind, Rescued};
     use yesbrulka_reference::season::{self, Step};
-    use yesbrulka_reference::stick::{self, Answer, CURVE, END, INVERTER, POWER, WEATHER};
+    use yesbrulka_reference::stick::{self, Answer, CURRENT, CURVE, END, INVERTER, POWER, WEATHER};
 
     #[test]
     fn each_stick_is_refused_for_what_its_name_says() {
@@ -751,7 +874,7 @@ mod tests {
         let numbers: Vec<u32> = examples().iter().map(|&(_, number, _)| number).collect();
         assert_eq!(
             numbers,
-            [0, 0, 1, 2, 3, 4, 5, 6, 7, 8, 9, 12, 0, 4, 4, 4, 5, 5, 6, 6, 0, 3, 5, 5, 0, 6, 0]
+            [0, 0, 1, 2, 3, 4, 5, 6, 7, 8, 9, 12, 0, 4, 4, 4, 5, 5, 6, 6, 0, 3, 5, 5, 0, 6, 0, 0, 4, 5, 6]
         );
     }
 
@@ -761,6 +884,20 @@ mod tests {
         let places: Vec<u64> =
             vineyard_examples().iter().skip(1).map(|(_, _, bytes)| stick::check(bytes).place).collect();
         assert_eq!(places, [9 + 60, 9 + 2 * 60, 0]);
+    }
+
+    /// The place of what is wrong with each of the dairy's sticks: the inverter that stands where the connections are
+    /// due, a power, and a current.
+    #[test]
+    fn the_sticks_of_the_dairy_are_refused_at_their_fields() {
+        let found: Vec<(u8, u32)> = dairy_examples()
+            .iter()
+            .skip(1)
+            .map(|(_, _, bytes)| stick::check(bytes))
+            .zip(dairy_examples().iter().skip(1))
+            .map(|(answer, (_, _, bytes))| (bytes[answer.place as usize], answer.steps))
+            .collect();
+        assert_eq!(found, [(INVERTER, 0), (POWER, 61), (CURRENT, 88)]);
     }
 
     /// The place of what is wrong with each of the roof's sticks: an inverter, a curve, a weather, or the end field that
@@ -885,6 +1022,44 @@ mod tests {
         assert_eq!(steps.iter().filter(|step| of(step, 0).1.stored <= run.site.units[0].reserve).count(), 0);
         let in_2 = sticks::with(&run, |run| run.site.edition = 2);
         assert_eq!(stick::check(&sticks::file(&in_2)).place, 9 + 2 * 60);
+    }
+
+    /// What a reader of the dairy's result is to see: a peak in each morning and evening that calls every battery for
+    /// its own share, requests that are held within the band and through a silent meter, nights in which nobody is
+    /// asked, the small battery down at its reserve while the others last, and an inverter that works by day.
+    #[test]
+    fn the_dairy_is_worth_reading() {
+        let run = stick::read(&sticks::file(&dairy())).unwrap();
+        let site = &run.site;
+        assert_eq!(
+            (site.settings.mode, site.units.len(), site.inverters.len(), run.readings.len()),
+            (4, 3, 1, WEEK)
+        );
+        let steps = season::steps(&run);
+        let asked = |step: usize| [0, 1, 2].map(|unit| steps[step].records[unit].request);
+        let need = |step: usize| steps[step].passed.map(|passed| passed.need);
+        for day in 0..5 {
+            let hour = |hour: usize| 24 * day + hour;
+            for peak in [hour(5), hour(16)] {
+                assert!(need(peak) > Some(17_000), "{peak}");
+                // The parlour has three times the calves' need and four times the weight; the cold store has the
+                // line's.
+                let [parlour, calves, cold_store] = asked(peak);
+                assert!(calves > 500 && parlour > 7_000 && cold_store > 15_000, "{peak}");
+                assert_eq!(asked(peak + 1), asked(peak));
+                assert_eq!(asked(peak + 2), asked(peak));
+                assert!(steps[peak + 1].passed.map_or(true, |passed| passed.rule == 5));
+            }
+            assert!([0, 3, 11, 22].iter().all(|&at| asked(hour(at)) == [0; 3]));
+            assert!(steps[hour(12)].solar[0].produced.on && !steps[hour(23)].solar[0].produced.on);
+        }
+        assert_eq!((need(2 * 24 + 17), need(3 * 24 + 2)), (None, None));
+        let low = |unit: usize| {
+            let at_reserve =
+                |step: &&Step| step.records[unit].stepped.stored < site.units[unit].reserve + 3_600_000;
+            steps.iter().filter(at_reserve).count()
+        };
+        assert!(low(1) > 24 && low(0) == 0 && low(2) == 0, "{} {} {}", low(0), low(1), low(2));
     }
 
     /// What a reader of the roof's result is to see: inverters that turn on in the morning and off in the evening and

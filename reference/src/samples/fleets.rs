@@ -131,7 +131,7 @@ impl StudyCall {
 }
 
 /// Shortens a list, or goes on with elements of it, or with `first` where it has none.
-fn resize_list<T: Copy>(list: &mut Vec<T>, length: usize, first: T, draw: &mut Draw) {
+pub(super) fn resize_list<T: Copy>(list: &mut Vec<T>, length: usize, first: T, draw: &mut Draw) {
     list.truncate(length);
     while list.len() < length {
         list.push(if list.is_empty() { first } else { draw.one_of(list) });
@@ -147,29 +147,27 @@ fn resize(fleet: &mut Fleet, requests: &mut Vec<i32>, lengths: Lengths, draw: &m
     resize_list(requests, lengths[5], 0, draw);
 }
 
-/// Lengths that are to be refused, from a fleet's right ones: all empty, all above 64, and each list alone
-/// empty, shorter, longer, twice as long, and longer than a length of one or two bytes can say.
-pub fn bad_lengths(units: usize, draw: &mut Draw) -> Vec<Lengths> {
-    let mut found = vec![[0; 6], [65; 6], [66 + draw.below(100) as usize; 6], [256 + units; 6]];
-    for list in 0..6 {
+/// Lengths of so many lists that are to be refused, from a fleet's right ones: all empty, all above 64, and each list
+/// alone empty, shorter, longer, twice as long, and longer than a length of one or two bytes can say.
+pub fn bad_lengths<const LISTS: usize>(units: usize, draw: &mut Draw) -> Vec<[usize; LISTS]> {
+    let any = 66 + draw.below(100) as usize;
+    let mut found: Vec<[usize; LISTS]> = [0, 65, any, 256 + units].map(|length| [length; LISTS]).to_vec();
+    for list in 0..LISTS {
+        let mut but_one = |all: usize, one: usize| {
+            let mut lengths = [all; LISTS];
+            lengths[list] = one;
+            found.push(lengths);
+        };
         for length in [0, units - 1, units + 1, 2 * units, 65, units + 256] {
-            let mut lengths = [units; 6];
-            lengths[list] = length;
-            found.push(lengths);
+            but_one(units, length);
         }
-        // The other five are too long, or empty, and this one is right.
+        // The others are too long, or empty, and this one is right.
         for length in [0, 65] {
-            let mut lengths = [length; 6];
-            lengths[list] = units;
-            found.push(lengths);
+            but_one(length, units);
         }
         // 64 and 65, either way round.
-        let mut lengths = [64; 6];
-        lengths[list] = 65;
-        found.push(lengths);
-        let mut lengths = [65; 6];
-        lengths[list] = 64;
-        found.push(lengths);
+        but_one(64, 65);
+        but_one(65, 64);
     }
     found
 }
@@ -190,9 +188,10 @@ pub const PASS_ENDS: [fn(&mut PassCall); 11] = [
 ];
 
 /// Settings and measure one beyond the ends of their ranges, and as far as they go.
-pub const BAD_PASS: [fn(&mut PassCall); 19] = [
+pub const BAD_PASS: [fn(&mut PassCall); 20] = [
     |call| call.settings.mode = 0,
     |call| call.settings.mode = 4,
+    |call| call.settings.mode = 5,
     |call| call.settings.mode = 128 + 1,
     |call| call.settings.mode = u8::MAX,
     |call| call.settings.target = -100_000_001,
@@ -318,7 +317,7 @@ fn size(most: usize, draw: &mut Draw) -> usize {
 }
 
 /// How full a fleet is, as a pass meets it.
-const ANY_FILL: [Fill; 12] = [
+pub(super) const ANY_FILL: [Fill; 12] = [
     Fill::Beside,
     Fill::Any,
     Fill::Above,
@@ -348,7 +347,7 @@ const STUDY_FILL: [Fill; 10] = [
 ];
 
 #[derive(Clone, Copy)]
-enum Fill {
+pub(super) enum Fill {
     Any,
     Above,
     /// The total at the total reserve, or beside it, with single units on either side.
@@ -471,9 +470,9 @@ fn requests_of(fleet: &Fleet, sign: i32, draw: &mut Draw) -> Vec<i32> {
 }
 
 /// A need: none, a little, as much as the fleet gives or takes now, or any; mostly the way of the mode.
-fn need_of(mode: u8, fleet_power: i64, draw: &mut Draw) -> i64 {
+pub(super) fn need_of(charges: bool, fleet_power: i64, draw: &mut Draw) -> i64 {
     let fleet_power = fleet_power.abs();
-    let sign = draw.one_of(&[1, 1, -1]) * if mode == 3 { -1 } else { 1 };
+    let sign = draw.one_of(&[1, 1, -1]) * if charges { -1 } else { 1 };
     sign * match draw.below(10) {
         0 => 0,
         1 => 1,
@@ -497,13 +496,23 @@ pub fn beside_call(most: usize, draw: &mut Draw) -> PassCall {
     pass_filled(most, &[Fill::Beside], draw)
 }
 
-fn pass_filled(most: usize, fills: &[Fill], draw: &mut Draw) -> PassCall {
+/// A fleet of at most `most` units and its requests, which are of one sign or none.
+pub(super) fn asked_fleet(most: usize, fills: &[Fill], draw: &mut Draw) -> (Fleet, Vec<i32>) {
     let fleet = fleet(size(most, draw), fills, draw);
     let requests = requests_of(&fleet, draw.one_of(&[0, 1, -1]), draw);
+    (fleet, requests)
+}
+
+pub(super) fn factor(draw: &mut Draw) -> u16 {
+    let any = 1 + draw.below(1_000) as u16;
+    draw.one_of(&[1, 2, 500, 999, 1_000, 1_000, 1_000, any])
+}
+
+fn pass_filled(most: usize, fills: &[Fill], draw: &mut Draw) -> PassCall {
+    let (fleet, requests) = asked_fleet(most, fills, draw);
     let fleet_power: i64 = requests.iter().map(|&request| i64::from(request)).sum();
     let mode = 1 + draw.below(3) as u8;
-    let any = 1 + draw.below(1_000) as u16;
-    let factor = draw.one_of(&[1, 2, 500, 999, 1_000, 1_000, 1_000, any]);
+    let factor = factor(draw);
     let target = match draw.below(8) {
         0 => draw.one_of(&[-100_000_000, 100_000_000]),
         1 => 0,
@@ -512,7 +521,7 @@ fn pass_filled(most: usize, fills: &[Fill], draw: &mut Draw) -> PassCall {
     };
 
     // The measure that gives the need, or the nearest that may be handed to a pass.
-    let need = need_of(mode, fleet_power, draw);
+    let need = need_of(mode == 3, fleet_power, draw);
     let against = if mode == 3 { fleet_power > 0 } else { fleet_power < 0 };
     let own = need - if against { fleet_power } else { 0 };
     let measure = own + i64::from(if mode == 2 { -target } else { target });

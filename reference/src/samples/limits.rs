@@ -111,7 +111,7 @@ pub fn limited(mut run: Run, draw: &mut Draw) -> Run {
 }
 
 /// The run as it is, or for the most part in edition 2.
-fn either_edition(run: Run, draw: &mut Draw) -> Run {
+pub fn either_edition(run: Run, draw: &mut Draw) -> Run {
     match draw.below(3) {
         0 => run,
         _ => limited(run, draw),

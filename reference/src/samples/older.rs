@@ -134,6 +134,12 @@ fn or_older(run: Run, draw: &mut Draw) -> Run {
     }
 }
 
+/// A run of edition 1 in any edition.
+pub fn any_edition(run: Run, draw: &mut Draw) -> Run {
+    let run = limits::either_edition(run, draw);
+    or_older(run, draw)
+}
+
 /// A run of any edition, with inverters or without, that is not to be refused.
 pub fn run(units: usize, inverters: usize, steps: usize, draw: &mut Draw) -> Run {
     let run = limits::run(units, inverters, steps, draw);

@@ -3,7 +3,7 @@
 
 use super::inverters::{self, SolarCall};
 use super::sticks::{self, Damage, Field};
-use super::{curves, seasons, Draw};
+use super::{currents, curves, seasons, Draw};
 use crate::curve::{Curve, Kind, EFF, WARM};
 use crate::octets::{put_f64, put_i32, put_u16, put_u32, put_u8};
 use crate::ranges::MOST_INVERTERS;
@@ -134,12 +134,17 @@ fn weather(all: &[Inverter], draw: &mut Draw) -> Weather {
     Weather { irradiance, temperature }
 }
 
-/// A run with inverters that is not to be refused.
+/// A run with inverters that is not to be refused, in a mode of power.
 pub fn run(units: usize, inverters: usize, steps: usize, draw: &mut Draw) -> Run {
-    let mut run = seasons::run(units, steps, draw);
+    let run = seasons::run(units, steps, draw);
+    with_roof(run, inverters, draw)
+}
+
+/// The run with so many inverters, and weather in some of its steps.
+pub fn with_roof(mut run: Run, inverters: usize, draw: &mut Draw) -> Run {
     run.site.inverters = (0..inverters).map(|_| inverter(draw)).collect();
     let bare = draw.one_of(&[1, 2, 4, 4, 30]);
-    for _ in 0..steps {
+    for _ in 0..run.readings.len() {
         let weather = weather(&run.site.inverters, draw);
         run.weather.push((draw.below(bare) != 0 || bare == 1).then_some(weather));
     }
@@ -180,7 +185,7 @@ pub fn with_weather(run: &Run, step: usize, weather: Weather) -> Run {
 
 /// Where the fields of inverters begin among a run's fields.
 pub fn first_inverter(run: &Run) -> usize {
-    run.site.units.len() + 2
+    run.site.units.len() + 2 + usize::from(!run.site.connections.is_empty())
 }
 
 /// Where the fields of steps begin among a run's fields.
@@ -219,11 +224,13 @@ pub fn bad_curves(curve: &Curve, draw: &mut Draw) -> Vec<Field> {
 /// A field of any tag of the list whose values are good in some file.
 pub fn any_field(draw: &mut Draw) -> Field {
     let three = inverter_fields(&inverter(draw));
-    match draw.below(8) {
+    match draw.below(10) {
         0 | 1 => three[0].clone(),
         2 => three[1].clone(),
         3 => three[2].clone(),
         4 | 5 => weather_field(inverters::weather(draw)),
+        6 => sticks::reading_field(&currents::current_reading(draw)),
+        7 => currents::any_connections(draw),
         _ => sticks::any_field(draw),
     }
 }

@@ -4,11 +4,12 @@ use super::fleets::{self, StudyCall};
 use super::roofs;
 use super::units::{self, StepCall};
 use super::Draw;
+use crate::connection::Connection;
 use crate::controller::Settings;
 use crate::octets::{put_f64, put_i32, put_u16, put_u32, put_u64, put_u8};
 use crate::reading::{self, Phases, Reading};
 use crate::site::Site;
-use crate::stick::{length_of, Run, END, FLEET, MISSING, POWER, SETTINGS, UNIT};
+use crate::stick::{length_of, Run, CONNECTIONS, CURRENT, END, FLEET, MISSING, POWER, SETTINGS, UNIT};
 use crate::storage::Unit;
 
 /// A field as it is to be written. The length is said apart from the value, so that it can be wrong.
@@ -66,16 +67,25 @@ pub fn unit_field(edition: u8, unit: &Unit) -> Field {
 }
 
 pub fn reading_field(reading: &Reading) -> Field {
+    let (tag, phases) = match reading {
+        Reading::Missing => return Field::new(MISSING, Vec::new()),
+        Reading::Power(phases) => (POWER, phases),
+        Reading::Current(phases) => (CURRENT, phases),
+    };
     let mut value = Vec::new();
-    match reading {
-        Reading::Missing => Field::new(MISSING, value),
-        Reading::Power(Phases { first, second, third }) => {
-            for &kw in [first, second, third] {
-                put_f64(&mut value, kw);
-            }
-            Field::new(POWER, value)
-        }
+    for r in [phases.first, phases.second, phases.third] {
+        put_f64(&mut value, r);
     }
+    Field::new(tag, value)
+}
+
+pub fn connections_field(connections: &[Connection]) -> Field {
+    let mut value = Vec::new();
+    for connection in connections {
+        put_u8(&mut value, connection.phases);
+        put_u16(&mut value, connection.volts);
+    }
+    Field::new(CONNECTIONS, value)
 }
 
 pub fn end_field(count: u32) -> Field {
@@ -86,7 +96,7 @@ pub fn end_field(count: u32) -> Field {
 
 /// The fields that say a run.
 pub fn fields(run: &Run) -> Vec<Field> {
-    let Site { edition, seconds, units, settings, phase, inverters } = &run.site;
+    let Site { edition, seconds, units, settings, phase, connections, inverters } = &run.site;
     let mut fields = vec![fleet_field(*edition, units.len() as u8, *seconds)];
     fields.extend(units.iter().map(|unit| unit_field(*edition, unit)));
     let mut value = vec![settings.mode];
@@ -95,6 +105,9 @@ pub fn fields(run: &Run) -> Vec<Field> {
     put_u16(&mut value, settings.factor);
     put_u8(&mut value, *phase);
     fields.push(Field::new(SETTINGS, value));
+    if !connections.is_empty() {
+        fields.push(connections_field(connections));
+    }
     fields.extend(inverters.iter().flat_map(roofs::inverter_fields));
     for (step, reading) in run.readings.iter().enumerate() {
         fields.extend(run.weather_of(step).map(roofs::weather_field));
@@ -140,6 +153,7 @@ pub fn whole_case() -> Run {
             units: vec![unit],
             settings: Settings { mode: 1, target: 0, band: 0, factor: 1_000 },
             phase: 0,
+            connections: Vec::new(),
             inverters: Vec::new(),
         },
         readings: vec![Reading::Missing],
@@ -147,8 +161,8 @@ pub fn whole_case() -> Run {
     }
 }
 
-/// A phase power that is not to be refused.
-fn power(draw: &mut Draw) -> f64 {
+/// A double of a phase that a conversion does not refuse.
+pub fn converted_by(convert: fn(f64) -> Result<i32, u32>, draw: &mut Draw) -> f64 {
     loop {
         let bits = match draw.below(10) {
             0 => super::tie(draw),
@@ -161,17 +175,21 @@ fn power(draw: &mut Draw) -> f64 {
             }
             _ => super::metered(draw),
         };
-        let kw = f64::from_bits(bits);
-        if reading::watts(kw).is_ok() {
-            return kw;
+        let r = f64::from_bits(bits);
+        if convert(r).is_ok() {
+            return r;
         }
     }
 }
 
+/// The three phase powers of a reading that is not to be refused.
+fn powers(draw: &mut Draw) -> [f64; 3] {
+    [(); 3].map(|()| converted_by(reading::watts, draw))
+}
+
 /// A power reading that is not to be refused.
 pub fn power_reading(draw: &mut Draw) -> Reading {
-    let [first, second, third] = [(); 3].map(|()| power(draw));
-    Reading::Power(Phases { first, second, third })
+    Reading::Power(Phases::of(powers(draw)))
 }
 
 /// A run of edition 1 that is not to be refused.
@@ -185,6 +203,7 @@ pub fn run(units: usize, steps: usize, draw: &mut Draw) -> Run {
             units: calls.iter().map(|call| call.unit).collect(),
             settings: fleets::pass_call(1, draw).settings,
             phase: draw.below(6) as u8,
+            connections: Vec::new(),
             inverters: Vec::new(),
         },
         readings: (0..steps)
@@ -238,7 +257,7 @@ pub const SETTINGS_ENDS: [fn(&mut Run); 15] = [
 /// Settings and phase one beyond the ends of their ranges, and as far as they go.
 pub const BAD_SETTINGS: [fn(&mut Run); 19] = [
     |run| run.site.settings.mode = 0,
-    |run| run.site.settings.mode = 4,
+    |run| run.site.settings.mode = 6,
     |run| run.site.settings.mode = 128 + 1,
     |run| run.site.settings.mode = u8::MAX,
     |run| run.site.settings.target = -100_000_001,
@@ -303,10 +322,9 @@ pub fn bad_powers(draw: &mut Draw) -> Vec<u64> {
 
 /// A power reading that is refused for one of its three powers.
 pub fn bad_reading(phase: usize, bits: u64, draw: &mut Draw) -> Reading {
-    let mut three = [(); 3].map(|()| power(draw));
+    let mut three = powers(draw);
     three[phase] = f64::from_bits(bits);
-    let [first, second, third] = three;
-    Reading::Power(Phases { first, second, third })
+    Reading::Power(Phases::of(three))
 }
 
 /// End counts that differ from the steps: beside them, and of other bytes or the same in another order.
@@ -493,7 +511,11 @@ pub fn noise(most: u64, draw: &mut Draw) -> Vec<u8> {
     let mut file = Vec::new();
     for _ in 0..length {
         let any = draw.any() as u8;
-        file.push(if likely { draw.one_of(&[0, 0, 1, 2, 3, 4, 5, 6, 12, 24, 49, 0x7F, any]) } else { any });
+        file.push(if likely {
+            draw.one_of(&[0, 0, 1, 2, 3, 4, 5, 6, 9, 10, 12, 24, 49, 0x7F, any])
+        } else {
+            any
+        });
     }
     file
 }

@@ -2,7 +2,8 @@
 //! and sticks of any size.
 
 use super::sticks::{self, Field};
-use super::{inverters, older, roofs, Draw};
+use super::{currents, inverters, older, roofs, Draw};
+use crate::controller::Settings;
 use crate::reading::Reading;
 use crate::stick::{Run, MISSING};
 
@@ -24,29 +25,34 @@ fn spoiled(run: Run, draw: &mut Draw) -> (Run, Run) {
     let often = draw.one_of(&[1, 2, 3, 8]);
     for step in 0..left.readings.len() {
         if draw.below(often) == 0 {
-            let bits = draw.one_of(&sticks::bad_powers(&mut Draw::from_seed(0)));
-            let phase = draw.below(3) as usize;
-            spoiled.readings[step] = sticks::bad_reading(phase, bits, draw);
+            spoiled.readings[step] = currents::unusable_reading(&left.site.settings, draw);
             left.readings[step] = Reading::Missing;
         }
     }
     (spoiled, left)
 }
 
-/// A field that may not stand among the steps. Where none has begun, an inverter or a curve would be refused.
+/// A field that may not stand among the steps. Where none has begun, connections, an inverter or a curve would be
+/// refused.
 fn stray(first: bool, draw: &mut Draw) -> Field {
-    let run = roofs::run(1, 1, 0, draw);
-    let most = if first { roofs::first_inverter(&run) } else { roofs::first_step(&run) };
+    let run = currents::plain_run(&[1, 4], 1, 1, 0, draw);
+    let most = if first { roofs::first_inverter(&run) - 1 } else { roofs::first_step(&run) };
     let at = draw.below(most as u64) as usize;
     sticks::fields(&run)[at].clone()
 }
 
 /// The fields of a step, or the end field, with a fault at which a rescue ends and leaves the steps before it; behind
 /// them the rest of the file, where there is more of it.
-fn broken(mut fields: Vec<Field>, steps: u32, rest: &[Field], draw: &mut Draw) -> Vec<u8> {
+fn broken(
+    mut fields: Vec<Field>,
+    settings: &Settings,
+    steps: u32,
+    rest: &[Field],
+    draw: &mut Draw,
+) -> Vec<u8> {
     let at = draw.below(fields.len() as u64) as usize;
     let last = fields.len() - 1;
-    match draw.below(7) {
+    match draw.below(8) {
         0 => {
             // The copy stopped here, between two fields or within one.
             let (edge, mut bytes) = (sticks::bytes(&fields[..at]).len(), sticks::bytes(&fields));
@@ -59,18 +65,21 @@ fn broken(mut fields: Vec<Field>, steps: u32, rest: &[Field], draw: &mut Draw) -
         3 => fields.insert(at, stray(steps == 0 && at == 0, draw)),
         4 => fields[0] = roofs::weather_field(inverters::bad_weather(draw)),
         5 => fields[last] = sticks::end_field(draw.one_of(&sticks::bad_counts(steps))),
+        // The meter was set to another kind.
+        6 => fields[last] = sticks::reading_field(&currents::misfit_reading(settings, draw)),
         // A weather without its reading.
         _ => fields = vec![roofs::weather_field(inverters::weather(draw)), sticks::end_field(steps)],
     }
     sticks::bytes(&[&fields, rest].concat())
 }
 
-/// A small stick of any edition, with readings that cannot be used, and for the most part broken off at one of its
-/// steps or at its end.
+/// A small stick of any edition and mode, with readings that cannot be used, and for the most part broken off at one of
+/// its steps or at its end.
 pub fn wreck(draw: &mut Draw) -> Wreck {
     let (units, steps) = (1 + draw.below(2) as usize, draw.below(9) as usize);
     let inverters = draw.one_of(&[0, 0, 1, 2]);
-    let (spoiled, left) = spoiled(older::run(units, inverters, steps, draw), draw);
+    let run = draw.one_of(&[older::run, older::run, currents::run])(units, inverters, steps, draw);
+    let (spoiled, left) = spoiled(run, draw);
     let fields = sticks::fields(&spoiled);
     if draw.below(4) == 0 {
         let most = draw.one_of(&[0, 20]);
@@ -81,7 +90,8 @@ pub fn wreck(draw: &mut Draw) -> Wreck {
     // The end field of the steps before stands where the next begins.
     let begins = |step: usize| sticks::fields(&first_steps(&spoiled, step)).len() - 1;
     let (from, to) = (begins(step), if step < steps { begins(step + 1) } else { fields.len() });
-    let broken = broken(fields[from..to].to_vec(), step as u32, &fields[to..], draw);
+    let settings = &left.site.settings;
+    let broken = broken(fields[from..to].to_vec(), settings, step as u32, &fields[to..], draw);
     Wreck { file: [sticks::bytes(&fields[..from]), broken].concat(), left: first_steps(&left, step) }
 }
 
@@ -90,7 +100,8 @@ pub fn wreck(draw: &mut Draw) -> Wreck {
 pub fn of_bytes(run: &Run, bytes: usize, draw: &mut Draw) -> (Vec<u8>, u32) {
     let missing = [MISSING, 0, 0];
     let weather = sticks::bytes(&[roofs::weather_field(inverters::weather(draw))]);
-    let power = sticks::bytes(&[sticks::reading_field(&sticks::power_reading(draw))]);
+    let reading = currents::fitting_reading(&run.site.settings, draw);
+    let reading = sticks::bytes(&[sticks::reading_field(&reading)]);
     let fields = sticks::fields(run);
     let mut file = sticks::bytes(&fields[..fields.len() - 1]);
     let mut steps = run.readings.len() as u32;
@@ -98,11 +109,11 @@ pub fn of_bytes(run: &Run, bytes: usize, draw: &mut Draw) -> (Vec<u8>, u32) {
         step.iter().for_each(|field| file.extend_from_slice(field));
         steps += 1;
     };
-    put(&mut file, &[&power]);
+    put(&mut file, &[&reading]);
     assert!(file.len() + 2 * 22 <= bytes, "bytes for the run and for steps of all lengths");
     // What is left has room for two of 22 bytes, and no more of these are needed until it is a number of threes.
     while bytes - file.len() >= 46 + 2 * 22 {
-        put(&mut file, &[&weather, &power]);
+        put(&mut file, &[&weather, &reading]);
     }
     while (bytes - file.len()) % 3 != 0 {
         put(&mut file, &[&weather, &missing]);
@@ -134,11 +145,9 @@ mod tests {
             *met.entry((number, steps > 0)).or_insert(0u32) += 1;
         }
         for number in 0..=9 {
-            // A value out of range can only be of a field that may not stand there.
-            let expected = number != 5;
             for some in [false, true] {
                 let count = met.get(&(number, some)).copied().unwrap_or(0);
-                assert!(if expected { count > 50 } else { count == 0 }, "{number} {some}: {met:?}");
+                assert!(count > 50, "{number} {some}: {met:?}");
             }
         }
     }
@@ -147,7 +156,7 @@ mod tests {
     fn files_of_every_length() {
         let mut draw = Draw::from_seed(141);
         for bytes in (300..700).chain([2_097_151, 2_097_152]) {
-            let run = older::run(1, 0, 2, &mut draw);
+            let run = draw.one_of(&[older::run, currents::run])(1, 0, 2, &mut draw);
             let (file, steps) = of_bytes(&run, bytes, &mut draw);
             assert_eq!(stick::check(&file), Answer { number: 8, place: bytes as u64, steps });
             assert_eq!(file.len(), bytes);

@@ -6,8 +6,10 @@ use std::collections::BTreeMap;
 use yesbrulka_reference::samples::Draw;
 
 /// Files go over in frames of about this many bytes.
+#[allow(dead_code)] // not every test lends files
 pub const FRAME: usize = 1 << 20;
 
+#[allow(dead_code)] // not every test lends files
 pub fn put_file(payload: &mut Vec<u8>, file: &[u8]) {
     payload.extend((file.len() as u32).to_le_bytes());
     payload.extend_from_slice(file);
@@ -31,6 +33,7 @@ impl<'a> Rest<'a> {
 }
 
 /// The bytes of a file or the first and last ones of it, for a message.
+#[allow(dead_code)] // not every test lends files
 pub fn shown(file: &[u8]) -> String {
     let hex = |bytes: &[u8]| bytes.iter().map(|byte| format!("{byte:02X}")).collect::<String>();
     match file.len() {
@@ -83,8 +86,10 @@ impl Room {
 /// What was met, and how often. A test says what it must have met, so that it cannot go on passing over inputs
 /// that no longer show anything.
 #[derive(Default)]
+#[allow(dead_code)] // there are tests with a tally of their own
 pub struct Met(BTreeMap<(&'static str, u32), u32>);
 
+#[allow(dead_code)] // there are tests with a tally of their own
 impl Met {
     pub fn note(&mut self, what: &'static str, which: u32) {
         *self.0.entry((what, which)).or_default() += 1;

@@ -72,7 +72,7 @@ impl Met {
                 }
                 None => self.note_if(step.records.iter().any(|r| r.request != 0), "requests stood"),
             }
-            let charges = run.site.settings.mode == 3;
+            let charges = run.site.settings.charges();
             for (i, (unit, record)) in run.site.units.iter().zip(&step.records).enumerate() {
                 if step.passed.is_some_and(|passed| passed.rule == 6) {
                     let helpless = if charges { stored[i] == unit.rated } else { stored[i] <= unit.reserve };
