@@ -3,45 +3,16 @@
 mod frames;
 mod host;
 mod passes;
+mod studies;
 
 use std::collections::BTreeMap;
 
-use frames::Rest;
-use host::{refuses_cut_rows, Host, LEFT_ALONE};
-use passes::{
-    each_rule_decides, expected_pass, put_lists, put_pass, take_requests, PassLeft, Rules, FRAME, LEFT_BYTE,
-};
+use host::refuses_cut_rows;
+use passes::{each_rule_decides, expected_pass, put_pass, PassLeft, Rules, LEFT_BYTE};
+use studies::{expected_study, put_study, StudyLeft};
 use yesbrulka_reference::controller::{Fleet, Settings};
 use yesbrulka_reference::samples::fleets::{self, PassCall, StudyCall};
 use yesbrulka_reference::samples::Draw;
-
-/// What a study returns and leaves behind.
-#[derive(Debug, PartialEq)]
-struct StudyLeft {
-    number: u32,
-    disturbed: u8,
-    settled: u8,
-    passes: u32,
-    requests: Vec<i32>,
-}
-
-fn expected_study(call: &StudyCall) -> StudyLeft {
-    let mut call = call.clone();
-    let (number, settled, passes) = match call.settle() {
-        Ok(study) => (0, study.settled.into(), study.passes),
-        Err(number) => (number, LEFT_BYTE, LEFT_ALONE as u32),
-    };
-    StudyLeft { number, disturbed: 0, settled, passes, requests: call.requests }
-}
-
-fn put_study(payload: &mut Vec<u8>, call: &StudyCall) {
-    payload.extend(call.load.to_le_bytes());
-    payload.extend(call.target.to_le_bytes());
-    payload.extend(call.band.to_le_bytes());
-    payload.extend(call.factor.to_le_bytes());
-    payload.extend(call.budget.to_le_bytes());
-    put_lists(payload, &call.fleet, None, &call.requests);
-}
 
 /// Makes every pass with the archive and with the reference, and compares.
 fn compare_passes(calls: impl IntoIterator<Item = PassCall>) -> Rules {
@@ -51,42 +22,15 @@ fn compare_passes(calls: impl IntoIterator<Item = PassCall>) -> Rules {
 /// The same for studies. Gives how often each number was met, and of studies not refused which settled and
 /// which made more than four changing passes.
 fn compare_studies(calls: impl IntoIterator<Item = StudyCall>) -> BTreeMap<(u32, u8, bool), u32> {
-    let mut host = Host::start();
     let mut met = BTreeMap::new();
-    let (mut wrong, mut all) = (0, 0);
-    let mut calls = calls.into_iter();
-    loop {
-        let frame: Vec<StudyCall> = calls.by_ref().take(FRAME).collect();
-        if frame.is_empty() {
-            break;
-        }
-        let mut payload = Vec::new();
-        frame.iter().for_each(|call| put_study(&mut payload, call));
-        let answer = host.call(b'T', &payload);
-        let mut rest = Rest(&answer);
-        for call in &frame {
-            let got = StudyLeft {
-                number: u32::from_le_bytes(rest.take()),
-                disturbed: u8::from_le_bytes(rest.take()),
-                settled: u8::from_le_bytes(rest.take()),
-                passes: u32::from_le_bytes(rest.take()),
-                requests: take_requests(&mut rest, call.requests.len()),
-            };
-            let expected = expected_study(call);
-            all += 1;
-            if got != expected {
-                wrong += 1;
-                if wrong <= 5 {
-                    eprintln!("{call:?}\n  archive   {got:?}\n  reference {expected:?}");
-                }
-            }
-            let long = expected.number == 0 && expected.passes > 4;
-            *met.entry((expected.number, expected.settled, long)).or_default() += 1;
-        }
-        assert!(rest.0.is_empty(), "an answer for each study and nothing more");
-    }
-    assert!(host.end().0.success(), "the host ended badly");
-    assert_eq!(wrong, 0, "wrong studies of {all}");
+    let expected = calls.into_iter().map(|call| {
+        let expected = expected_study(&call);
+        (call, expected)
+    });
+    studies::compare_studies(expected, |_, left| {
+        let long = left.number == 0 && left.passes > 4;
+        *met.entry((left.number, left.settled, long)).or_default() += 1;
+    });
     met
 }
 

@@ -7,5 +7,9 @@ pub mod SettlingPass
 pub mod SettlingProved
 pub mod StudyProved
 pub mod StudyLaws
+pub mod ClosedLaws
+pub mod ClosingSteps
+pub mod ClosingProved
+pub mod StoppedProved
 pub mod TrialLaws
 pub mod AnswerLaws

@@ -38,7 +38,7 @@ module _ (n : ℕ) (rs : List ℤ) (q : ℕ → ℕ) (is : Requests n rs q) wher
   unfolding sumOfAll
   sum-is = ap (λ (m : ℕ). sumOfℤ m (λ (i : ℕ). getD rs i (pos 0))) (is .count) ∙ sumℤ-pos n (λ (i : ℕ). getD rs i (pos 0)) q (is .at)
 
-  none-below : someBelow rs ≡ false
+  pub none-below : someBelow rs ≡ false
   unfolding someBelow
   none-below =
       ap (λ (m : ℕ). someOf m (λ (i : ℕ). ltZ (getD rs i (pos 0)) (pos 0))) (is .count)
@@ -55,7 +55,7 @@ module _ (n : ℕ) (rs : List ℤ) (q : ℕ → ℕ) (is : Requests n rs q) wher
           ∙ none-at (length rs) (λ (j : ℕ). ltZ (pos 0) (getD rs j (pos 0))) e i (subst⁻¹ (λ (m : ℕ). i < m) (is .count) l)
 
 -- ---- the rules, over plain values, for a mode that is 1
-one-plain : (mode : ℕ) (above low : Bool) (a b c : ℤ) → mode ≡ 1 → low ≡ false
+pub one-plain : (mode : ℕ) (above low : Bool) (a b c : ℤ) → mode ≡ 1 → low ≡ false
     → cond (byCurrent mode) (cond (eqb mode 2) a b) (cond (cond (charges mode) above low) (cond (eqb mode 2) a b +ℤ c) (cond (eqb mode 2) a b)) ≡ b
 one-plain mode above low a b c e h = simp (e, h)
 
@@ -103,7 +103,7 @@ module _ (s : Settings) (load : ℤ) (f : Fleet) (n : ℕ) (p : Premises s load 
   stepOf = step n gap (s .band) (s .factor) (ratingAbove s load f n) (λ (i : ℕ). getD (f .weight) i 0)
 
   -- there is a unit, since there is a store
-  some : 1 ≤ n
+  pub some : 1 ≤ n
   some = some-units n (λ (i : ℕ). getD (f .reserve) i 0) (λ (i : ℕ). getD (f .stored) i 0) (p .storeAboveReserve)
 
   -- request a of unit i with its share of x, up to R
@@ -125,7 +125,7 @@ module _ (s : Settings) (load : ℤ) (f : Fleet) (n : ℕ) (p : Premises s load 
   measure-is x h = less-by load (s .target) gap x (above-by (s .target) load (p .loadAboveTarget) .0) h
 
   module _ (rs : List ℤ) (q : ℕ → ℕ) (is : Requests n rs q) (within : sumOf n q ≤ gap) where
-    need-is : needOf s (load -ℤ sumOfAll rs) rs ≡ pos (gap - sumOf n q)
+    pub need-is : needOf s (load -ℤ sumOfAll rs) rs ≡ pos (gap - sumOf n q)
     unfolding needOf withSum plainNeed
     need-is =
         one-plain (s .mode) (someAbove rs) (someBelow rs)

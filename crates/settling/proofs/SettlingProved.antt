@@ -31,7 +31,7 @@ use Rattle.settling.specs.Settling.{Premises, SettlingLaw, Above, rating
 pos-le : (a b : ℤ) (x y : ℕ) → a ≡ pos x → b ≡ pos y → x ≤ y → a ≤ℤ b
 pos-le a b x y p q h = record { le = rw (p, q) (le→leb x y h) }
 
-pos-lt : (a : ℤ) (x y : ℕ) → a ≡ pos x → a <ℤ pos y → x < y
+pub pos-lt : (a : ℤ) (x y : ℕ) → a ≡ pos x → a <ℤ pos y → x < y
 pos-lt a x y p h = ltb→lt x y (rw p at (h .lt))
 
 differ-lt : (x y : ℕ) → x ≤ y → differ (pos x) (pos y) ≡ true → x < y
@@ -47,17 +47,17 @@ some-weight zero reserve stored w h weights = absurd (lt-irrefl 0 h)
 some-weight (suc n) reserve stored w h weights = omega (arith, weights n (le-refl (suc n)))
 
 module _ (s : Settings) (load : ℤ) (f : Fleet) (n : ℕ) (p : Premises s load f n) where
-  abbrev D : ℕ
+  abbrev pub D : ℕ
   D = gap s load f n p
 
   -- as far as a unit can be asked: its rating, or 0
-  abbrev R : ℕ → ℕ
+  abbrev pub R : ℕ → ℕ
   R = ratingAbove s load f n
 
   abbrev rating : ℕ → ℕ
   rating i = getD (f .rating) i 0
 
-  R-above : (i : ℕ) → Above s load f n i → R i ≡ rating i
+  pub R-above : (i : ℕ) → Above s load f n i → R i ≡ rating i
   R-above i a = ap (λ (b : Bool). cond b 0 (rating i)) (lt-leb (getD (f .stored) i 0) (getD (f .reserve) i 0) (a .1))
 
   R-below : (i : ℕ) → getD (f .stored) i 0 ≤ getD (f .reserve) i 0 → R i ≡ 0
@@ -70,7 +70,7 @@ module _ (s : Settings) (load : ℤ) (f : Fleet) (n : ℕ) (p : Premises s load 
   w i = getD (f .weight) i 0
 
   -- what unit i carries after k passes
-  abbrev carried : ℕ → ℕ → ℕ
+  abbrev pub carried : ℕ → ℕ → ℕ
   carried k = after n D (s .band) (s .factor) R w k
 
   abbrev KeptAt : (ℕ → ℕ) → Type 0
@@ -79,19 +79,19 @@ module _ (s : Settings) (load : ℤ) (f : Fleet) (n : ℕ) (p : Premises s load 
   weighty : 0 < sumOf n w * 1000
   weighty = some-weight n (λ (i : ℕ). getD (f .reserve) i 0) (λ (i : ℕ). getD (f .stored) i 0) w (p .storeAboveReserve) (p .weightsIn)
 
-  kept : (k : ℕ) → KeptAt (carried k)
+  pub kept : (k : ℕ) → KeptAt (carried k)
   unfolding after
   kept zero = kept-none n D (s .band) (s .factor) R w
   kept (suc k) = kept-step n D (s .band) (s .factor) R w weighty (carried k) (kept k) (p .factorIn)
 
-  carries : (k : ℕ) → Requests n (requestsAt s load f n k) (carried k)
+  pub carries : (k : ℕ) → Requests n (requestsAt s load f n k) (carried k)
   unfolding after requestsAt
   carries zero = record { count = length-replicate n (pos 0); at = λ i l. getD-replicate n i (pos 0) (pos 0) l }
   carries (suc k) =
       subst⁻¹ (λ (rs : List ℤ). Requests n rs (carried (suc k))) (next-requests s load f n k)
       (pass-steps s load f n p (requestsAt s load f n k) (carried k) (carries k) (kept k .within))
 
-  request-is : (k i : ℕ) → i < n → requestAt s load f n k i ≡ pos (carried k i)
+  pub request-is : (k i : ℕ) → i < n → requestAt s load f n k i ≡ pos (carried k i)
   unfolding requestAt
   request-is k i l = carries k .at i l
 
@@ -102,16 +102,16 @@ module _ (s : Settings) (load : ℤ) (f : Fleet) (n : ℕ) (p : Premises s load 
       ap (λ (z : ℤ). (load -ℤ z) -ℤ s .target) (sum-is n (requestsAt s load f n k) (carried k) (carries k))
       ∙ measure-is s load f n p (sumOf n (carried k)) (kept k .within)
 
-  gap-is : (k : ℕ) → gapAt s load f n k ≡ D - sumOf n (carried k)
+  pub gap-is : (k : ℕ) → gapAt s load f n k ≡ D - sumOf n (carried k)
   unfolding gapAt
   gap-is k = ap natAbs (above-is k)
 
   -- no request falls; one that a pass changes rises
-  rises : (k i : ℕ) → i < n → carried k i ≤ carried (suc k) i
+  pub rises : (k i : ℕ) → i < n → carried k i ≤ carried (suc k) i
   unfolding after
   rises k = step-rises n D (s .band) (s .factor) R w weighty (carried k) (kept k)
 
-  raised : (k : ℕ) → changes s load f n k ≡ true → sumOf n (carried k) < sumOf n (carried (suc k))
+  pub raised : (k : ℕ) → changes s load f n k ≡ true → sumOf n (carried k) < sumOf n (carried (suc k))
   unfolding changes
   raised k e = go (some-at (length (requestsAt s load f n k)) differs e)
     where

@@ -3,7 +3,7 @@ use mathlib.Core.Path.{_≡_, refl, sym, ap, ap₂, _∙_}
 use Prim.Native.Nat.{ℕ, zero, suc, _+_, _*_, _/_, _≤_, _<_}
 use mathlib.Core.Logic.{_⊎_, inl, inr}
 use native.Mathlib.Nat.{le-refl, not-suc-le-zero, add-zero, add-suc, le-suc-iff}
-use native.Mathlib.Nat.{zero-mul, add-mul, mul-le-mul-left, div-mul-le-self, le-of-mul-le-mul-right, mul-assoc, mul-comm}
+use native.Mathlib.Nat.{zero-mul, suc-mul, add-mul, mul-le-mul-left, div-mul-le-self, le-of-mul-le-mul-right, mul-assoc, mul-comm}
 use native.Mathlib.Omega.{arith}
 use lib.IntN.{ℤ, pos, _+ℤ_}
 use Rattle.whole.specs.Over.{sumOf, sumOfℤ}
@@ -28,6 +28,12 @@ pub sum-none : (n : ℕ) (f : ℕ → ℕ) → ((i : ℕ) → i < n → f i ≡ 
 unfolding sumOf
 sum-none zero f h = refl
 sum-none (suc n) f h = omega (arith, sum-none n f (below h), h n (le-refl (suc n)))
+
+-- values that are all the same
+pub sum-const : (n c : ℕ) → sumOf n (λ (i : ℕ). c) ≡ n * c
+unfolding sumOf
+sum-const zero c = sym (zero-mul c)
+sum-const (suc n) c = ap (λ (x : ℕ). x + c) (sum-const n c) ∙ sym (suc-mul n c)
 
 -- one value is no larger than the sum
 pub sum-has : (n : ℕ) (f : ℕ → ℕ) (i : ℕ) → i < n → f i ≤ sumOf n f

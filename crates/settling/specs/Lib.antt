@@ -3,3 +3,4 @@ pub mod Study
 pub mod Answers
 pub mod Posts
 pub mod Settling
+pub mod Closing
