@@ -5,7 +5,10 @@
 #include "import.h"
 #include "yesbrulka.h"
 
-/* What is shown of a study: what the library stores, and what the stick says. */
+/* What is shown of a study: what the library stores, what the stick says, and what follows from both: the sum of the
+** requests, how far the reading that is left lies above the target, and how far the units above their reserves are
+** below their ratings, all together.
+*/
 struct study {
     unsigned units;
     int32_t requests[YB_MOST_UNITS];
@@ -13,6 +16,7 @@ struct study {
     uint32_t passes;
     uint32_t ratings[YB_MOST_UNITS];
     struct settings settings;
+    int64_t sum, gap, room;
 };
 
 /* Reads a whole number, digits after a sign or none; one that is larger than any range is the largest there is.
@@ -39,16 +43,26 @@ static uint32_t make_study(struct study *study, const struct stick *stick, int64
         &study->passes);
 }
 
-/* What the stick says beside it: the settings, and each unit's rating. */
-static int take_fleet(struct study *study, const struct stick *stick)
+/* What the stick says beside it, the settings and each unit's rating; and what follows. A pass asks for no more than
+** takes the reading to the target, and for nothing where it is there or below: so the reading that is left by a study
+** that its budget stopped is not below the target, or the answer is a fault.
+*/
+static int take_fleet(struct study *study, const struct stick *stick, int64_t load)
 {
     struct unit unit = {0};
     int outcome = ask_settings(&study->settings, stick);
+    study->sum = study->room = 0;
     for (unsigned i = 0; i < study->units && outcome == COMPLETE; i++) {
         outcome = ask_unit(&unit, stick, i);
         study->ratings[i] = unit.rating;
+        study->sum += study->requests[i];
+        if (unit.stored > unit.reserve)
+            study->room += (int64_t)unit.rating - study->requests[i];
     }
-    return outcome;
+    if (outcome != COMPLETE)
+        return outcome;
+    study->gap = load - study->sum - study->settings.target;
+    return study->settled || study->gap >= 0 ? COMPLETE : fault(stick->name);
 }
 
 /* The library refused the study; a complete stick leaves only the load and the budget to be wrong. */
@@ -75,9 +89,27 @@ static void print_mode(unsigned mode)
         is_by_current(mode) ? ", and its target and band, which are in mA, are taken as W" : "");
 }
 
+/* How far a study that its budget stopped is from done. A further pass that changes a request raises one by a watt at
+** least and lowers none; it takes the reading no further than the target, and no unit above its rating. So neither the
+** gap nor the room has a watt for more passes than this.
+*/
+static void print_rest(const struct study *study)
+{
+    int64_t gap = study->gap, room = study->room, most = gap < room ? gap : room;
+    printf("gap left %" PRId64 " W", gap);
+    if (2 * gap <= study->settings.band)
+        printf(", within half the band: no further pass changes a request\n");
+    else if (most > 0)
+        printf(": at most %" PRId64 " further %s a request (%" PRId64 " W to the target, %" PRId64
+            " W left to the ratings of units above reserve)\n",
+            most, most == 1 ? "pass changes" : "passes change", gap, room);
+    else
+        printf(": no further pass changes a request (every unit above reserve is at its rating)\n");
+}
+
 static void print_study(const struct study *study, const char *name, int64_t load, int64_t budget)
 {
-    int64_t sum = 0, target = study->settings.target, band = study->settings.band;
+    int64_t target = study->settings.target, band = study->settings.band;
     print_name(stdout, name);
     if (study->settled)
         printf(": settled after %" PRIu32 " changing passes\n", study->passes);
@@ -85,15 +117,14 @@ static void print_study(const struct study *study, const char *name, int64_t loa
         printf(": not settled within %" PRId64 " passes, %" PRIu32 " changed a request\n", budget, study->passes);
     print_mode(study->settings.mode);
     printf("unit\trequest W\trating W\n");
-    for (unsigned i = 0; i < study->units; i++) {
+    for (unsigned i = 0; i < study->units; i++)
         printf("%u\t%" PRId32 "\t%" PRIu32 "\n", i, study->requests[i], study->ratings[i]);
-        sum += study->requests[i];
-    }
-    int64_t left = load - sum;
-    int64_t off = left < target ? target - left : left - target;
+    int64_t off = study->gap < 0 ? -study->gap : study->gap;
     printf("sum of requests %" PRId64 " W, reading left %" PRId64 " W: %s half the band (%" PRId64
         " W) of the target (%" PRId64 " W)\n",
-        sum, left, 2 * off <= band ? "within" : "not within", band, target);
+        study->sum, load - study->sum, 2 * off <= band ? "within" : "not within", band, target);
+    if (!study->settled)
+        print_rest(study);
 }
 
 int settle_command(const char *file, const char *load_word, const char *budget_word)
@@ -111,7 +142,7 @@ int settle_command(const char *file, const char *load_word, const char *budget_w
     uint32_t number = make_study(&study, &stick, load, budget);
     if (number != 0)
         return refused_study(file, number, load, load_word, budget, budget_word);
-    outcome = take_fleet(&study, &stick);
+    outcome = take_fleet(&study, &stick, load);
     if (outcome != COMPLETE)
         return outcome;
     print_study(&study, file, load, budget);

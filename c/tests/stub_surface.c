@@ -364,7 +364,9 @@ uint32_t yb_watts(double kw, int32_t *watts)
     return 0;
 }
 
-/* Every request is 1 W, and a budget of one pass is too small. A load of 77 gets an answer that no study gets. */
+/* Every request is 1 W, and a budget of one pass is too small: also over a load so small that the reading is left below
+** the target, which no study does. A load of 77 gets an answer that no study gets.
+*/
 uint32_t yb_study(const uint8_t *file, size_t file_len, int64_t load, uint32_t budget, int32_t *requests,
     size_t requests_len, uint8_t *settled, uint32_t *passes)
 {

@@ -159,6 +159,8 @@ all_suites() {
     target_suite
     full_suite
     settle_suite
+    settle_rest_suite
+    settle_bounds_suite
     result_suite
     other_result_suite
     no_result_suite

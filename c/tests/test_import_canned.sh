@@ -61,7 +61,7 @@ canned_suite() {
 
 # The other commands over the stand-in, which takes every stick for complete and runs it into a row of numbers.
 canned_run_suite() {
-    local command stick=$work/stick result=$work/result line edition
+    local command stick=$work/stick result=$work/result line edition load
     cp examples/season.stick "$stick"
     check 0 "$stick: complete, 336 steps" '' run "$stick" "$result"
     good test "$(wc -c <"$result")" = 40327
@@ -78,7 +78,19 @@ unit	request W	rating W
 0	1	2
 1	1	2
 2	1	2
-sum of requests 3 W, reading left 997 W: not within half the band (2 W) of the target (-1 W)" '' settle "$stick" 1000 1
+sum of requests 3 W, reading left 997 W: not within half the band (2 W) of the target (-1 W)
+gap left 998 W: no further pass changes a request (every unit above reserve is at its rating)" '' settle "$stick" 1000 1
+    # A study that its budget stopped leaves no reading below the target.
+    for load in 0 1; do
+        check 2 '' "import: $stick: $fault" settle "$stick" "$load" 1
+        call settle "$stick" "$load" 2
+        good like "$status|$error|${output##*$'\n'}" "0||sum of requests 3 W, reading left $((load - 3)) W: *"
+    done
+    for load in 2 3; do
+        call settle "$stick" "$load" 1
+        good test "$status|$error|${output##*$'\n'}" = \
+            "0||gap left $((load - 2)) W, within half the band: no further pass changes a request"
+    done
     call settle "$stick" 100000001 0
     good like "$status $output" '1 LOAD 100000001: refused 5*BUDGET 0: refused 5*'
     check 2 '' "import: $stick: $fault" settle "$stick" 77

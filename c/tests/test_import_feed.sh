@@ -99,7 +99,7 @@ $(sed -n 2p <<<"$roof_summary")"
     check 0 "$work/longest: complete, 65535 steps$(too_long "$work/longest")" '' check "$work/longest"
     call settle "$work/longest" 6000 1
     good like "$status|$error|$output" '0||*: not settled within 1 passes*'
-    good test "$(wc -l <"$work/output")" = 67
+    good test "$(wc -l <"$work/output")" = 68
     rm "$work/longest"
 
     # Results that are not those of a long stick.

@@ -154,6 +154,24 @@ full_stick() {
     printf '\177\0\004\0\0\015\217'
 }
 
+# spent_stick: the season without steps, its first unit at its reserve; the second of 44,228 W, which it is a watt below
+# when three passes have gone over 200,000 W.
+spent_stick() {
+    local season=examples/season.stick
+    head -c 28 "$season"
+    tail -c +21 "$season" | head -c 8
+    tail -c +37 "$season" | head -c 52
+    printf '\0\0\254\304'
+    tail -c +93 "$season" | head -c 88
+    printf '\177\0\004\0\0\0\0'
+}
+
+# rest LINE LOAD BUDGET: settle's last line of the spent stick, which the import tool has too.
+rest() {
+    settle_it "$work/spent" "$2" "$3"
+    good test "$(tail -n 1 "$work/output")" = "$1"
+}
+
 for file in examples/*.stick; do
     if [ "$(wc -c <"$file")" -gt 65536 ]; then
         none_of "$file"
@@ -207,6 +225,17 @@ for file in examples/season.stick "$work/none"; do
     called="stick_run <$file >/dev/full"
     good test "$error" = "$(line "$file")"$'\n''standard output: not written whole; throw away what it holds'
 done
+
+# How far a study is from done that its budget stopped: every kind of line.
+spent_stick >"$work/spent"
+all_of "$work/spent"
+room='W left to the ratings of units above reserve)'
+rest 'gap left 1830 W, within half the band: no further pass changes a request' 150000 5
+rest 'gap left 3000 W, within half the band: no further pass changes a request' 125250 1
+rest "gap left 3001 W: at most 3001 further passes change a request (3001 W to the target, 56978 $room" 125251 1
+rest "gap left 45715 W: at most 24943 further passes change a request (45715 W to the target, 24943 $room" 200000 1
+rest "gap left 20773 W: at most 1 further pass changes a request (20773 W to the target, 1 $room" 200000 3
+rest 'gap left 20772 W: no further pass changes a request (every unit above reserve is at its rating)' 200000 4
 
 # Words that are no whole numbers, and too few or too many of them.
 usage='usage: settle LOAD [BUDGET] <FILE

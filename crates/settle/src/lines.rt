@@ -1,7 +1,6 @@
-ghost use Prim.Native.Nat.{_≤_};
-ghost use lib.ListN.{length};
 ghost use Rattle.stick.specs.Posts.{Accepted};
 use super::sums;
+use super::sums::Left;
 use libc::STDERR_FILENO;
 use libc::STDOUT_FILENO;
 use settling::Studied;
@@ -69,7 +68,7 @@ pub fn mode(mode: u8) {
 fn unit(i: usize, request: i32, rating: u32) {
     number(i as u64);
     text(b"\t");
-    signed(request as i64);
+    signed(sums::wide(request));
     text(b"\t");
     number(rating as u64);
     text(b"\n");
@@ -89,25 +88,53 @@ pub fn units(file: &[u8], requests: &[i32])
 }
 
 // What is left of the load, and how it lies to the target.
-pub fn left(load: u32, target: i32, band: u32, requests: &[i32])
-    requires { ⌜ length (now requests) ≤ 64 ⌝ }
-{
-    let sum = members::asked_of(requests).sum;
-    let left = sums::minus(load as i64, sum);
-    let off = whole::size64(sums::minus(left, target as i64));
+pub fn left(l: Left, target: i32, band: u32) {
     text(b"sum of requests ");
-    signed(sum);
+    signed(l.sum);
     text(b" W, reading left ");
-    signed(left);
+    signed(l.reading);
     text(b" W: ");
-    if (band as u64) < 2 * off {
+    if !l.within {
         text(b"not ");
     }
     text(b"within half the band (");
     number(band as u64);
     text(b" W) of the target (");
-    signed(target as i64);
+    signed(sums::wide(target));
     text(b" W)\n");
+}
+
+// How many passes can still change a request at most, and why: each takes a watt at least off both.
+fn most(passes: u64, gap: u64, room: u64) {
+    text(b" W: at most ");
+    number(passes);
+    if passes == 1 {
+        text(b" further pass changes a request (");
+    } else {
+        text(b" further passes change a request (");
+    }
+    number(gap);
+    text(b" W to the target, ");
+    number(room);
+    text(b" W left to the ratings of units above reserve)\n");
+}
+
+// How far a study that its budget stopped is from done. Its reading is never below the target, so
+// that the gap is above it.
+pub fn rest(l: Left, room: u64) {
+    let gap = l.gap;
+    let passes = whole::least64(gap, room);
+    text(b"gap left ");
+    number(gap);
+    if l.within {
+        text(b" W, within half the band: no further pass changes a request\n");
+    } else if passes == 0 {
+        text(
+            b" W: no further pass changes a request (every unit above reserve is at its rating)\n",
+        );
+    } else {
+        most(passes, gap, room);
+    }
 }
 
 // A word of the call that is outside its range.

@@ -2,6 +2,7 @@ ghost use Prim.Native.Nat.{_≤_};
 ghost use lib.ListN.{length};
 ghost use Rattle.stick.specs.Posts.{Accepted};
 use super::lines;
+use super::sums;
 use settling::StudyAnswer;
 use site::Head;
 
@@ -17,7 +18,11 @@ fn told(file: &[u8], head: Head, a: StudyAnswer, load: u32, budget: u32, request
     lines::outcome(r, budget);
     lines::mode(s.mode);
     lines::units(file, requests);
-    lines::left(load, s.target, s.band, requests);
+    let l = sums::after(load, s.target, s.band, requests);
+    lines::left(l, s.target, s.band);
+    if !r.settled {
+        lines::rest(l, sums::room(file, requests));
+    }
     true
 }
 
