@@ -590,6 +590,33 @@ mod tests {
         assert!(met[3..].iter().all(|&count| count > 1_000), "{met:?}");
     }
 
+    /// Charging by current is discharging mirrored, where no unit is at its reserve or full: the negatives of measure,
+    /// target and requests leave the negatives. As no current is below zero, no pass can be handed such a measure; the
+    /// rules are asked for it past its range.
+    #[test]
+    fn charging_by_current_is_the_mirror_image_of_discharging() {
+        let mut draw = Draw::from_seed(57);
+        let mut met = [0; 7];
+        for _ in 0..20_000 {
+            let mut call = currents::pass_call(6, &mut draw);
+            call.pass.fleet = half_full(&call.pass.fleet.rating, &call.pass.fleet.weight);
+            let PassCall { settings, measure, ref fleet, ref requests } = call.pass;
+            let made = |settings: Settings, measure, mut requests: Vec<i32>| {
+                let goal = Goal::of_current(&settings, measure, &call.units, &requests);
+                (accepted_pass(&settings, &goal, fleet, &mut requests), requests)
+            };
+            let negated = |requests: &[i32]| requests.iter().map(|&request| -request).collect::<Vec<_>>();
+            let mirrored = Settings { mode: 9 - settings.mode, target: -settings.target, ..settings };
+            let (passed, left) = made(settings, measure, requests.clone());
+            let (image, image_left) = made(mirrored, -measure, negated(requests));
+            assert_eq!(image, Passed { need: -passed.need, ..passed }, "{call:?}");
+            assert_eq!(image_left, negated(&left), "{call:?}");
+            assert_eq!((call.pass(), &call.pass.requests), (Ok(passed), &left));
+            met[usize::from(passed.rule)] += 1;
+        }
+        assert!([3, 5, 6].iter().all(|&rule| met[rule] > 3_000) && met[4] == 0, "{met:?}");
+    }
+
     fn refused_current(mut call: CurrentCall) -> Option<u32> {
         let before = call.pass.requests.clone();
         let number = call.pass().err();

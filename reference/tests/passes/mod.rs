@@ -143,6 +143,17 @@ fn state(requests: &[i32]) -> &'static str {
     }
 }
 
+/// What the archive returns and leaves behind of each of these passes.
+pub fn made_by_archive<P: Pass>(host: &mut Host, calls: &[P]) -> Vec<PassLeft> {
+    let mut payload = Vec::new();
+    calls.iter().for_each(|call| put_pass(&mut payload, call));
+    let answer = host.call(P::OP, &payload);
+    let mut rest = Rest(&answer);
+    let left = calls.iter().map(|call| take_left(&mut rest, call.call().requests.len())).collect();
+    assert!(rest.0.is_empty(), "an answer for each pass and nothing more");
+    left
+}
+
 /// Makes every pass with the archive and with the reference, and compares; tells what the reference says to each, and
 /// the rule that decided.
 pub fn compare_passes<P: Pass>(
@@ -158,12 +169,7 @@ pub fn compare_passes<P: Pass>(
         if frame.is_empty() {
             break;
         }
-        let mut payload = Vec::new();
-        frame.iter().for_each(|call| put_pass(&mut payload, call));
-        let answer = host.call(P::OP, &payload);
-        let mut rest = Rest(&answer);
-        for call in &frame {
-            let got = take_left(&mut rest, call.call().requests.len());
+        for (call, got) in frame.iter().zip(made_by_archive(&mut host, &frame)) {
             let (expected, rule) = expected_pass(call);
             all += 1;
             if got != expected {
@@ -176,7 +182,6 @@ pub fn compare_passes<P: Pass>(
             *met.entry((rule, mode, state(&call.call().requests))).or_default() += 1;
             tell(call, &expected, rule);
         }
-        assert!(rest.0.is_empty(), "an answer for each pass and nothing more");
     }
     assert!(host.end().0.success(), "the host ended badly");
     assert_eq!(wrong, 0, "wrong passes of {all}");

@@ -1,0 +1,3 @@
+-- The mirror's laws, proved.
+pub mod NegativeLaws
+pub mod MirrorProved

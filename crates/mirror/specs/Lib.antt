@@ -1,0 +1,2 @@
+-- Charging as the mirror image of discharging.
+pub mod Mirror

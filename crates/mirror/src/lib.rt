@@ -1,0 +1,1 @@
+// Charging as the mirror image of discharging: laws, which need no code.
