@@ -1,0 +1,6 @@
+-- Laws of led steps.
+pub mod SharedLaws
+pub mod UnitLaws
+pub mod LedProved
+pub mod RoofLaws
+pub mod LitProved
