@@ -32,7 +32,7 @@ enum {
     YB_CUT_SHORT = 1, /* one or two bytes are left where tag and length are due, or the value runs past the end */
     YB_UNKNOWN_TAG = 2, /* the tag is unknown */
     YB_WRONG_LENGTH = 3, /* the length is not the tag's */
-    YB_OUT_OF_ORDER = 4, /* the field may not come at this point */
+    YB_OUT_OF_ORDER = 4, /* the field may not come at this point; no voltage may in a file without a function */
     YB_OUT_OF_RANGE = 5, /* a value is outside its range, or a reading is of another kind than the mode goes by */
     YB_NOT_USABLE = 6, /* a reading does not convert to watts or mA, or a weather not to thousandths */
     YB_WRONG_COUNT = 7, /* the end field counts other steps than there are */
@@ -89,6 +89,12 @@ enum {
 /* Check a run file of any length.
 **
 ** yb_check returns 0 if the file is complete, or the number of its refusal, 1 to 9 or 12.
+**
+** Before its steps a file has the fleet, its units and the settings, and may have connections, inverters and one
+** function, a base with a volt-var curve behind it. A step is a reading, before which may stand a weather and then, in
+** a file with a function, a voltage; where either stands and no reading follows, the answer is 4 at what does. 5 is for
+** a voltage above 20,000 ten-thousandths of per unit, for a base other than 0 and 1, and for a volt-var curve whose x,
+** 0 to 20,000, do not rise or whose y are not -10,000 to 10,000.
 **
 ** The size of the file is looked at first, then its fields from the first to the last; of several things wrong
 ** with one field, the answer is the first of: tag and length cut short, 2, 3, value cut short, 4, 12, and 5, 6
@@ -151,6 +157,11 @@ uint32_t yb_connection(const uint8_t *file, size_t file_len, uint32_t unit, uint
 
 /* Run a file: take its steps in turn, each one pass of the controller (none where the reading is missing), one step of
 ** every unit and one of every inverter, and write the result file.
+**
+** In a file with a function the voltage of a step gives the vars that are requested of each unit and inverter, in that
+** step and in those after it without a voltage: the curve's parts in 10,000 of its kVA rating (base 0), or of what its
+** watts leave of that (base 1, and then watts come first in every step). Until the first voltage it is their own var
+** request. Limits and kVA rating hold as ever.
 **
 ** yb_run_room returns the bytes that the result needs, (40 x units + 29 x inverters) x steps + 7, or 0 for a file that
 ** is not complete.
@@ -377,8 +388,9 @@ enum { YB_CHANGE_BYTES = 17 };
 **
 ** The size of the file and its fields up to the first step must be good. From there on a reading that does not convert
 ** becomes a missing one, and its step stays. At any other fault the rescue ends; all bytes from there on are
-** dropped, and an end field with the number of steps before it takes their place. A weather whose reading is lost that
-** way is dropped with it. Bytes behind a good end field are dropped. So a complete file comes back as it is.
+** dropped, and an end field with the number of steps before it takes their place. A weather and a voltage whose reading
+** is lost that way are dropped with it: the change is then at the first of the two. Bytes behind a good end field are
+** dropped. So a complete file comes back as it is.
 **
 ** yb_rescue_room returns the bytes of the rescued file, yb_rescue_changes the number of changes, of which each takes 17
 ** bytes of the list, and yb_rescue_steps the steps of the rescued file. All three return 0 for a file that yb_rescue
@@ -392,9 +404,9 @@ enum { YB_CHANGE_BYTES = 17 };
 ** Returns 0, or the first of these that holds:
 **    12  the file is longer than 2,097,152 bytes; the place is 0, and so are the steps
 **     the number of yb_check, whose place and steps are the check's, if that is for a field due before the steps: at a
-**     fleet, unit or settings, at connections that the mode asks for, at a curve that an inverter waits for, at
-**     whatever stands there instead of these, and before any weather or reading also at a further inverter, a curve or
-**     connections
+**     fleet, unit or settings, at connections that the mode asks for, at a curve that an inverter or the function waits
+**     for, at whatever stands there instead of these, and before any weather, voltage or reading also at a further
+**     inverter, a curve, connections or a function
 **    12  the rescued file would be longer than 2,097,152 bytes; the place is 0, and so are the steps
 **    11  out is shorter than the rescued file, or list shorter than the changes; the place is then the file's length,
 **        and the steps are those of yb_rescue_steps

@@ -30,14 +30,17 @@ enum {
     WEATHER_TAG = 0x08,
     CURRENT_TAG = 0x09,
     CONNECTIONS_TAG = 0x0A,
+    FUNCTION_TAG = 0x0B,
+    VOLTAGE_TAG = 0x0C,
     END_TAG = 0x7F
 };
 
-/* What stands before a place: how many units and inverters, how many curves right before it, the mode of the settings,
-** 0 where there are none, and the last tag, which is 0 where nothing does.
+/* What stands before a place: how many units and inverters, how many curves right before it, whether there is a
+** function, the mode of the settings, 0 where there are none, and the last tag, which is 0 where nothing does.
 */
 struct before {
     unsigned units, inverters, curves;
+    int has_function;
     uint8_t mode, last;
 };
 

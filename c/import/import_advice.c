@@ -82,8 +82,8 @@ static const struct words one_too_many = {"field out of order",
     "Here the file has #, and a stick holds at most 64. Ask the manager to write the stick anew with no more "
     "inverters than that."};
 static const struct words after_steps = {"field out of order",
-    "Here the file has #, where ! should be: connections, inverters and their curves come before the first step. Do "
-    "not repair the file; ask the manager to write the stick anew."};
+    "Here the file has #, where ! should be: connections, inverters, the function and all curves come before the first "
+    "step. Do not repair the file; ask the manager to write the stick anew."};
 static const struct words no_reading = {"field out of order",
     "Here the file has #, and the weather before it has no reading, which would close its step. Ask the manager for "
     "@, or to leave that weather out, and to write the stick anew."};
@@ -117,6 +117,24 @@ static const struct words bad_connections = {"value out of range",
     "In # the phases of a unit are not 1 or 3, or its volts are not 1 to 40,000. Ask the manager to correct # and to "
     "write the stick anew."};
 
+/* The same where it is about the function or a voltage. */
+static const struct words no_function = {"field out of order",
+    "Here the file has #, and the stick has no function, whose curve would say which vars it asks for. Ask the manager "
+    "for the function, or to leave all voltages out, and to write the stick anew."};
+static const struct words no_reading_behind = {"field out of order",
+    "Here the file has #, and the voltage before it has no reading, which would close its step. Ask the manager for @, "
+    "or to leave that voltage out, with its weather if it has one, and to write the stick anew."};
+static const struct words bad_function = {"value out of range",
+    "The base of # is not 0, for the S of a unit or an inverter, or 1, for what the watts leave of it. Ask the manager "
+    "to correct # and to write the stick anew."};
+static const struct words bad_volt_var = {"value out of range",
+    "The points of # are fewer than 2 or more than 16, or their voltages do not rise from each to the next, or one is "
+    "not 0 to 20,000 ten-thousandths of per unit, or a y is not -10,000 to 10,000, or what is past the last point is "
+    "not 0. Ask the manager to correct this curve and to write the stick anew."};
+static const struct words bad_voltage = {"value out of range",
+    "The voltage is above 20,000 ten-thousandths of per unit. Ask the manager for the voltage of @, and have it "
+    "entered again or left out; without it the vars last requested stay."};
+
 /* The tag of the refused field; 0 where its tag and length are not there. */
 static uint8_t refused_tag(const struct stick *stick)
 {
@@ -125,17 +143,33 @@ static uint8_t refused_tag(const struct stick *stick)
 
 static int has_steps_before(const struct before *before)
 {
-    return is_reading(before->last) || before->last == WEATHER_TAG;
+    return is_reading(before->last) || before->last == WEATHER_TAG || before->last == VOLTAGE_TAG;
+}
+
+static int is_before_steps(uint8_t tag)
+{
+    return tag == INVERTER_TAG || tag == CURVE_TAG || tag == CONNECTIONS_TAG || tag == FUNCTION_TAG;
+}
+
+/* Where a function is all that a voltage wants to stand there. */
+static int wants_function(const struct before *before)
+{
+    int is_site_whole = before->last == SETTINGS_TAG || before->last == CONNECTIONS_TAG || before->curves == 2;
+    return !before->has_function && (is_site_whole || has_steps_before(before));
 }
 
 static const struct words *order_words(uint8_t tag, const struct before *before)
 {
     if (tag == INVERTER_TAG && before->inverters == YB_MOST_INVERTERS && before->curves == 2)
         return &one_too_many;
-    if ((tag == INVERTER_TAG || tag == CURVE_TAG || tag == CONNECTIONS_TAG) && has_steps_before(before))
+    if (is_before_steps(tag) && has_steps_before(before))
         return &after_steps;
     if (before->last == SETTINGS_TAG && is_by_current(before->mode))
         return &no_connections;
+    if (tag == VOLTAGE_TAG && wants_function(before))
+        return &no_function;
+    if (tag == END_TAG && before->last == VOLTAGE_TAG)
+        return &no_reading_behind;
     return tag == END_TAG && before->last == WEATHER_TAG ? &no_reading : &refusals[YB_OUT_OF_ORDER];
 }
 
@@ -169,13 +203,17 @@ static const struct words *range_words(const struct stick *stick, uint8_t tag)
     case INVERTER_TAG:
         return &bad_inverter;
     case CURVE_TAG:
-        return &bad_curve;
+        return stick->before.last == FUNCTION_TAG ? &bad_volt_var : &bad_curve;
     case POWER_TAG:
         return &power_by_current;
     case CURRENT_TAG:
         return &current_by_watts;
     case CONNECTIONS_TAG:
         return &bad_connections;
+    case FUNCTION_TAG:
+        return &bad_function;
+    case VOLTAGE_TAG:
+        return &bad_voltage;
     default:
         return &refusals[YB_OUT_OF_RANGE];
     }
@@ -210,11 +248,21 @@ void print_counted(unsigned number, const char *what)
     printf("%s %s", number % 10 > 3 || number / 10 % 10 == 1 ? "th" : ends[number % 10], what);
 }
 
+/* Whether an efficiency curve stands, or should stand, behind what stands before: behind a function there is none. */
+static int is_efficiency_due(const struct before *before)
+{
+    return before->curves == 1 && !before->has_function;
+}
+
 /* The curve that stands, or should stand, behind what stands before. */
 static void print_curve(const struct before *before)
 {
-    int is_temperature = before->last == INVERTER_TAG, is_efficiency = before->curves == 1;
-    if (!is_temperature && !is_efficiency) {
+    int is_temperature = before->last == INVERTER_TAG;
+    if (before->last == FUNCTION_TAG) {
+        printf("the volt-var curve");
+        return;
+    }
+    if (!is_temperature && !is_efficiency_due(before)) {
         printf("a curve");
         return;
     }
@@ -224,20 +272,13 @@ static void print_curve(const struct before *before)
 
 static void print_field(uint8_t tag, const struct before *before)
 {
+    static const char *const names[] = {[FLEET_TAG] = "the fleet", [SETTINGS_TAG] = "the settings",
+        [POWER_TAG] = "a reading", [CURRENT_TAG] = "a reading", [MISSING_TAG] = "a reading",
+        [WEATHER_TAG] = "a weather", [CONNECTIONS_TAG] = "the connections", [FUNCTION_TAG] = "the function",
+        [VOLTAGE_TAG] = "a voltage", [END_TAG] = "the end"};
     switch (tag) {
-    case FLEET_TAG:
-        printf("the fleet");
-        break;
     case UNIT_TAG:
         print_counted(before->units + 1, "unit");
-        break;
-    case SETTINGS_TAG:
-        printf("the settings");
-        break;
-    case POWER_TAG:
-    case CURRENT_TAG:
-    case MISSING_TAG:
-        printf("a reading");
         break;
     case INVERTER_TAG:
         print_counted(before->inverters + 1, "inverter");
@@ -245,17 +286,8 @@ static void print_field(uint8_t tag, const struct before *before)
     case CURVE_TAG:
         print_curve(before);
         break;
-    case WEATHER_TAG:
-        printf("a weather");
-        break;
-    case CONNECTIONS_TAG:
-        printf("the connections");
-        break;
-    case END_TAG:
-        printf("the end");
-        break;
     default:
-        printf("a field");
+        printf("%s", tag < sizeof names / sizeof names[0] && names[tag] != NULL ? names[tag] : "a field");
         break;
     }
 }
@@ -276,7 +308,7 @@ static void print_behind_units(uint8_t tag, const struct before *before)
 /* What may stand behind the connections; and behind the settings, where these may still come and in some modes must. */
 static void print_behind_connections(const struct before *before)
 {
-    printf("%sa step or the end", before->inverters < YB_MOST_INVERTERS ? "an inverter, " : "");
+    printf("%sthe function, a step or the end", before->inverters < YB_MOST_INVERTERS ? "an inverter, " : "");
 }
 
 static void print_behind_settings(const struct before *before)
@@ -286,6 +318,17 @@ static void print_behind_settings(const struct before *before)
         return;
     printf(", ");
     print_behind_connections(before);
+}
+
+/* What may stand behind a curve: another one, or what comes behind both of an inverter's, or behind the function's. */
+static void print_behind_curve(const struct before *before)
+{
+    if (is_efficiency_due(before))
+        print_curve(before);
+    else if (before->has_function)
+        printf("a step or the end");
+    else
+        print_behind_connections(before);
 }
 
 static void print_due(uint8_t tag, const struct before *before)
@@ -304,19 +347,20 @@ static void print_due(uint8_t tag, const struct before *before)
         print_behind_settings(before);
         break;
     case INVERTER_TAG:
+    case FUNCTION_TAG:
         print_curve(before);
         break;
     case CURVE_TAG:
-        if (before->curves == 1)
-            print_curve(before);
-        else
-            print_behind_connections(before);
+        print_behind_curve(before);
         break;
     case CONNECTIONS_TAG:
         print_behind_connections(before);
         break;
     case WEATHER_TAG:
-        printf("the reading that follows a weather");
+        printf("the %sreading that follows a weather", before->has_function ? "voltage or the " : "");
+        break;
+    case VOLTAGE_TAG:
+        printf("the reading that follows a voltage");
         break;
     default:
         printf("a step or the end");

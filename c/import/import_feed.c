@@ -4,7 +4,7 @@
 ** There is memory for a chunk and for what its steps give, never for all of a stick or of its result. A step has at
 ** least three bytes, and gives at most the records of 64 units and 64 inverters: a chunk's results are at most 97 MB,
 ** and those of a chunk of readings with weather, for three of each, 300 KB. A stick that is kept, because it is fed
-** again, is kept as far as the library has taken it, which today is 3 MB at most.
+** again, is kept as far as the library has taken it, which today is 3.4 MB at most.
 */
 #define _POSIX_C_SOURCE 200809L /* for fileno, fstat and fmemopen */
 #include <errno.h>

@@ -88,7 +88,7 @@ int is_reading(uint8_t tag)
 /* From the first step on there are only these. */
 static int is_of_steps(uint8_t tag)
 {
-    return is_reading(tag) || tag == WEATHER_TAG || tag == END_TAG;
+    return is_reading(tag) || tag == WEATHER_TAG || tag == VOLTAGE_TAG || tag == END_TAG;
 }
 
 /* Counts the whole fields from the window's start up to an end, and gives in *past the bytes that they have. */
@@ -107,6 +107,7 @@ static int count_fields(struct stick *stick, size_t end, size_t *past)
             before->mode = field[HEADER];
         before->units += before->last == UNIT_TAG;
         before->inverters += before->last == INVERTER_TAG;
+        before->has_function |= before->last == FUNCTION_TAG;
         before->curves = before->last == CURVE_TAG ? before->curves + 1 : 0;
         *past += len;
     }

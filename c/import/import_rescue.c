@@ -10,10 +10,10 @@
 #include "import.h"
 #include "yesbrulka.h"
 
-/* A change in the list, by its first bytes; the value of a power reading; and the end field, by its last four bytes,
-** which count the steps.
+/* A change in the list, by its first bytes; the values of a power reading and of a weather; and the end field, by its
+** last four bytes, which count the steps.
 */
-enum { CHANGE_KIND = 8, CHANGE_DROPPED = 9, READING_BYTES = 24, END_COUNT = 3, END_BYTES = 7 };
+enum { CHANGE_KIND = 8, CHANGE_DROPPED = 9, READING_BYTES = 24, WEATHER_BYTES = 16, END_COUNT = 3, END_BYTES = 7 };
 
 /* FILE, or a byte more of it than may be lent; what is kept of it; the list; FILE with its readings made missing. */
 static uint8_t file[YB_MOST_FILE_BYTES + 1], kept[YB_MOST_FILE_BYTES];
@@ -151,7 +151,7 @@ static int walk_changes(const struct rescue *rescue,
 }
 
 /* Asks what is wrong where an end was put in: with its readings made missing, FILE is refused there and nowhere before,
-** or behind a weather that waits for its reading.
+** or behind a weather or a voltage that waits for its reading.
 */
 static int ask_end(struct rescue *rescue)
 {
@@ -237,10 +237,27 @@ static const char *const endings[] = {
     [YB_TOO_MANY] = "the stick goes on at byte # after as many steps as there can be",
 };
 
-static void print_ended(const struct rescue *rescue, const struct change *change)
+/* Of the fields from the steps on a reading and a voltage can be out of range. */
+static const char *ending_of(const struct rescue *rescue)
 {
     uint32_t number = rescue->end_number < sizeof endings / sizeof endings[0] ? rescue->end_number : 0;
-    for (const char *at = endings[number] != NULL ? endings[number] : endings[0]; *at != '\0'; at++)
+    if (number == YB_OUT_OF_RANGE && rescue->end_place < rescue->len && file[rescue->end_place] == VOLTAGE_TAG)
+        return "the voltage at byte # is larger than it may be";
+    return endings[number] != NULL ? endings[number] : endings[0];
+}
+
+/* What waited for its reading from the place of a change on: a weather, a voltage or both. */
+static const char *waiting_of(const struct rescue *rescue, const struct change *change)
+{
+    if (file[change->place] == VOLTAGE_TAG)
+        return "a voltage waited for its reading";
+    return rescue->end_place - change->place > HEADER + WEATHER_BYTES
+        ? "a weather and a voltage waited for their reading" : "a weather waited for its reading";
+}
+
+static void print_ended(const struct rescue *rescue, const struct change *change)
+{
+    for (const char *at = ending_of(rescue); *at != '\0'; at++)
         if (*at == '#')
             print_commas(rescue->end_place);
         else
@@ -260,7 +277,7 @@ static void print_ended(const struct rescue *rescue, const struct change *change
     }
     printf("byte ");
     print_commas(change->place);
-    printf(" on, where a weather waited for its reading\n");
+    printf(" on, where %s\n", waiting_of(rescue, change));
 }
 
 static void print_change(const struct rescue *rescue, const struct change *change, unsigned readings)

@@ -1,5 +1,6 @@
 /* import summary: what a planner asks of a result, a line for each unit and one for the fleet; beneath them, where the
-** units have var limits, a line of these for each; and a line for each inverter and one for the roof.
+** units have var limits, a line of these for each; a line for each inverter and one for the roof; and last, for each
+** unit and inverter, a line of the largest and the smallest vars.
 */
 #include <inttypes.h>
 #include <string.h>
@@ -146,6 +147,7 @@ struct summary {
     struct line lines[YB_MOST_UNITS + 1];
     struct var_line vars[YB_MOST_UNITS];
     struct roof_line roof[YB_MOST_INVERTERS + 1];
+    struct var_ends ends[YB_MOST_UNITS + YB_MOST_INVERTERS];
 };
 
 static void see_run(void *to, const struct run *run)
@@ -154,6 +156,7 @@ static void see_run(void *to, const struct run *run)
     see_fleet(summary->lines, run, summary->seconds);
     see_vars(summary->vars, run);
     see_roof(summary->roof, run, summary->seconds);
+    see_var_ends(summary->ends, run);
 }
 
 static void print_summary(const struct summary *summary, const struct stick *stick, const struct settings *settings)
@@ -165,6 +168,7 @@ static void print_summary(const struct summary *summary, const struct stick *sti
         print_vars(summary->vars, stick);
     if (stick->inverters != 0)
         print_roof(summary->roof, stick);
+    print_var_ends(summary->ends, stick);
 }
 
 int summary_command(const char *file, const char *result)

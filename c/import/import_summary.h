@@ -1,5 +1,5 @@
-/* What the parts of the summary share: numbers as texts, set in columns, the units' var lines, and the inverters'
-** lines.
+/* What the parts of the summary share: numbers as texts, set in columns, the units' var lines, the inverters' lines,
+** and the lines of the largest and the smallest vars.
 */
 #ifndef IMPORT_SUMMARY_H
 #define IMPORT_SUMMARY_H
@@ -12,8 +12,8 @@ typedef unsigned __int128 joules;
 
 /* import_columns.c */
 
-/* A row of texts. A heading, a line for each of 64 and a last one for all of them are as many rows as there can be. */
-enum { ROWS = 66, COLUMNS = 13, CELL = 48 };
+/* A row of texts. A heading and a line for each of 64 units and 64 inverters are as many rows as there can be. */
+enum { ROWS = 1 + YB_MOST_UNITS + YB_MOST_INVERTERS, COLUMNS = 13, CELL = 48 };
 
 typedef char row[COLUMNS][CELL];
 
@@ -40,6 +40,18 @@ struct var_line {
 int ask_vars(struct var_line *lines, const struct stick *stick);
 void see_vars(struct var_line *lines, const struct run *run);
 void print_vars(const struct var_line *lines, const struct stick *stick);
+
+/* The ends of the vars of a unit or an inverter: the largest and the smallest of a step, by their signs, and the first
+** step that had each.
+*/
+struct var_ends {
+    int32_t high, low;
+    uint32_t high_step, low_step;
+};
+
+/* What a part of the run adds to the ends of the units and, after them, the inverters; and their print. */
+void see_var_ends(struct var_ends *ends, const struct run *run);
+void print_var_ends(const struct var_ends *ends, const struct stick *stick);
 
 /* import_roof.c */
 

@@ -1,10 +1,13 @@
-/* The units' var lines of the summary: what each may provide and absorb, and what it did. */
+/* The var lines of the summary: what each unit may provide and absorb, and what it did; and for each unit and inverter
+** the largest and the smallest vars.
+*/
 #include <inttypes.h>
+#include <string.h>
 
 #include "import_summary.h"
 
-/* The columns of a line; its first is its name. */
-enum { VAR_COLUMNS = 7 };
+/* The columns of a line of either kind; its first is its name. */
+enum { VAR_COLUMNS = 7, END_COLUMNS = 5 };
 
 void see_vars(struct var_line *lines, const struct run *run)
 {
@@ -49,4 +52,52 @@ void print_vars(const struct var_line *lines, const struct stick *stick)
         line_texts(rows[i + 1], &lines[i]);
     putchar('\n');
     print_rows(rows, stick->units + 1, VAR_COLUMNS);
+}
+
+static void see_step(struct var_ends *ends, uint32_t step, int32_t vars)
+{
+    if (step == 0 || vars > ends->high) {
+        ends->high = vars;
+        ends->high_step = step;
+    }
+    if (step == 0 || vars < ends->low) {
+        ends->low = vars;
+        ends->low_step = step;
+    }
+}
+
+void see_var_ends(struct var_ends *ends, const struct run *run)
+{
+    for (uint32_t step = run->first; step < run->first + run->steps; step++) {
+        for (unsigned unit = 0; unit < run->units; unit++)
+            see_step(&ends[unit], step, record_at(run, step, unit).vars);
+        for (unsigned i = 0; i < run->inverters; i++)
+            see_step(&ends[run->units + i], step, solar_at(run, step, i).vars);
+    }
+}
+
+/* Without a step there are none. */
+static void end_texts(row cells, const struct var_ends *ends, uint32_t steps)
+{
+    snprintf(cells[1], CELL, "%" PRId32, ends->high);
+    snprintf(cells[2], CELL, "%" PRIu32, ends->high_step);
+    snprintf(cells[3], CELL, "%" PRId32, ends->low);
+    snprintf(cells[4], CELL, "%" PRIu32, ends->low_step);
+    for (int k = 1; k < END_COLUMNS && steps == 0; k++)
+        strcpy(cells[k], "-");
+}
+
+/* An inverter has the word before its number, as in a table. */
+void print_var_ends(const struct var_ends *ends, const struct stick *stick)
+{
+    static const char *const heading[END_COLUMNS] = {"unit", "high_var", "at_step", "low_var", "at_step"};
+    static row rows[ROWS];
+    unsigned count = stick->units + stick->inverters;
+    begin_rows(rows, heading, END_COLUMNS, stick->units);
+    for (unsigned i = 0; i < stick->inverters; i++)
+        snprintf(rows[stick->units + i + 1][0], CELL, "inverter %u", i);
+    for (unsigned i = 0; i < count; i++)
+        end_texts(rows[i + 1], &ends[i], stick->steps);
+    putchar('\n');
+    print_rows(rows, count + 1, END_COLUMNS);
 }

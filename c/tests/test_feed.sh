@@ -45,7 +45,7 @@ left() {
 }
 
 # Complete sticks: the result is that of the whole run, whatever the chunks.
-for stick in harvest mill roof season vineyard; do
+for stick in dairy harvest mill roof season vineyard voltage; do
     file=examples/$stick.stick
     build/import run "$file" "$work/whole" >/dev/null 2>&1 || { echo "no whole run of $file" >&2; exit 1; }
     steps=$(build/import check "$file" | sed -n '1s/.*complete, \([0-9]* steps\).*/\1/p')

@@ -144,7 +144,7 @@ small_sticks() {
 }
 
 # The suites, each in a part of its own.
-for part in check run faults settle result limits older roof current advice feed rescue rescue_out canned \
+for part in check run faults settle result limits older roof current advice voltage feed rescue rescue_out canned \
     rescue_canned; do
     # shellcheck disable=SC1090 # one of the parts beside this
     . "c/tests/test_import_$part.sh" || exit 1
@@ -176,6 +176,10 @@ all_suites() {
     current_suite
     current_words_suite
     current_rescue_suite
+    voltage_suite
+    voltage_order_suite
+    voltage_words_suite
+    voltage_rescue_suite
     feed_suite
     refused_feed_suite
     pipe_suite

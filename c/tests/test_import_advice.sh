@@ -56,7 +56,7 @@ out_of_order() {
 roof_words_suite() {
     local inverter='180 22' curve='202 132' weather='1038 19' reading='1057 27' end='5153 7' place words name k
     local anew='a field is missing, or this one is there twice or in the wrong place. Do not repair the file; ask the*'
-    local early='connections, inverters and their curves come before the first step. Do not repair the file; ask the *'
+    local early='connections, inverters, the function and all curves come before the first step. Do not repair the *'
     # shellcheck disable=SC2086 # the pieces are words
     {
         out_of_order 0 0 "the 1st inverter, where the fleet should be: $anew" $inverter
@@ -66,14 +66,16 @@ roof_words_suite() {
         out_of_order 61 0 "a weather, where the 2nd unit or the settings should be: $anew" 0 61 $weather
         out_of_order 61 0 "the settings, where the 2nd unit should be: $anew" 0 61 165 15
         out_of_order 165 0 "the 4th unit, where the settings should be: $anew" 0 165 9 52
-        out_of_order 180 0 "a curve, where the connections, an inverter, a step or the end should be: $anew" 0 180 $curve
-        out_of_order 180 0 "the settings, where the connections, an inverter, a step or the end should be: $anew" 0 180 165 15
+        out_of_order 180 0 "a curve, where the connections, an inverter, the function, a step or the end should be: \
+$anew" 0 180 $curve
+        out_of_order 180 0 "the settings, where the connections, an inverter, the function, a step or the end should \
+be: $anew" 0 180 165 15
         out_of_order 202 0 "the 2nd inverter, where the 1st inverter's temperature curve should be: $anew" \
             0 202 $inverter
         out_of_order 202 0 "a weather, where the 1st inverter's temperature curve should be: $anew" 0 202 $weather
         out_of_order 334 0 "a reading, where the 1st inverter's efficiency curve should be: $anew" 0 334 $reading
         out_of_order 334 0 "the end, where the 1st inverter's efficiency curve should be: $anew" 0 334 $end
-        out_of_order 466 0 "a curve, where an inverter, a step or the end should be: $anew" 0 466 $curve
+        out_of_order 466 0 "a curve, where an inverter, the function, a step or the end should be: $anew" 0 466 $curve
         out_of_order 620 0 "the 3rd inverter, where the 2nd inverter's efficiency curve should be: $anew" \
             0 620 $inverter
         out_of_order 1057 0 "a weather, where the reading that follows a weather should be: $anew" 0 1057 $weather
@@ -92,7 +94,7 @@ roof_words_suite() {
     cp "$work/pieces" "$work/inverters"
     piece 202 132 >>"$work/pieces"
     refused "$work/pieces" 4 'field out of order' 18484 0
-    advised 'Here the file has a curve, where a step or the end should be: a field is missing*'
+    advised 'Here the file has a curve, where the function, a step or the end should be: a field is missing*'
 
     # A cut-out above its cut-in, in inverters of many numbers; and each curve.
     while read -r k words; do

@@ -69,7 +69,7 @@ canned_run_suite() {
     good test "$status|$error|$(wc -l <"$work/output")" = '0||1009'
     good test "$output" = "$(decoded "$result")"
     call summary "$stick" "$result"
-    good test "$status|$error|$(wc -l <"$work/output")" = '0||7'
+    good test "$status|$error|$(wc -l <"$work/output")" = '0||12'
     good test "$(sed -n 2p "$work/output")" = \
         '3 units, steps of 3600 s, mode 255, target -1 W, band 2 W, factor 3'
     check 0 "$stick: not settled within 1 passes, 1 changed a request
@@ -110,12 +110,14 @@ gap left 998 W: no further pass changes a request (every unit above reserve is a
     call table "$stick" "$result"
     good test "$status|$error|$(wc -l <"$work/output")" = '0||1681'
     good test "$output" = "$(decoded "$result")"
-    line=$(printf '%s\n' "$output" | summed_roof 3600)
+    line=$(printf '%s\n' "$output" | summed_roof 3600
+        echo
+        printf '%s\n' "$output" | var_ends)
     call summary "$stick" "$result"
-    good test "$status|$error|$(wc -l <"$work/output")" = '0||12'
+    good test "$status|$error|$(wc -l <"$work/output")" = '0||19'
     good test "$(sed -n 2p "$work/output")" = \
         '3 units, 2 inverters, steps of 3600 s, mode 255, target -1 W, band 2 W, factor 3'
-    good test "$(tail -n 3 "$work/output" | sed 's/^ *//; s/  */ /g')" = "$line"
+    good test "$(tail -n 10 "$work/output" | sed 's/^ *//; s/  */ /g')" = "$line"
     for place in 0 119 120 148 149 177 178 59808 59814; do
         cp "$result" "$work/bad"
         patch "$work/bad" "$place" EE
@@ -128,7 +130,7 @@ gap left 998 W: no further pass changes a request (every unit above reserve is a
     # The same in edition 2, with the stand-in's limits and its largest vars.
     patch "$stick" 3 02
     call summary "$stick" "$result"
-    good test "$status|$error|$(wc -l <"$work/output")" = '0||17'
+    good test "$status|$error|$(wc -l <"$work/output")" = '0||24'
     good test "$(sed -n '8,12p' "$work/output")" = '
 unit  S_VA  request_var  provide_var  absorb_var     out_var  in_var
    0     2           -3            1           0  2139062143       0
@@ -145,7 +147,7 @@ $line" '' summary "$stick" "$result"
         patch "$stick" 3 01 03 "0200000$line"
         call run "$stick" "$result"
         call summary "$stick" "$result"
-        good test "$status|$error|$(wc -l <"$work/output")" = '0||12'
+        good test "$status|$error|$(wc -l <"$work/output")" = '0||19'
         for edition in 02 03; do
             patch "$stick" 3 "$edition"
             check 2 '' "import: $stick: $fault" summary "$stick" "$result"
@@ -216,7 +218,7 @@ canned_feed_suite() {
     good test "$status|$error|$(wc -l <"$work/output")|$(tail -n 1 "$work/output" | cut -f 1-2)" = \
         "0||65536|$(printf '65534\t0')"
     call summary "$work/long" "$work/long.result"
-    good test "$status|$error|$(wc -l <"$work/output")" = '0||5'
+    good test "$status|$error|$(wc -l <"$work/output")" = '0||8'
     call check - <"$work/long"
     good test "$status|$error|$output" = "0||-: complete, 65535 steps$(too_long "$work/long")"
     # One byte is another, far behind.

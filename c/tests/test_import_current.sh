@@ -90,13 +90,13 @@ current_words_suite() {
         "$four" "$amperes"
     turned_down 4 "$order" 128 0 "Here the file has the end, where the connections should be: in mode 4 a $anew" \
         "$four" "$(end 0)"
-    turned_down 4 "$order" 137 0 'Here the file has the connections, where an inverter, a step or the end should be: *' \
+    turned_down 4 "$order" 137 0 'Here the file has the connections, where an inverter, the function, a step or the *' \
         "$four" "$(joined 230 1 3)" "$(joined 230 1 3)"
     turned_down 4 "$order" 164 1 'Here the file has the connections, where a step or the end should be: connections, *' \
         "$four" "$(joined 230 1 3)" "$amperes" "$(joined 230 1 3)"
     turned_down 4 "$order" 9 0 'Here the file has the connections, where the 1st unit should be: *' \
         "$fleet_2" "$(joined 230 1 3)"
-    turned_down 4 "$order" 128 0 'Here the file has the settings, where the connections, an inverter, a step or the *' \
+    turned_down 4 "$order" 128 0 'Here the file has the settings, where the connections, an inverter, the function, *' \
         "$one" "$(settings 1 0 0)"
     turned_down 3 'wrong length' 128 0 'The length of the connections is 3, and for the units of this fleet it is 6, *' \
         "$four" "$(joined 230 1)"

@@ -66,7 +66,9 @@ feed_suite() {
 1 units, steps of 60 s, mode 1 (PeakShave), target 0 W, band 0 W, factor 1000
  unit  request_W  out_kW  in_kW  out_J  out_kWh      in_J  in_kWh    loss_J  loss_kWh   low_J  at_step  not_met
     0          0   0.000  0.012      0    0.000  47185200  13.107  47185200    13.107  500000        0        0
-fleet          0   0.000  0.012      0    0.000  47185200  13.107  47185200    13.107  500000        0        0" '' \
+fleet          0   0.000  0.012      0    0.000  47185200  13.107  47185200    13.107  500000        0        0
+
+$no_vars" '' \
         summary "$work/long" "$work/long.result"
     call settle "$work/long" 6000
     good like "$status|$error|$output" "0||$work/long: settled after 1 changing passes"$'\nunit*\n0\t5000\t5000\n*'
@@ -80,22 +82,24 @@ fleet          0   0.000  0.012      0    0.000  47185200  13.107  47185200    1
     good test "$status|$error|$(wc -l <"$work/output")" = "0||$((6 * 65472 + 1))"
     "$import" table examples/roof.stick "$work/roof.result" >"$work/first"
     good cmp <(head -n 577 "$work/output") "$work/first"
-    steps=$(summed_roof 900 <"$work/output")
+    steps=$(summed_roof 900 <"$work/output" && echo && var_ends <"$work/output")
     call summary "$work/roofs" "$work/roofs.result"
-    good test "$(tail -n 4 "$work/output" | sed 's/^ *//; s/  */ /g')" = "$steps"
+    good test "$(tail -n 12 "$work/output" | sed 's/^ *//; s/  */ /g')" = "$steps"
     good test "$(head -n 2 "$work/output")" = "$work/roofs: complete, 65472 steps
 $(sed -n 2p <<<"$roof_summary")"
 
-    # The longest stick that there is today: 64 units with limits, and 64 inverters.
+    # The longest stick that there is today: 64 units with limits and connections, 64 inverters, and a function.
     {
         bytes 01 0006 02 40 0000003C
         repeated "$(unit_v 0 0 1000 1000)" 64
-        bytes "$(settings 1 0 0)"
+        bytes "$(settings 1 0 0)" 0A 00C0
+        repeated '01 00E6' 64
         repeated "$(inverter 10000 100 5000) $(level 10000) $(level 9500)" 64
-        repeated "$row" 65535
+        bytes "$(function_of 1) $volt_var"
+        repeated "${row/04 0018/$(voltage 9500) 04 0018}" 65535
         bytes "$(end 65535)"
     } >"$work/longest"
-    good test "$(wc -c <"$work/longest")" = 3036785
+    good test "$(wc -c <"$work/longest")" = 3364791
     check 0 "$work/longest: complete, 65535 steps$(too_long "$work/longest")" '' check "$work/longest"
     call settle "$work/longest" 6000 1
     good like "$status|$error|$output" '0||*: not settled within 1 passes*'

@@ -68,26 +68,40 @@ limits_suite() {
 fleet       1000   0.800  0.000  96000    0.027     0   0.000       0     0.000  3504000        1        2
 
 $var_heading
-   0  1000          700          600         300      600       0" '' summary "$work/provide" "$work/provide.result"
+   0  1000          700          600         300      600       0
+
+unit  high_var  at_step  low_var  at_step
+   0       600        0      600        0" '' summary "$work/provide" "$work/provide.result"
     local narrow='unit S_VA request_var provide_var absorb_var out_var in_var'
+    local ends='unit high_var at_step low_var at_step'
     summed_up absorb "0 1000 0.953 0.000 114360 0.032 0 0.000 0 0.000 3485640 1 2
 fleet 1000 0.953 0.000 114360 0.032 0 0.000 0 0.000 3485640 1 2
 
 $narrow
-0 1000 -700 600 300 0 300"
+0 1000 -700 600 300 0 300
+
+$ends
+0 -300 0 -300 0"
     summed_up two "0 500 0.500 0.000 60000 0.017 0 0.000 0 0.000 3540000 1 0
 1 500 0.500 0.000 60000 0.017 0 0.000 0 0.000 3540000 1 0
 fleet 1000 1.000 0.000 120000 0.033 0 0.000 0 0.000 7080000 1 0
 
 $narrow
 0 1000 -700 600 300 0 300
-1 1000 700 0 1000 0 0"
+1 1000 700 0 1000 0 0
+
+$ends
+0 -300 0 -300 0
+1 0 0 0 0"
     summed_up limited0 "0 0 0.000 0.000 0 0.000 0 0.000 0 0.000 - - 0
 fleet 0 0.000 0.000 0 0.000 0 0.000 0 0.000 - - 0
 
 $narrow
-0 1000 0 1000 0 0 0"
-    # The inverters' lines come last.
+0 1000 0 1000 0 0 0
+
+$ends
+0 - - - -"
+    # The inverters' lines come behind those of the units.
     call summary "$work/limited_roof" "$work/limited_roof.result"
     good test "$status|$error|$(sed -n '2p; 6,$p' "$work/output")" = "0||1 units, 1 inverters, steps of 60 s, mode 1 \
 (PeakShave), target 0 W, band 0 W, factor 1000
@@ -97,15 +111,23 @@ $var_heading
 
 inverter  out_kW  at_step   out_J  out_kWh  on_s   on_h  unused_J  unused_kWh
        0   5.000        0  300000    0.083    60  0.017    300000       0.083
-    roof   5.000        0  300000    0.083    60  0.017    300000       0.083"
+    roof   5.000        0  300000    0.083    60  0.017    300000       0.083
+
+      unit  high_var  at_step  low_var  at_step
+         0       600        0      600        0
+inverter 0         0        1    -3000        0"
 
     # Limits of S change nothing, and edition 1 has none to show.
     good cmp "$work/giving.result" "$work/giving2.result"
     check 0 "$giving_table" '' table "$work/giving2" "$work/giving2.result"
-    summed_up giving2 "$("$import" summary "$work/giving" "$work/giving.result" | tail -n +4 | sed 's/^ *//; s/  */ /g')
+    summed_up giving2 "$("$import" summary "$work/giving" "$work/giving.result" | sed -n '4,5p' |
+        sed 's/^ *//; s/  */ /g')
 
 $narrow
-0 5000 0 5000 5000 0 0"
+0 5000 0 5000 5000 0 0
+
+$ends
+0 0 0 0 0"
     # The study is about watts alone.
     check 0 "$work/two: settled after 1 changing passes
 unit	request W	rating W

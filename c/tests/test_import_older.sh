@@ -42,6 +42,7 @@ another_edition() {
 
 older_suite() {
     local name steps narrow='unit S_VA request_var provide_var absorb_var out_var in_var'
+    local ends='unit high_var at_step low_var at_step'
     older_sticks
     while read -r name steps; do
         check 0 "$work/$name: complete, $steps steps" '' check "$work/$name"
@@ -80,26 +81,38 @@ older_suite() {
 fleet        900   0.890  0.010  53400    0.015  1020   0.000   22920     0.006  100074        1        2
 
 $var_heading
-   0  5000            0         5000        5000        0       0" '' \
+   0  5000            0         5000        5000        0       0
+
+$no_vars" '' \
         summary "$work/older_giving" "$work/older_giving.result"
     summed_up older_taking "0 -1000 0.000 1.010 0 0.000 61920 0.017 18672 0.005 999952 0 2
 fleet -1000 0.000 1.010 0 0.000 61920 0.017 18672 0.005 999952 0 2
 
 $narrow
-0 5000 0 5000 5000 0 0"
+0 5000 0 5000 5000 0 0
+
+$ends
+0 0 0 0 0"
     summed_up older_two "0 500 0.490 0.000 58800 0.016 0 0.000 24600 0.007 516600 1 0
 1 500 0.000 1.500 0 0.000 180000 0.050 240000 0.067 3540000 1 0
 fleet 1000 0.000 1.010 58800 0.016 180000 0.050 264600 0.074 4056600 1 0
 
 $narrow
 0 5000 0 5000 5000 0 0
-1 1000 700 600 300 600 0"
+1 1000 700 600 300 600 0
+
+$ends
+0 0 0 0 0
+1 600 0 600 0"
     local sums='-100000000 0.000 110000.000 0 0.000 13200000000 3666.667 1200000000 333.333 6000000000 0 0'
     summed_up older_largest "0 $sums
 fleet $sums
 
 $narrow
-0 100000000 0 100000000 100000000 0 0"
+0 100000000 0 100000000 100000000 0 0
+
+$ends
+0 0 0 0 0"
     call summary "$work/older0" "$work/older0.result"
     good like "$status $output" "0 *factor 1000, $older_words"$'\n*'
     call summary "$work/older_roof" "$work/older_roof.result"

@@ -63,7 +63,7 @@ rescue_examples_suite() {
         # shellcheck disable=SC2086 # the names are words
         check 2 '' "$needs"$'\n'"$usage" rescue $name
     done
-    for name in 'season 336' 'harvest 336' 'roof 96' 'mill 96' 'vineyard 96' 'rescued-three-faults 83'; do
+    for name in 'season 336' 'harvest 336' 'roof 96' 'mill 96' 'vineyard 96' 'voltage 48' 'rescued-three-faults 83'; do
         unchanged "examples/${name% *}.stick" "${name#* }"
     done
 
@@ -100,11 +100,11 @@ were left out from there on"
     good cmp examples/season.stick "$work/out/result"
     for name in 03-unit-without-var-limits 03-wrong-length 04-curve-missing 04-inverter-too-many 04-out-of-order \
         05-curve-out-of-order 05-cut-out-above-cut-in 05-unknown-edition 05-value-out-of-range \
-        05-var-limit-beyond-kva; do
+        05-var-limit-beyond-kva 05-volt-var-order; do
         not_rescued "examples/refused-$name.stick"
     done
-    # None was left out above.
-    good test "$(find examples -name 'refused-*' | wc -l)" = 24
+    # None was left out here and in the parts about currents and voltages.
+    good test "$(find examples -name 'refused-*' | wc -l)" = 27
 }
 
 # A stick of one unit, without a roof, of five steps, whose fields are at 76 (weather), 95, 122, 125, 152 (weather),

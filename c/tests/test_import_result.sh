@@ -74,6 +74,25 @@ summed() {
         END { close_step(); for (u = 0; u < units; u++) line(u); line("fleet") }'
 }
 
+# var_ends <TABLE: the same of the last lines, those of the largest and the smallest vars.
+var_ends() {
+    awk -F '\t' '
+        NR == 1 { next }
+        !($2 in high) { name[n++] = $2; high[$2] = low[$2] = $5; high_at[$2] = low_at[$2] = $1 }
+        $5 + 0 > high[$2] + 0 { high[$2] = $5; high_at[$2] = $1 }
+        $5 + 0 < low[$2] + 0 { low[$2] = $5; low_at[$2] = $1 }
+        END {
+            print "unit high_var at_step low_var at_step"
+            for (i = 0; i < n; i++) print name[i], high[name[i]], high_at[name[i]], low[name[i]], low_at[name[i]]
+        }'
+}
+
+# The last lines of a stick of one unit that gives no vars, and of one without steps.
+no_vars='unit  high_var  at_step  low_var  at_step
+   0         0        0        0        0'
+never_vars='unit  high_var  at_step  low_var  at_step
+   0         -        -        -        -'
+
 result_suite() {
     local stick=examples/season.stick name
     for name in table summary; do
@@ -91,19 +110,25 @@ result_suite() {
 1 units, steps of 60 s, mode 1 (PeakShave), target 0 W, band 0 W, factor 1000
  unit  request_W  out_kW  in_kW  out_J  out_kWh  in_J  in_kWh  loss_J  loss_kWh  low_J  at_step  not_met
     0          0   0.000  0.000      0    0.000     0   0.000       0     0.000      -        -        0
-fleet          0   0.000  0.000      0    0.000     0   0.000       0     0.000      -        -        0" '' \
+fleet          0   0.000  0.000      0    0.000     0   0.000       0     0.000      -        -        0
+
+$never_vars" '' \
         summary "$work/none" "$work/none.result"
     check 0 "$work/giving: complete, 3 steps
 1 units, steps of 60 s, mode 1 (PeakShave), target 0 W, band 0 W, factor 1000
  unit  request_W  out_kW  in_kW   out_J  out_kWh  in_J  in_kWh  loss_J  loss_kWh   low_J  at_step  not_met
     0        900   0.900  0.012  107940    0.030   720   0.000   44205     0.012  100074        1        2
-fleet        900   0.900  0.012  107940    0.030   720   0.000   44205     0.012  100074        1        2" '' \
+fleet        900   0.900  0.012  107940    0.030   720   0.000   44205     0.012  100074        1        2
+
+$no_vars" '' \
         summary "$work/giving" "$work/giving.result"
     check 0 "$work/taking: complete, 3 steps
 1 units, steps of 60 s, mode 3 (PeakShaveLow), target 0 W, band 0 W, factor 1000
  unit  request_W  out_kW  in_kW  out_J  out_kWh    in_J  in_kWh  loss_J  loss_kWh   low_J  at_step  not_met
     0      -1000   0.000  1.000      0    0.000  120660   0.034   35268     0.010  957281        0        2
-fleet      -1000   0.000  1.000      0    0.000  120660   0.034   35268     0.010  957281        0        2" '' \
+fleet      -1000   0.000  1.000      0    0.000  120660   0.034   35268     0.010  957281        0        2
+
+$no_vars" '' \
         summary "$work/taking" "$work/taking.result"
 
     # The season, beside what other means make of it, and as a planner sees it.
@@ -111,7 +136,9 @@ fleet      -1000   0.000  1.000      0    0.000  120660   0.034   35268     0.01
     good test "$status|$error|$(wc -l <"$work/output")" = "0||$((1 + 3 * 336))"
     good test "$output" = "$(decoded "$work/season.result")"
     local expected
-    expected=$(printf '%s\n' "$output" | summed 3600)
+    expected=$(printf '%s\n' "$output" | summed 3600
+        echo
+        printf '%s\n' "$output" | var_ends)
     call summary "$stick" "$work/season.result"
     good test "$(tail -n +4 "$work/output" | sed 's/^ *//; s/  */ /g')" = "$expected"
     check 0 "$season_summary" '' summary "$stick" "$work/season.result"
@@ -123,7 +150,12 @@ season_summary='examples/season.stick: complete, 336 steps
     0     100000  75.986  0.363  426600000  118.500  436471200  121.242  477863622   132.740   72007578        6      196
     1      50000  21.257  0.209  112917600   31.366  251301600   69.806  264380191    73.439   54003809        6      196
     2      15000  10.628  0.096   69433200   19.287  115430400   32.064  126993288    35.276    9003912        6      167
-fleet     165000  94.754  0.668  608950800  169.153  803203200  223.112  869237101   241.455  135015299        6      196'
+fleet     165000  94.754  0.668  608950800  169.153  803203200  223.112  869237101   241.455  135015299        6      196
+
+unit  high_var  at_step  low_var  at_step
+   0     20000        0    20000        0
+   1     -8000        0    -8000        0
+   2         0        0        0        0'
 
 # not_shown FILE RESULT WHY: both commands say what is wrong with the result, and show nothing of it.
 not_shown() {
@@ -240,10 +272,11 @@ largest_suite() {
     check 0 "$work/largest: complete, 65535 steps" '' run "$work/largest" "$work/largest.result"
     good test "$(wc -c <"$work/largest.result")" = $((40 * 64 * 65535 + 7))
     call summary "$work/largest" "$work/largest.result"
-    good test "$status|$error|$(wc -l <"$work/output")" = '0||68'
-    good test "$(sed -n '4p;$p' "$work/output" | sed 's/^ *//; s/  */ /g')" = "0 0 0.000 100000.000 0 0.000 \
+    good test "$status|$error|$(wc -l <"$work/output")" = '0||134'
+    good test "$(sed -n '4p;68p;$p' "$work/output" | sed 's/^ *//; s/  */ /g')" = "0 0 0.000 100000.000 0 0.000 \
 566222400000000000 157284000000.000 566222400000000000 157284000000.000 10000000000000 0 0
 fleet 0 0.000 6400000.000 0 0.000 36238233600000000000 10066176000000.000 36238233600000000000 10066176000000.000 \
-640000000000000 0 0"
+640000000000000 0 0
+63 0 0 0 0"
     rm "$work/largest" "$work/largest.result"
 }

@@ -48,7 +48,15 @@ inverter   out_kW  at_step       out_J  out_kWh   on_s    on_h   unused_J  unuse
        0   49.457       52  1159412400  322.059  47700  13.250   65435400      18.177
        1   63.000       42  1692311400  470.087  48600  13.500  140299200      38.972
        2   14.000       42   419583600  116.551  67500  18.750   91172700      25.326
-    roof  126.457       52  3271307400  908.697  68400  19.000  296907300      82.474'
+    roof  126.457       52  3271307400  908.697  68400  19.000  296907300      82.474
+
+      unit  high_var  at_step  low_var  at_step
+         0         0        0        0        0
+         1      9000        0        0       44
+         2         0        0        0        0
+inverter 0         0        0        0        0
+inverter 1         0        0   -12000       20
+inverter 2     10500       21        0        0'
 
 # summed_roof SECONDS <TABLE: the inverters' lines of a summary, made of a table by other means, with one blank between
 # the columns.
@@ -101,7 +109,11 @@ $sunny_fleet
 
 inverter  out_kW  at_step   out_J  out_kWh  on_s   on_h  unused_J  unused_kWh
        0   5.000        1  303420    0.084   120  0.033    303780       0.084
-    roof   5.000        1  303420    0.084   120  0.033    303780       0.084" '' \
+    roof   5.000        1  303420    0.084   120  0.033    303780       0.084
+
+      unit  high_var  at_step  low_var  at_step
+         0         0        0        0        0
+inverter 0         0        0    -3000        1" '' \
         summary "$work/sunny" "$work/sunny.result"
     check 0 "$work/sunny2: complete, 4 steps
 1 units, 2 inverters, steps of 60 s, mode 1 (PeakShave), target 0 W, band 0 W, factor 1000
@@ -110,7 +122,12 @@ $sunny_fleet
 inverter  out_kW  at_step   out_J  out_kWh  on_s   on_h  unused_J  unused_kWh
        0   5.000        1  303420    0.084   120  0.033    303780       0.084
        1   0.000        -       0    0.000     0  0.000     60720       0.017
-    roof   5.000        1  303420    0.084   120  0.033    364500       0.101" '' \
+    roof   5.000        1  303420    0.084   120  0.033    364500       0.101
+
+      unit  high_var  at_step  low_var  at_step
+         0         0        0        0        0
+inverter 0         0        0    -3000        1
+inverter 1         0        0        0        0" '' \
         summary "$work/sunny2" "$work/sunny2.result"
     check 0 "$work/sunny0: complete, 0 steps
 1 units, 1 inverters, steps of 60 s, mode 1 (PeakShave), target 0 W, band 0 W, factor 1000
@@ -120,13 +137,17 @@ fleet          0   0.000  0.000      0    0.000     0   0.000       0     0.000 
 
 inverter  out_kW  at_step  out_J  out_kWh  on_s   on_h  unused_J  unused_kWh
        0   0.000        -      0    0.000     0  0.000         0       0.000
-    roof   0.000        -      0    0.000     0  0.000         0       0.000" '' \
+    roof   0.000        -      0    0.000     0  0.000         0       0.000
+
+      unit  high_var  at_step  low_var  at_step
+         0         -        -        -        -
+inverter 0         -        -        -        -" '' \
         summary "$work/sunny0" "$work/sunny0.result"
 
     # Kilowatt-hours and hours are the nearest ones.
     call run "$work/sunny1" "$work/sunny1.result"
     call summary "$work/sunny1" "$work/sunny1.result"
-    good test "$(tail -n 1 "$work/output" | sed 's/^ *//; s/  */ /g')" = \
+    good test "$(grep roof "$work/output" | sed 's/^ *//; s/  */ /g')" = \
         'roof 5.000 0 300000 0.083 60 0.017 300000 0.083'
 
     # The sample, beside what other means make of it, and as a planner sees it.
@@ -145,9 +166,11 @@ inverter  out_kW  at_step  out_J  out_kWh  on_s   on_h  unused_J  unused_kWh
 1 unit'
     expected=$(printf '%s\n' "$output" | grep -v inverter | summed 900
         echo
-        printf '%s\n' "$output" | summed_roof 900)
+        printf '%s\n' "$output" | summed_roof 900
+        echo
+        printf '%s\n' "$output" | var_ends)
     call summary "$stick" "$work/roof.result"
-    good test "$(sed '1,3d; /^inverter /d; s/^ *//; s/  */ /g' "$work/output")" = "$expected"
+    good test "$(sed '1,3d; /^inverter  *out_kW/d; s/^ *//; s/  */ /g' "$work/output")" = "$expected"
     check 0 "$roof_summary" '' summary "$stick" "$work/roof.result"
 
     # A stick without inverters has none of it, with weather or without.
@@ -248,10 +271,11 @@ largest_roof_suite() {
     check 0 "$work/largest: complete, 65535 steps" '' run "$work/largest" "$work/largest.result"
     good test "$(wc -c <"$work/largest.result")" = $(((40 + 29 * 64) * 65535 + 7))
     call summary "$work/largest" "$work/largest.result"
-    good test "$status|$error|$(wc -l <"$work/output")" = '0||72'
-    good test "$(sed -n '8p;$p' "$work/output" | sed 's/^ *//; s/  */ /g')" = "0 100000.000 0 566222400000000000 \
+    good test "$status|$error|$(wc -l <"$work/output")" = '0||139'
+    good test "$(sed -n '8p;72p;$p' "$work/output" | sed 's/^ *//; s/  */ /g')" = "0 100000.000 0 566222400000000000 \
 157284000000.000 5662224000 1572840.000 113243913777600000000000 31456642716000000.000
 roof 6400000.000 0 36238233600000000000 10066176000000.000 5662224000 1572840.000 7247610481766400000000000 \
-2013225133824000000.000"
+2013225133824000000.000
+inverter 63 0 0 0 0"
     rm "$work/largest" "$work/largest.result"
 }

@@ -21,13 +21,15 @@ enum { LIMITS = 8, LIMITED_LEN = FILE_LEN + LIMITS * UNITS };
 enum { CONNECTIONS = 3 + 3 * UNITS, CURRENT_LEN = FILE_LEN + CONNECTIONS };
 enum { BAD_LEN = HEAD + 27 * (YB_MOST_STEPS + 1), KEPT_LEN = HEAD + 3 * YB_MOST_STEPS + 7 };
 enum { ROOF_CUT = ROOF_LEN - 7 - 27, ROOF_KEPT = ROOF_HEAD + (19 + 3) * (STEPS - 1) + 7 };
+enum { LED_HEAD = ROOF_HEAD + 4 + 132, LED_STEP = 19 + 5 + 27, LED_LEN = LED_HEAD + LED_STEP * STEPS + 7 };
+enum { LED_CUT = LED_LEN - 7 - 27, LED_KEPT = LED_HEAD + (19 + 5 + 3) * (STEPS - 1) + 7 };
 enum { RESULT_LEN = 40 * UNITS * STEPS + 7, ROOF_RESULT_LEN = (40 * UNITS + 29 * INVERTERS) * STEPS + 7 };
 
 static uint8_t *stack;
 static ucontext_t home, away;
 
 /* What the calls are about, and the answers that were not as expected. */
-static uint8_t file[TOO_LONG], result[ROOF_RESULT_LEN], state[23421], list[YB_CHANGE_BYTES * (YB_MOST_STEPS + 1)];
+static uint8_t file[TOO_LONG], result[ROOF_RESULT_LEN], state[24071], list[YB_CHANGE_BYTES * (YB_MOST_STEPS + 1)];
 static uint64_t rated[UNITS], reserve[UNITS], stored[UNITS];
 static uint32_t rating[UNITS];
 static uint16_t weight[UNITS];
@@ -240,6 +242,25 @@ static void put_roof_file(uint8_t mode)
     put_end(file + ROOF_LEN - 7);
 }
 
+/* The same with vars that a voltage leads, another in every step. */
+static void put_led_file(uint8_t mode, uint8_t base)
+{
+    static const uint8_t curve[] = {7, 0, 129, 3, 0, 0, 0x23, 0x28, 0, 0, 0x27, 0x10, 0, 0, 0x27, 0x10, 0, 0, 0, 0,
+        0, 0, 0x2A, 0xF8, 0xFF, 0xFF, 0xD8, 0xF0};
+    put_roof_file(mode);
+    put(file + ROOF_HEAD, 0x0B000100 + base, 4);
+    memset(file + ROOF_HEAD + 4, 0, 132);
+    memcpy(file + ROOF_HEAD + 4, curve, sizeof curve);
+    uint8_t *at = file + LED_HEAD;
+    for (unsigned step = 0; step < STEPS; step++, at += LED_STEP) {
+        put_weather(at, step);
+        put(at + 19, 0x0C0002, 3);
+        put(at + 22, step * 7 % 20001, 2);
+        put_reading(at + 24, step);
+    }
+    put_end(at);
+}
+
 static void spoil_reading(uint8_t *field)
 {
     put(field + 3, UINT64_C(0x7FF8000000000000), 8);
@@ -260,6 +281,13 @@ static void put_bad_roof_file(void)
     put_roof_file(1);
     for (unsigned step = 0; step < STEPS; step++)
         spoil_reading(file + ROOF_HEAD + 46 * step + 19);
+}
+
+static void put_bad_led_file(void)
+{
+    put_led_file(1, 1);
+    for (unsigned step = 0; step < STEPS; step++)
+        spoil_reading(file + LED_HEAD + LED_STEP * step + 24);
 }
 
 static void put_fleet(int32_t request)
@@ -502,6 +530,18 @@ static void call_roof_run(void)
     put_file(1);
 }
 
+/* The same led by a voltage, by either base. */
+static void call_led_run(void)
+{
+    for (uint8_t base = 0; base <= 1; base++) {
+        put_led_file(1, base);
+        expect_complete(LED_LEN, ROOF_RESULT_LEN);
+        expect(yb_run(file, LED_LEN, result, ROOF_RESULT_LEN), 0);
+    }
+    expect(yb_run(file, LED_LEN, result, ROOF_RESULT_LEN - 1), 11);
+    put_file(1);
+}
+
 /* Feeds the first bytes of the file in chunks of a length, each in a room one short first; gives the last number. */
 static uint32_t feed_file(size_t len, size_t chunk_len)
 {
@@ -541,6 +581,17 @@ static void call_roof_feed(void)
     expect(feed_file(ROOF_HEAD, 194), 8);
     expect(feed_file(ROOF_LEN - 8, 300000), 1);
     expect(yb_feed_place(state, sizeof state), ROOF_LEN - 34);
+    expect(yb_feed_steps(state, sizeof state), STEPS - 1);
+    put_file(1);
+}
+
+static void call_led_feed(void)
+{
+    put_led_file(1, 1);
+    expect(feed_file(LED_LEN, 65536), 0);
+    expect(feed_file(LED_HEAD, 194), 8);
+    expect(feed_file(LED_LEN - 8, 300000), 1);
+    expect(yb_feed_place(state, sizeof state), LED_LEN - 34);
     expect(yb_feed_steps(state, sizeof state), STEPS - 1);
     put_file(1);
 }
@@ -600,6 +651,20 @@ static void call_roof_rescue(void)
     expect(yb_check(result, ROOF_KEPT), 0);
     expect(yb_rescue(file, ROOF_CUT, result, ROOF_KEPT, list, YB_CHANGE_BYTES * STEPS - 1), 11);
     expect(yb_rescue(file, ROOF_HEAD - 1, result, ROOF_KEPT, list, sizeof list), 1);
+    put_file(1);
+}
+
+/* The same led by a voltage, broken off behind the last one, and cut in the volt-var curve. */
+static void call_led_rescue(void)
+{
+    put_bad_led_file();
+    expect(yb_rescue_room(file, LED_CUT), LED_KEPT);
+    expect(yb_rescue_changes(file, LED_CUT), STEPS);
+    expect(yb_rescue_steps(file, LED_CUT), STEPS - 1);
+    expect(yb_rescue(file, LED_CUT, result, LED_KEPT, list, sizeof list), 0);
+    expect(yb_check(result, LED_KEPT), 0);
+    expect(yb_rescue(file, LED_CUT, result, LED_KEPT - 1, list, sizeof list), 11);
+    expect(yb_rescue(file, LED_HEAD - 1, result, LED_KEPT, list, sizeof list), 1);
     put_file(1);
 }
 
@@ -762,13 +827,16 @@ static const struct {
     {"yb_run in edition 3", call_older_run},
     {"yb_run by current", call_current_run},
     {"yb_run with 64 inverters", call_roof_run},
+    {"yb_run with 64 inverters, led by a voltage", call_led_run},
     {"yb_feed and the calls beside it, in edition 3", call_feed},
     {"yb_feed and the calls beside it, with 64 inverters", call_roof_feed},
+    {"yb_feed and the calls beside it, led by a voltage", call_led_feed},
     {"yb_rescue_room", call_rescue_room},
     {"yb_rescue_changes", call_rescue_changes},
     {"yb_rescue_steps", call_rescue_steps},
     {"yb_rescue", call_rescue},
     {"yb_rescue and the calls beside it, with 64 inverters", call_roof_rescue},
+    {"yb_rescue and the calls beside it, led by a voltage", call_led_rescue},
     {"yb_watts", call_watts},
     {"yb_pass", call_pass},
     {"yb_pass_current", call_pass_current},

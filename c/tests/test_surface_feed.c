@@ -10,9 +10,10 @@
 #include "test_surface.h"
 #include "test_surface_file.h"
 #include "test_surface_roof.h"
+#include "test_surface_voltage.h"
 #include "yesbrulka.h"
 
-enum { STATE = 23421, STAGE = 13, LAST = 7, MOST_RESULT = 400 };
+enum { STATE = 24071, STAGE = 13, LAST = 7, MOST_RESULT = 400 };
 
 /* What *written holds before a call. */
 #define LEFT_ALONE UINT64_C(0x5A5A5A5A5A5A5A5A)
@@ -126,15 +127,20 @@ static struct {
     size_t len, result_len, step;
 } whole;
 
-/* The file of one unit, or the one with an inverter too. */
-static void make_whole(int roof)
+/* The file of one unit, the one with an inverter too, or the one with a function. */
+enum { PLAIN, ROOF, LED, KINDS };
+
+static void make_whole(int kind)
 {
-    whole.len = roof ? ROOF_LEN : sizeof complete;
-    whole.step = roof ? 40 + 29 : 40;
-    if (roof)
+    static const size_t lengths[KINDS] = {sizeof complete, ROOF_LEN, LED_LEN};
+    whole.len = lengths[kind];
+    whole.step = kind == ROOF ? 40 + 29 : 40;
+    if (kind == PLAIN)
+        memcpy(whole.file, complete, sizeof complete);
+    else if (kind == ROOF)
         put_roof(whole.file);
     else
-        memcpy(whole.file, complete, sizeof complete);
+        put_led(whole.file);
     whole.result_len = 4 * whole.step + LAST;
     if (yb_run(whole.file, whole.len, whole.result, sizeof whole.result) != 0)
         give_up("the run of a complete file");
@@ -143,8 +149,8 @@ static void make_whole(int roof)
 /* The steps whose readings are among the first bytes of the file. */
 static uint32_t steps_in(size_t len)
 {
-    static const size_t plain[] = {103, 106, 133, 136}, roof[] = {384, 430, 452, 455};
-    const size_t *behind = whole.len == ROOF_LEN ? roof : plain;
+    static const size_t plain[] = {103, 106, 133, 136}, roof[] = {384, 430, 452, 455}, led[] = {220, 271, 274, 306};
+    const size_t *behind = whole.len == ROOF_LEN ? roof : whole.len == LED_LEN ? led : plain;
     uint32_t steps = 0;
     while (steps < 4 && behind[steps] <= len)
         steps++;
@@ -191,8 +197,8 @@ static void test_start(void)
 
 static void test_cuts(void)
 {
-    for (int roof = 0; roof < 2; roof++) {
-        make_whole(roof);
+    for (int kind = 0; kind < KINDS; kind++) {
+        make_whole(kind);
         for (size_t cut = 0; cut <= whole.len; cut++) {
             start_over((uint8_t)cut);
             feed_part(0, cut);
@@ -238,7 +244,7 @@ static void test_refused(void)
         uint8_t byte;
     } changes[] = {{0, 0x7E}, {2, 5}, {4, 2}, {3, 4}, {53, 0}, {64, 4}, {79, 0x7F}, {106, 0x7E}, {142, 3}};
     uint8_t file[sizeof complete + 1] = {0};
-    make_whole(0);
+    make_whole(PLAIN);
     for (size_t len = 0; len < sizeof complete; len++)
         check_refused(complete, len);
     for (size_t i = 0; i < sizeof changes / sizeof changes[0]; i++) {
@@ -259,8 +265,8 @@ static void test_refused(void)
 /* A room that is too short changes nothing, and the call can be made again. */
 static void test_rooms(void)
 {
-    for (int roof = 0; roof < 2; roof++) {
-        make_whole(roof);
+    for (int kind = 0; kind < KINDS; kind++) {
+        make_whole(kind);
         size_t due = 4 * whole.step;
         start_over(0x11);
         for (size_t room_len = 0; room_len < due; room_len += 7) {
@@ -279,7 +285,7 @@ static void test_rooms(void)
 
 static void test_after_end(void)
 {
-    make_whole(0);
+    make_whole(PLAIN);
     start_over(0);
     feed_part(0, whole.len);
     end_whole();
@@ -301,7 +307,7 @@ static void test_after_end(void)
 static void test_no_state(void)
 {
     static const size_t lengths[] = {0, 1, STATE - 1, STATE + 1};
-    make_whole(1);
+    make_whole(ROOF);
     start_over(0);
     feed_part(0, 400);
     for (size_t i = 0; i < sizeof lengths / sizeof lengths[0]; i++) {
@@ -323,8 +329,11 @@ static void test_no_state(void)
         free(state);
         free(before);
     }
-    /* The number, the place, the steps, the stage, the lengths, the tail, what is not in use, a flag, the site part. */
-    static const size_t changed[] = {0, 1, 9, STAGE, 14, 16, 17, 25, 155, 156, 168, 924, 925, 987, 988, STATE - 1};
+    /* The number, the place, the steps, the stage, the lengths; sun, voltage, tail and its end; a store, a request and
+    ** those of no unit; a flag, and that of no inverter; the vars of the unit, the inverter and neither; the site part.
+    */
+    static const size_t changed[] = {0, 1, 9, STAGE, 14, 16, 17, 25, 26, 27, 220, 221, 229, 233, 988, 989, 990, 1052,
+        1053, 1057, 1061, 1564, 1565, STATE - 1};
     for (size_t i = 0; i < sizeof changed / sizeof changed[0]; i++) {
         kept[changed[i]] ^= 0xB6;
         check_at(0, 0);
@@ -342,7 +351,7 @@ static void test_no_state(void)
 static void test_no_address(void)
 {
     uint64_t written = LEFT_ALONE;
-    make_whole(0);
+    make_whole(PLAIN);
     start_over(0);
     tell("yb_feed, no chunk and no room", yb_feed(kept, STATE, NULL, 0, NULL, 0, &written), 0);
     tell("yb_feed, no chunk and no room, written", written, 0);

@@ -67,20 +67,25 @@ static uint8_t *put_settings(uint8_t *at, const struct settings *settings)
     return put(at, settings->phase, 1);
 }
 
+/* The ranges of a curve's x and y. */
+struct ranges {
+    int64_t least_x, most_x, least_y, most_y;
+};
+
 /* A curve of 2 to 16 points, whose x rise from any that leaves room for the next; the rest of the field is 0. */
-static uint8_t *put_curve(uint8_t *at, int64_t least_x, uint64_t most_y)
+static uint8_t *put_curve(uint8_t *at, struct ranges of)
 {
-    enum { POINTS = 16, MOST_X = 100000000 };
+    enum { POINTS = 16 };
     uint8_t *end = at + 132;
     memset(at, 0, 132);
     at = put(at, 0x070081, 3);
     uint64_t points = draw_between(2, POINTS);
     at = put(at, points, 1);
-    int64_t x = least_x;
+    int64_t x = of.least_x;
     for (uint64_t i = 0; i < points; i++) {
-        x += (int64_t)draw_between(i != 0, (uint64_t)(MOST_X - x) - (points - 1 - i));
+        x += (int64_t)draw_between(i != 0, (uint64_t)(of.most_x - x) - (points - 1 - i));
         at = put(at, (uint32_t)x, 4);
-        at = put(at, draw_between(0, most_y), 4);
+        at = put(at, (uint64_t)of.least_y + draw_between(0, (uint64_t)(of.most_y - of.least_y)), 4);
     }
     return end;
 }
@@ -96,8 +101,14 @@ static uint8_t *put_inverter(uint8_t *at)
     at = put(at, draw_between(0, 10000), 2);
     at = put(at, draw_between(0, 200000000) - 100000000, 4);
     at = put(at, draw(2), 1);
-    at = put_curve(at, -100000000, 20000);
-    return put_curve(at, 0, 10000);
+    at = put_curve(at, (struct ranges){-100000000, 100000000, 0, 20000});
+    return put_curve(at, (struct ranges){0, 100000000, 0, 10000});
+}
+
+static uint8_t *put_function(uint8_t *at)
+{
+    at = put(put(at, 0x0B0001, 3), draw(2), 1);
+    return put_curve(at, (struct ranges){0, 20000, -10000, 10000});
 }
 
 static uint8_t *put_connections(uint8_t *at, const struct file *file)
@@ -140,9 +151,13 @@ void write_file(struct file *file)
         at = put_connections(at, file);
     for (size_t i = 0; i < file->inverters; i++)
         at = put_inverter(at);
+    if (file->is_led)
+        at = put_function(at);
     at = put_reading(at, file->settings.mode);
     if (file->inverters != 0)
         at = put_weather(at);
+    if (file->is_led)
+        at = put(put(at, 0x0C0002, 3), draw_between(0, 20000), 2);
     memcpy(at, complete + 76 + 27, 3);
     at = put(at + 3, 0x7F0004, 3);
     at = put(at, 2, 4);
@@ -175,7 +190,7 @@ void draw_file(struct file *file, size_t units)
     file->edition = 1;
     file->units = units;
     file->inverters = 0;
-    file->is_connected = 0;
+    file->is_led = file->is_connected = 0;
     file->seconds = (uint32_t)draw_between(1, 86400);
     for (size_t i = 0; i < units; i++) {
         file->unit[i] = draw_unit();

@@ -7,8 +7,8 @@
 #include <stddef.h>
 #include <stdint.h>
 
-enum { MOST_UNITS = 64, MOST_INVERTERS = 64, MOST_HEAD = 9 + 63 * MOST_UNITS + 18 + 286 * MOST_INVERTERS };
-enum { MOST_FILE = MOST_HEAD + 27 + 19 + 3 + 7 };
+enum { MOST_UNITS = 64, MOST_INVERTERS = 64, MOST_HEAD = 9 + 63 * MOST_UNITS + 18 + 286 * MOST_INVERTERS + 136 };
+enum { MOST_FILE = MOST_HEAD + 27 + 19 + 5 + 3 + 7 };
 
 /* The values of a unit, its var limits, its connection and the settings, in the order of the calls. */
 struct unit {
@@ -37,12 +37,14 @@ struct settings {
 };
 
 /* What a file says, and its bytes: a head, a reading, a missing one with weather, and the end. Of the inverters, whose
-** values no call tells, there is only the number. The limits do not stand in the bytes of an edition 1 file, and the
-** connections not in those of one that is not connected; one by current, of mode 4 or 5, must be.
+** values no call tells, there is only the number, and of a function only whether there is one; the missing reading then
+** has a voltage too. The limits do not stand in the bytes of an edition 1 file, and the connections not in those of one
+** that is not connected; one by current, of mode 4 or 5, must be.
 */
 struct file {
     uint8_t edition;
     size_t units, inverters;
+    int is_led;
     uint32_t seconds;
     struct unit unit[MOST_UNITS];
     struct limits limits[MOST_UNITS];
@@ -56,11 +58,11 @@ struct file {
 /* Put a number of so many bytes, the highest first. Gives the place behind it. */
 uint8_t *put(uint8_t *at, uint64_t number, int width);
 
-/* Write the bytes that say the rest. The values of the inverters are drawn. */
+/* Write the bytes that say the rest. The values of the inverters and of a function are drawn. */
 void write_file(struct file *file);
 
-/* Draw a complete file of edition 1 of so many units, without inverters and weather, which is complete in every
-** edition. Each value is at its least or its most now and then, and else anything between.
+/* Draw a complete file of edition 1 of so many units, without inverters, weather and function, which is complete in
+** every edition. Each value is at its least or its most now and then, and else anything between.
 */
 void draw_file(struct file *file, size_t units);
 

@@ -7,6 +7,7 @@
 #include "test_surface.h"
 #include "test_surface_file.h"
 #include "test_surface_roof.h"
+#include "test_surface_voltage.h"
 #include "yesbrulka.h"
 
 enum { LAST = 7, MOST_CHANGES = YB_MOST_STEPS + 1 };
@@ -137,12 +138,15 @@ static void check_refused(const uint8_t *file, size_t len, uint32_t number)
 
 static void test_complete(void)
 {
-    uint8_t roof[ROOF_LEN], limited[sizeof complete + MORE];
+    uint8_t roof[ROOF_LEN], led[LED_LEN], limited[sizeof complete + MORE];
     put_roof(roof);
+    put_led(led);
     begin_due();
     check_rescued(complete, sizeof complete, 4);
     begin_due();
     check_rescued(roof, ROOF_LEN, 4);
+    begin_due();
+    check_rescued(led, LED_LEN, 4);
     for (uint8_t edition = 2; edition <= 3; edition++) {
         begin_due();
         check_rescued(limited, put_limited(limited, edition, complete, sizeof complete, 7, 5000), 4);
@@ -162,7 +166,7 @@ static void test_missing(void)
 {
     static const uint8_t bad[][8] = {{0x7F, 0xF8}, {0xFF, 0xF0}, {0x40, 0xF8, 0x6A, 0, 0x20, 0, 0, 0}};
     static const size_t places[] = {76, 106};
-    uint8_t file[sizeof complete], roof[ROOF_LEN];
+    uint8_t file[sizeof complete], roof[ROOF_LEN], led[LED_LEN];
     for (size_t kind = 0; kind < 3; kind++)
         for (size_t phase = 0; phase < 3; phase++)
             for (unsigned which = 1; which <= 3; which++) {
@@ -175,16 +179,24 @@ static void test_missing(void)
                     }
                 check_rescued(file, sizeof file, 4);
             }
-    /* A weather stays with its step. */
+    /* A weather and a voltage stay with their step. */
     put_roof(roof);
     memcpy(roof + 406, bad[0], 8);
     begin_due();
     make_missing(roof, 403);
     check_rescued(roof, ROOF_LEN, 4);
+    put_led(led);
+    memcpy(led + 247, bad[0], 8);
+    memcpy(led + 282, bad[1], 8);
+    begin_due();
+    make_missing(led, 244);
+    make_missing(led, 279);
+    check_rescued(led, LED_LEN, 4);
 }
 
-/* A file of four steps is cut at every byte. What is lost is from the place on where its step begins, its weather with
-** it. Behind the settings a cut leaves a file of no steps; anywhere else before the steps it is refused.
+/* A file of four steps is cut at every byte. What is lost is from the place on where its step begins, its weather and
+** its voltage with it. Behind the settings a cut leaves a file of no steps; anywhere else before the steps it is
+** refused.
 */
 static void check_cuts(const uint8_t *file, size_t file_len, const size_t *begins)
 {
@@ -206,41 +218,53 @@ static void check_cuts(const uint8_t *file, size_t file_len, const size_t *begin
 static void test_cut(void)
 {
     static const size_t begins[] = {76, 103, 106, 133, 136}, roof_begins[] = {362, 384, 430, 452, 455};
-    uint8_t roof[ROOF_LEN];
+    static const size_t led_begins[] = {212, 220, 271, 274, 306};
+    uint8_t roof[ROOF_LEN], led[LED_LEN];
     put_roof(roof);
+    put_led(led);
     check_cuts(complete, sizeof complete, begins);
     check_cuts(roof, ROOF_LEN, roof_begins);
+    check_cuts(led, LED_LEN, led_begins);
+}
+
+/* A byte that is another, and the place and the steps of the end that is put in then. */
+struct ending {
+    size_t at;
+    uint8_t byte;
+    size_t place;
+    uint32_t steps;
+};
+
+static void check_endings(const uint8_t *whole, size_t len, const struct ending *ends, size_t count)
+{
+    uint8_t file[ROOF_LEN];
+    for (size_t i = 0; i < count; i++) {
+        memcpy(file, whole, len);
+        file[ends[i].at] = ends[i].byte;
+        begin_due();
+        end_here(file, len, ends[i].place, ends[i].steps);
+        check_rescued(file, len, ends[i].steps);
+    }
 }
 
 /* One byte is another, from the steps on, and what follows is lost; or before them, and all is. */
 static void test_changed(void)
 {
-    static const struct {
-        size_t at;
-        uint8_t byte;
-        size_t place;
-        uint32_t steps;
-    } ends[] = {{76, 0x7E, 76, 0}, {78, 23, 76, 0}, {76, 0x03, 76, 0}, {103, 0x00, 103, 1}, {105, 1, 103, 1},
-        {106, 0x02, 106, 2}, {133, 0x01, 133, 3}, {136, 0xFF, 136, 4}, {138, 3, 136, 4}, {142, 3, 136, 4},
-        {139, 1, 136, 4}},
+    static const struct ending ends[] = {{76, 0x7E, 76, 0}, {78, 23, 76, 0}, {76, 0x03, 76, 0}, {103, 0x00, 103, 1},
+        {105, 1, 103, 1}, {106, 0x02, 106, 2}, {133, 0x01, 133, 3}, {136, 0xFF, 136, 4}, {138, 3, 136, 4},
+        {142, 3, 136, 4}, {139, 1, 136, 4}},
       roofs[] = {{76, 0x02, 76, 0}, {362, 0x7E, 362, 0}, {365, 0xBF, 362, 0}, {373, 0x7F, 362, 0}, {381, 0x7E, 362, 0},
         {384, 0x06, 384, 1}, {387, 0x7F, 384, 1}, {403, 0x08, 384, 1}, {405, 23, 384, 1}, {449, 0x7F, 430, 2},
-        {452, 0x07, 452, 3}, {461, 5, 455, 4}};
-    uint8_t file[ROOF_LEN];
-    for (size_t i = 0; i < sizeof ends / sizeof ends[0]; i++) {
-        memcpy(file, complete, sizeof complete);
-        file[ends[i].at] = ends[i].byte;
-        begin_due();
-        end_here(file, sizeof complete, ends[i].place, ends[i].steps);
-        check_rescued(file, sizeof complete, ends[i].steps);
-    }
-    for (size_t i = 0; i < sizeof roofs / sizeof roofs[0]; i++) {
-        put_roof(file);
-        file[roofs[i].at] = roofs[i].byte;
-        begin_due();
-        end_here(file, ROOF_LEN, roofs[i].place, roofs[i].steps);
-        check_rescued(file, ROOF_LEN, roofs[i].steps);
-    }
+        {452, 0x07, 452, 3}, {461, 5, 455, 4}},
+      leds[] = {{76, 0x7E, 76, 0}, {212, 0x7E, 212, 0}, {212, 0x05, 212, 0}, {215, 0xFF, 212, 0}, {217, 0x7E, 212, 0},
+        {220, 0x0B, 220, 1}, {223, 0xBF, 220, 1}, {239, 0x7E, 220, 1}, {242, 0xFF, 220, 1}, {244, 0x09, 220, 1},
+        {246, 23, 220, 1}, {271, 0x0B, 271, 2}, {274, 0x08, 274, 3}, {279, 0x05, 274, 3}, {312, 3, 306, 4}};
+    uint8_t roof[ROOF_LEN], led[LED_LEN];
+    put_roof(roof);
+    put_led(led);
+    check_endings(complete, sizeof complete, ends, sizeof ends / sizeof ends[0]);
+    check_endings(roof, ROOF_LEN, roofs, sizeof roofs / sizeof roofs[0]);
+    check_endings(led, LED_LEN, leds, sizeof leds / sizeof leds[0]);
 }
 
 static void test_refused(void)
@@ -252,13 +276,21 @@ static void test_refused(void)
         uint32_t number;
     } changes[] = {{0, 0x7E, 2}, {0, 0x04, 3}, {2, 5, 3}, {3, 4, 5}, {4, 0, 5}, {4, 2, 4}, {9, 0x05, 3}, {11, 57, 3},
         {53, 0, 5}, {61, 0x7F, 3}, {64, 9, 5}, {78, 18, 3}, {90, 101, 5}, {98, 0x06, 3}, {98, 0x08, 3},
-        {101, 1, 5}, {230, 0x7E, 2}, {233, 17, 5}, {362, 0x06, 3}, {362, 0x07, 3}};
+        {101, 1, 5}, {230, 0x7E, 2}, {233, 17, 5}, {362, 0x06, 3}, {362, 0x07, 3}},
+      leds[] = {{77, 1, 3}, {78, 2, 3}, {79, 2, 5}, {80, 0x7E, 2}, {80, 0x05, 3}, {83, 1, 5}, {115, 0xEF, 5},
+        {212, 0x06, 3}, {212, 0x07, 3}, {212, 0x0A, 3}, {212, 0x0B, 3}};
     uint8_t file[ROOF_LEN];
     for (size_t i = 0; i < sizeof changes / sizeof changes[0]; i++) {
         put_roof(file);
         file[changes[i].at] = changes[i].byte;
         tell("yb_check", ROOF_LEN, yb_check(file, ROOF_LEN), changes[i].number);
         check_refused(file, ROOF_LEN, changes[i].number);
+    }
+    for (size_t i = 0; i < sizeof leds / sizeof leds[0]; i++) {
+        put_led(file);
+        file[leds[i].at] = leds[i].byte;
+        tell("yb_check", LED_LEN, yb_check(file, LED_LEN), leds[i].number);
+        check_refused(file, LED_LEN, leds[i].number);
     }
     check_refused(NULL, 0, 8);
     /* As the fleet counts two units, the settings come too early. */

@@ -292,6 +292,30 @@ static void test_told_roof(void)
     free(bytes);
 }
 
+/* A function, with inverters and without, in every mode, changes nothing of what is told. */
+static void test_told_led(void)
+{
+    struct file file;
+    for (uint8_t mode = 1; mode <= 5; mode++)
+        for (size_t units = 1; units <= 64; units += units < 3 || units > 61 ? 1 : 29)
+            for (size_t inverters = 0; inverters <= 64; inverters += 32) {
+                draw_file(&file, units);
+                file.inverters = inverters;
+                file.is_led = 1;
+                connect_file(&file, mode);
+                check_editions(&file);
+            }
+    /* Cut at every byte; and without the function its voltage is out of order. */
+    draw_file(&file, 1);
+    file.is_led = 1;
+    write_file(&file);
+    cut_told(&file);
+    enum { FUNCTION = 76, BYTES = 136, FIRST_STEP = 27 };
+    memmove(file.bytes + FUNCTION, file.bytes + FUNCTION + BYTES, file.len - FUNCTION - BYTES);
+    check_file(file.bytes, file.len - BYTES, 4, FUNCTION + FIRST_STEP, 1);
+    refused_told(file.bytes, file.len - BYTES, 4);
+}
+
 /* Every value at its least and at its most. */
 static void test_told_limits(void)
 {
@@ -396,6 +420,7 @@ const struct test told_tests[] = {
     {"yb_units, yb_seconds, yb_settings, yb_unit, yb_var_limits: values at their limits", test_told_limits},
     {"yb_inverters, yb_units, yb_seconds, yb_settings, yb_unit, yb_var_limits: files with inverters", test_told_roof},
     {"yb_connection, yb_units, yb_seconds, yb_settings, yb_unit, yb_var_limits: connections", test_told_connected},
+    {"yb_inverters, yb_units, yb_seconds, yb_settings, yb_unit, yb_var_limits: files with a function", test_told_led},
     {"yb_units, yb_seconds, yb_settings, yb_unit, yb_var_limits: no steps, and all that there can be", test_told_steps},
     {"yb_units, yb_seconds, yb_settings, yb_unit, yb_var_limits: files cut at every byte", test_told_cut},
     {"yb_units, yb_seconds, yb_settings, yb_unit, yb_var_limits: refused files", test_told_refused},

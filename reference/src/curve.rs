@@ -2,7 +2,7 @@
 
 use std::ops::RangeInclusive;
 
-use crate::ranges::{EFF_X, EFF_Y, POINTS, WARM_X, WARM_Y};
+use crate::ranges::{EFF_X, EFF_Y, POINTS, VOLT_VAR_X, VOLT_VAR_Y, WARM_X, WARM_Y};
 
 /// A curve as two lists, an x and a y for each point. Nothing says that they are of equal length; who reads the
 /// curve does.
@@ -24,6 +24,9 @@ pub const WARM: Kind = Kind { x: WARM_X, y: WARM_Y };
 
 /// From DC power per kVA to the efficiency.
 pub const EFF: Kind = Kind { x: EFF_X, y: EFF_Y };
+
+/// From the voltage to the vars.
+pub const VOLT_VAR: Kind = Kind { x: VOLT_VAR_X, y: VOLT_VAR_Y };
 
 impl Curve {
     /// The curve through these points.

@@ -19,6 +19,7 @@ pub mod site;
 pub mod solar;
 pub mod stick;
 pub mod storage;
+pub mod volt_var;
 pub mod whole;
 
 /// Only one or two bytes left for a field's tag and length, or a value that runs past the end.

@@ -117,6 +117,18 @@ pub const IRRADIANCE: RangeInclusive<i32> = 0..=100_000_000;
 /// Thousandths of °C, after the conversion.
 pub const TEMPERATURE: RangeInclusive<i32> = -100_000_000..=100_000_000;
 
+/// A volt-var curve's x, in ten-thousandths of per-unit voltage.
+pub const VOLT_VAR_X: RangeInclusive<i32> = 0..=20_000;
+
+/// A volt-var curve's y, in parts in 10,000 of the base.
+pub const VOLT_VAR_Y: RangeInclusive<i32> = -10_000..=10_000;
+
+/// The base of a function: 0 S, 1 what the circle leaves after the watts.
+pub const BASE: RangeInclusive<u8> = 0..=1;
+
+/// The voltage of a step, in ten-thousandths of per unit.
+pub const VOLTAGE: RangeInclusive<u16> = 0..=20_000;
+
 /// A unit's three energies: the rated energy in its range, and reserve and stored from 0 to it.
 pub fn energies_fit(rated: u64, reserve: u64, stored: u64) -> bool {
     RATED.contains(&rated) && reserve <= rated && stored <= rated

@@ -11,6 +11,7 @@ pub mod roofs;
 pub mod seasons;
 pub mod sticks;
 pub mod units;
+pub mod voltages;
 pub mod wrecks;
 
 /// The splitmix64 generator: the same numbers from the same seed on every machine.

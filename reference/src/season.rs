@@ -7,6 +7,7 @@ use crate::site::Site;
 use crate::solar::{Produced, Sun, DARK};
 use crate::stick::{self, Answer, Run};
 use crate::storage::{self, Stepped, Unit};
+use crate::volt_var::{InverterStep, UnitStep};
 use crate::ROOM_TOO_SHORT;
 
 pub const RECORD: u8 = 0x11;
@@ -27,6 +28,8 @@ pub struct Record {
     pub unit: u8,
     /// As the controller left it, also where it is beyond what the unit can do.
     pub request: i32,
+    /// The vars that were requested, also where they are beyond what the unit can do; no part of the result.
+    pub vars_asked: i32,
     pub stepped: Stepped,
 }
 
@@ -37,6 +40,8 @@ pub struct SolarRecord {
     pub step: u32,
     /// From 0.
     pub inverter: u8,
+    /// The vars that were requested, also of an inverter that is off; no part of the result.
+    pub vars_asked: i32,
     pub produced: Produced,
 }
 
@@ -49,33 +54,47 @@ pub struct Step {
     pub solar: Vec<SolarRecord>,
 }
 
-/// What stands between two steps: of each unit its store and its request, and of each inverter whether it is on.
+/// What stands between two steps: of each unit its store, its request and the vars last requested; and of each inverter
+/// whether it is on, and the vars last requested. Without a function these are the own var requests, and are not used.
 #[derive(Clone, Debug, PartialEq, Eq)]
 pub struct Standing {
     pub stored: Vec<u64>,
     pub requests: Vec<i32>,
+    pub unit_vars: Vec<i32>,
     pub on: Vec<bool>,
+    pub inverter_vars: Vec<i32>,
 }
 
 impl Standing {
-    /// Before the first step: the stores of the units' fields, requests of zero, and inverters that are off.
+    /// Before the first step: the stores of the units' fields, requests of zero, inverters that are off, and the var
+    /// requests of the fields.
     pub fn at_first(site: &Site) -> Standing {
         Standing {
             stored: site.units.iter().map(|unit| unit.stored).collect(),
             requests: vec![0; site.units.len()],
+            unit_vars: site.units.iter().map(|unit| unit.var_request).collect(),
             on: vec![false; site.inverters.len()],
+            inverter_vars: site.inverters.iter().map(|inverter| inverter.var_request).collect(),
         }
     }
 }
 
+/// What a step has beside its reading: its sun, and its voltage where there is one.
+#[derive(Clone, Copy, Debug, PartialEq, Eq)]
+pub struct Around {
+    pub sun: Sun,
+    pub voltage: Option<u16>,
+}
+
 /// One step of a site from what stands, which becomes what stands after it: the reading is one pass, or none where it is
-/// missing; then comes one step of every unit, and then one of every inverter in the step's sun.
+/// missing; then comes one step of every unit, and then one of every inverter in the step's sun. A function leads the
+/// vars of both.
 ///
 /// # Panics
 ///
 /// If a value is outside its range, which no accepted file's is.
-pub fn step(site: &Site, standing: &mut Standing, step: u32, reading: &Reading, sun: Sun) -> Step {
-    let Standing { stored, requests, on } = standing;
+pub fn step(site: &Site, standing: &mut Standing, step: u32, reading: &Reading, around: Around) -> Step {
+    let Standing { stored, requests, .. } = standing;
     let with_store = |(unit, &stored): (&Unit, &u64)| Unit { stored, ..*unit };
     let units: Vec<Unit> = site.units.iter().zip(&*stored).map(with_store).collect();
     let measure = reading.measure(site.phase).expect("an accepted reading converts");
@@ -83,18 +102,58 @@ pub fn step(site: &Site, standing: &mut Standing, step: u32, reading: &Reading, 
         measure.map(|measure| site.pass(measure, &units, requests).expect("an accepted fleet takes a pass"));
     let mut records = Vec::new();
     for (i, unit) in units.iter().enumerate() {
-        let stepped = storage::step_as(site.edition, site.seconds, unit, requests[i])
-            .expect("a pass keeps to the ratings");
-        stored[i] = stepped.stored;
-        records.push(Record { step, unit: i as u8, request: requests[i], stepped });
+        let (stepped, vars_asked) = step_unit(site, standing, i, unit, around.voltage);
+        records.push(Record { step, unit: i as u8, request: standing.requests[i], vars_asked, stepped });
     }
     let mut solar = Vec::new();
-    for (i, inverter) in site.inverters.iter().enumerate() {
-        let produced = inverter.produce(sun, on[i]);
-        on[i] = produced.on;
-        solar.push(SolarRecord { step, inverter: i as u8, produced });
+    for i in 0..site.inverters.len() {
+        let (produced, vars_asked) = step_inverter(site, standing, i, around);
+        solar.push(SolarRecord { step, inverter: i as u8, vars_asked, produced });
     }
     Step { passed, records, solar }
+}
+
+/// The step of the unit of a number, with the store that stands: what it leaves, and the vars requested. Its store and
+/// under a function these vars stand next.
+fn step_unit(
+    site: &Site,
+    standing: &mut Standing,
+    i: usize,
+    unit: &Unit,
+    voltage: Option<u16>,
+) -> (Stepped, i32) {
+    let Site { edition, seconds, .. } = *site;
+    let request = standing.requests[i];
+    let (stepped, vars) = match &site.function {
+        None => {
+            let stepped = storage::step_as(edition, seconds, unit, request);
+            (stepped.expect("a pass keeps to the ratings"), unit.var_request)
+        }
+        Some(function) => {
+            let step = UnitStep { edition, seconds, unit, request };
+            let left = function.step_unit(step, voltage, standing.unit_vars[i]);
+            standing.unit_vars[i] = left.1;
+            left
+        }
+    };
+    standing.stored[i] = stepped.stored;
+    (stepped, vars)
+}
+
+/// The same of an inverter: whether it is on, and under a function the vars requested, stand next.
+fn step_inverter(site: &Site, standing: &mut Standing, i: usize, around: Around) -> (Produced, i32) {
+    let (inverter, on) = (&site.inverters[i], standing.on[i]);
+    let (produced, vars) = match &site.function {
+        None => (inverter.produce(around.sun, on), inverter.var_request),
+        Some(function) => {
+            let step = InverterStep { inverter, sun: around.sun, on };
+            let left = function.step_inverter(step, around.voltage, standing.inverter_vars[i]);
+            standing.inverter_vars[i] = left.1;
+            left
+        }
+    };
+    standing.on[i] = produced.on;
+    (produced, vars)
 }
 
 /// All steps of a run that an accepted file says. Requests start at zero and inverters start off.
@@ -108,7 +167,8 @@ pub fn steps(run: &Run) -> Vec<Step> {
     for (number, reading) in run.readings.iter().enumerate() {
         let weather = run.weather_of(number);
         let sun = weather.map_or(DARK, |weather| weather.converted().expect("an accepted weather converts"));
-        steps.push(step(&run.site, &mut standing, number as u32, reading, sun));
+        let around = Around { sun, voltage: run.voltage_of(number) };
+        steps.push(step(&run.site, &mut standing, number as u32, reading, around));
     }
     steps
 }
@@ -187,13 +247,15 @@ mod tests {
     use super::*;
     use crate::connection::Connection;
     use crate::controller::Settings;
+    use crate::curve::Curve;
     use crate::octets::{f64_at, i32_at, u16_at, u32_at, u64_at, u8_at};
     use crate::reading::Phases;
     use crate::samples::inverters::document_inverter;
     use crate::samples::sticks::{self, whole_case};
     use crate::samples::units::figure_unit;
-    use crate::samples::{currents, limits, older, roofs, seasons, Draw};
-    use crate::solar::{self, Weather};
+    use crate::samples::{currents, limits, older, roofs, seasons, voltages, Draw};
+    use crate::solar::{self, Inverter, Weather};
+    use crate::volt_var::Function;
 
     fn hex(bytes: &[u8]) -> String {
         bytes.iter().map(|byte| format!("{byte:02X}")).collect()
@@ -292,6 +354,7 @@ mod tests {
                 phase: 0,
                 connections: Vec::new(),
                 inverters: Vec::new(),
+                function: None,
             },
             readings: vec![
                 Reading::Missing,
@@ -303,6 +366,7 @@ mod tests {
                 Reading::Missing,
             ],
             weather: Vec::new(),
+            voltages: Vec::new(),
         };
         // The idle draw is 12 W; a request of 400 W falls by what the load is below the target, and to 0.
         let asked = [0, 400, 400, 300, 300, 0, 0];
@@ -324,9 +388,11 @@ mod tests {
                 phase: 1,
                 connections: Vec::new(),
                 inverters: Vec::new(),
+                function: None,
             },
             readings: vec![power(0.9), power(0.0001), power(0.0001), power(1.0)],
             weather: Vec::new(),
+            voltages: Vec::new(),
         };
         // The second step has one joule too few for 900 W and leaves some; the fleet is not yet exhausted.
         assert_eq!(asked_and_given(&run)[..2], [[(900, 900)], [(900, 899)]]);
@@ -353,9 +419,11 @@ mod tests {
                 phase: 5,
                 connections: Vec::new(),
                 inverters: Vec::new(),
+                function: None,
             },
             readings: vec![power(0.0)],
             weather: Vec::new(),
+            voltages: Vec::new(),
         };
         let file = sticks::file(&run);
         let bytes = super::run(&file, 87).unwrap();
@@ -463,7 +531,7 @@ mod tests {
         let mut draw = Draw::from_seed(84);
         let (mut dark, mut held) = (0, 0);
         for round in 0..600 {
-            let run = roofs::run(1, 1 + round % 5, 2 + round % 20, &mut draw);
+            let run = roofs::plain_run(1, 1 + round % 5, 2 + round % 20, &mut draw);
             let mut on = vec![0; run.site.inverters.len()];
             for (k, step) in steps(&run).iter().enumerate() {
                 assert_eq!(step.solar.len(), run.site.inverters.len());
@@ -584,6 +652,133 @@ mod tests {
             }
         }
         assert!(cut > 3_000, "{cut}");
+    }
+
+    /// Vars given and vars requested of the unit and of the inverter, step by step.
+    fn vars(run: &Run) -> Vec<[(i32, i32); 2]> {
+        let file = sticks::file(run);
+        let steps = steps(&stick::read(&file).unwrap());
+        let bytes = super::run(&file, usize::MAX).unwrap();
+        let of = |step: &Step| {
+            let (unit, inverter) = (step.records[0], step.solar[0]);
+            let from = 69 * unit.step as usize;
+            assert_eq!(i32_at(&bytes, from + 20), Some(unit.stepped.vars));
+            assert_eq!(i32_at(&bytes, from + 40 + 17), Some(inverter.produced.vars));
+            [(unit.stepped.vars, unit.vars_asked), (inverter.produced.vars, inverter.vars_asked)]
+        };
+        steps.iter().map(of).collect()
+    }
+
+    /// A unit of 1,000 VA and edition 2 that may provide 600 var, without losses, and document 003's inverter, under a
+    /// function that asks for all of its base below 1 per unit, and for the same to be absorbed above 1.1. In turn: no
+    /// voltage yet; a low one, in the dark; none; 600 W and a high one; 950 W and none; a voltage of 0.
+    fn led(base: u8) -> Run {
+        sticks::with(&whole_case(), |run| {
+            run.site.edition = 2;
+            let unit = Unit { kva: 1_000, idle_loss: 0, var_request: -70, priority: 1, ..run.site.units[0] };
+            run.site.units = vec![Unit { provide: 600, absorb: 1_000, ..unit }];
+            run.site.inverters = vec![Inverter { var_request: 4_000, ..document_inverter() }];
+            let curve = Curve::through(&[(10_000, 10_000), (11_000, -10_000)]);
+            run.site.function = Some(Function { base, curve });
+            let missing = Reading::Missing;
+            run.readings = vec![missing, missing, missing, power(0.6), power(0.35), missing];
+            let noon = Weather { irradiance: 0.6, temperature: 25.0 };
+            run.weather = vec![None, None, Some(noon), Some(noon), None, Some(noon)];
+            run.voltages = vec![None, Some(9_000), None, Some(12_000), None, Some(0)];
+        })
+    }
+
+    /// The inverter's 28,599 W leave 27,965 var of 40,000. Beside 600 W there are 800 var of 1,000, and 312 beside 950.
+    #[test]
+    fn vars_led_by_the_voltage() {
+        assert_eq!(28_599u64.pow(2) + 27_966u64.pow(2), 1_599_999_957);
+        let of_s = vec![
+            [(-70, -70), (0, 4_000)],
+            [(600, 1_000), (0, 40_000)],
+            [(600, 1_000), (27_966, 40_000)],
+            [(-1_000, -1_000), (-27_966, -40_000)],
+            [(-1_000, -1_000), (0, -40_000)],
+            [(600, 1_000), (27_966, 40_000)],
+        ];
+        assert_eq!(vars(&led(0)), of_s);
+        let of_the_leg = vec![
+            [(-70, -70), (0, 4_000)],
+            [(600, 1_000), (0, 40_000)],
+            [(600, 1_000), (27_966, 40_000)],
+            [(-800, -800), (-27_966, -27_966)],
+            [(-312, -800), (0, -27_966)],
+            [(312, 312), (27_966, 27_966)],
+        ];
+        assert_eq!(vars(&led(1)), of_the_leg);
+        // Vars first leave no watts where the base is S; with the leg watts come first in every step.
+        let watts = |base| asked_and_given(&led(base))[3..].iter().map(|step| step[0].1).collect::<Vec<_>>();
+        assert_eq!((watts(0), watts(1)), (vec![0, 0, 800], vec![600, 950, 950]));
+    }
+
+    /// Requests, and where the priority is of watts watts and stores, are those without a function; so are vars before
+    /// the first voltage.
+    #[test]
+    fn a_function_leads_nothing_but_vars() {
+        let mut draw = Draw::from_seed(90);
+        let (mut led, mut own) = (0, 0);
+        for round in 0..600 {
+            let mut run = voltages::run(1 + round % 4, round % 3, 8, &mut draw);
+            run.site.units.iter_mut().for_each(|unit| unit.priority = 0);
+            run.site.inverters.iter_mut().for_each(|inverter| inverter.priority = 0);
+            let plain = steps(&voltages::without(&run));
+            let first = (0..8).find(|&step| run.voltage_of(step).is_some()).unwrap_or(8);
+            for (k, (step, plain)) in steps(&run).iter().zip(&plain).enumerate() {
+                assert_eq!(step.passed, plain.passed);
+                assert!(k >= first || step == plain);
+                own += u32::from(k < first);
+                for (one, other) in step.records.iter().zip(&plain.records) {
+                    assert_eq!((one.request, one.stepped.watts), (other.request, other.stepped.watts));
+                    assert_eq!(
+                        (one.stepped.stored, one.stepped.loss),
+                        (other.stepped.stored, other.stepped.loss)
+                    );
+                    led += u32::from(one.stepped.vars != other.stepped.vars);
+                }
+                for (one, other) in step.solar.iter().zip(&plain.solar) {
+                    assert_eq!(Produced { vars: 0, ..one.produced }, Produced { vars: 0, ..other.produced });
+                    led += u32::from(one.produced.vars != other.produced.vars);
+                }
+            }
+        }
+        assert!(led > 3_000 && own > 500, "{led} {own}");
+    }
+
+    /// Every step of a led run is that of the function alone, from the vars requested before.
+    #[test]
+    fn each_led_step_goes_on_from_the_one_before() {
+        let mut draw = Draw::from_seed(91);
+        let (mut kept, mut off) = (0, 0);
+        for round in 0..400 {
+            let run = voltages::run(1 + round % 4, round % 3, 2 + round % 12, &mut draw);
+            let function = run.site.function.as_ref().unwrap();
+            let Site { edition, seconds, ref units, ref inverters, .. } = run.site;
+            let mut standing = Standing::at_first(&run.site);
+            for (k, step) in steps(&run).iter().enumerate() {
+                let (voltage, weather) = (run.voltage_of(k), run.weather_of(k));
+                let sun = weather.map_or(DARK, |weather| weather.converted().unwrap());
+                for (i, record) in step.records.iter().enumerate() {
+                    let unit = &Unit { stored: standing.stored[i], ..units[i] };
+                    let unit_step = UnitStep { edition, seconds, unit, request: record.request };
+                    let left = function.step_unit(unit_step, voltage, standing.unit_vars[i]);
+                    assert_eq!(left, (record.stepped, record.vars_asked));
+                    kept += u32::from(voltage.is_none() && record.stepped.vars != record.vars_asked);
+                    (standing.stored[i], standing.unit_vars[i]) = (left.0.stored, left.1);
+                }
+                for (i, record) in step.solar.iter().enumerate() {
+                    let inverter_step = InverterStep { inverter: &inverters[i], sun, on: standing.on[i] };
+                    let left = function.step_inverter(inverter_step, voltage, standing.inverter_vars[i]);
+                    assert_eq!(left, (record.produced, record.vars_asked));
+                    off += u32::from(!record.produced.on && record.vars_asked != 0);
+                    (standing.on[i], standing.inverter_vars[i]) = (left.0.on, left.1);
+                }
+            }
+        }
+        assert!(kept > 300 && off > 300, "{kept} {off}");
     }
 
     /// The length, the order of the records of both kinds, and the end.

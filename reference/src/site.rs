@@ -5,6 +5,7 @@ use crate::controller::{self, Fleet, Passed, Settings, Study};
 use crate::solar::Inverter;
 use crate::stick;
 use crate::storage::Unit;
+use crate::volt_var::Function;
 use crate::LISTS_OR_REQUESTS;
 
 /// What an accepted file says before its steps.
@@ -22,6 +23,8 @@ pub struct Site {
     pub connections: Vec<Connection>,
     /// Up to 64 of them; the first has the number 0.
     pub inverters: Vec<Inverter>,
+    /// What leads the vars of all units and inverters, where there is one.
+    pub function: Option<Function>,
 }
 
 impl Site {

@@ -121,19 +121,24 @@ impl Inverter {
 
     /// One step of an inverter whose values are in their ranges.
     pub fn produce(&self, sun: Sun, on: bool) -> Produced {
+        self.produce_asked(sun, on, self.var_request, self.priority)
+    }
+
+    /// The same where so many vars are asked with a priority, whatever its own are.
+    pub fn produce_asked(&self, sun: Sun, on: bool, var_request: i32, priority: u8) -> Produced {
         let dc = self.dc(sun);
         if !self.on_at(dc, on) {
             return Produced { on: false, watts: 0, vars: 0, dc };
         }
-        let v = self.var_request.unsigned_abs().min(self.kva);
+        let v = var_request.unsigned_abs().min(self.kva);
         let mut circle = self.kva;
-        if self.priority == 1 {
+        if priority == 1 {
             circle = circle.min(largest_leg(self.kva, v));
         }
         let size = self.ac(dc).min(self.most_watts()).min(circle.into());
         let size = u32::try_from(size).expect("watts are within S");
         let vars = v.min(largest_leg(self.kva, size)) as i32;
-        Produced { on: true, watts: size as i32, vars: if self.var_request < 0 { -vars } else { vars }, dc }
+        Produced { on: true, watts: size as i32, vars: if var_request < 0 { -vars } else { vars }, dc }
     }
 }
 

@@ -11,16 +11,17 @@ use yesbrulka_reference::reading::Reading;
 use yesbrulka_reference::samples::inverters::document_inverter;
 use yesbrulka_reference::samples::sticks::{self, Field};
 use yesbrulka_reference::samples::{
-    beside, currents, inverters, metered, nans, near_the_end, near_tie, roofs, tie, with_exponent, Draw,
+    beside, currents, inverters, metered, nans, near_the_end, near_tie, roofs, tie, voltages, with_exponent,
+    Draw,
 };
 use yesbrulka_reference::stick::{
-    self, Run, CONNECTIONS, CURRENT, CURVE, END, INVERTER, MISSING, POWER, TAGS, WEATHER,
+    self, Run, CONNECTIONS, CURRENT, CURVE, END, FUNCTION, INVERTER, MISSING, POWER, TAGS, WEATHER,
 };
 
 /// One unit with its connection, an inverter, and a reading that fits the mode and a missing one, of which the first
 /// has a weather.
 fn smallest(mode: u8, draw: &mut Draw) -> Run {
-    let mut run = currents::run_in(&[mode], 1, 1, 0, draw);
+    let mut run = voltages::without(&currents::run_in(&[mode], 1, 1, 0, draw));
     run.readings = vec![currents::fitting_reading(&run.site.settings, draw), Reading::Missing];
     run.weather = vec![Some(inverters::weather(draw))];
     run
@@ -245,9 +246,10 @@ fn fields_with_two_things_wrong() {
                 let bad = files.check_spoiled(&fields[..at], tag, length, &mut draw);
                 let reading = [POWER, MISSING, CURRENT].contains(&tag);
                 let step = reading || tag == WEATHER || tag == END;
+                let site = [INVERTER, FUNCTION].contains(&tag);
                 let allowed = match at {
-                    3 => tag == CONNECTIONS || mode < 4 && (step || tag == INVERTER),
-                    4 | 7 => step || tag == INVERTER,
+                    3 => tag == CONNECTIONS || mode < 4 && (step || site),
+                    4 | 7 => step || site,
                     5 | 6 => tag == CURVE,
                     8 => reading,
                     _ => step,

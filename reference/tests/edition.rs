@@ -12,7 +12,7 @@ use yesbrulka_reference::ranges::MOST_BYTES;
 use yesbrulka_reference::reading::Reading;
 use yesbrulka_reference::samples::inverters::document_inverter;
 use yesbrulka_reference::samples::sticks::{self, Field};
-use yesbrulka_reference::samples::{currents, inverters, limits, older, roofs, seasons, Draw};
+use yesbrulka_reference::samples::{currents, inverters, limits, older, roofs, seasons, voltages, Draw};
 use yesbrulka_reference::season;
 use yesbrulka_reference::stick::{self, Run, FLEET, MISSING, TAGS, UNIT};
 use yesbrulka_reference::storage::Unit;
@@ -491,10 +491,11 @@ fn the_largest_files() {
     let mut draw = Draw::from_seed(940);
     let mut files = checks::Comparison::start();
     for limited in [limits::limited, older::older] {
-        let run = limited(roofs::run(64, 64, 0, &mut draw), &mut draw);
+        let run = voltages::led(roofs::plain_run(64, 64, 0, &mut draw), &mut draw);
+        let run = limited(run, &mut draw);
         let complete = sticks::file(&run);
         let head = &complete[..complete.len() - 7];
-        assert_eq!(head.len(), 24 + 60 * 64 + 286 * 64);
+        assert_eq!(head.len(), 24 + 60 * 64 + 286 * 64 + 136);
         let steps = |count: u32| {
             let end = sticks::bytes(&[sticks::end_field(count)]);
             [head, &[MISSING, 0, 0].repeat(count as usize), &end].concat()

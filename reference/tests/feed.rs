@@ -10,10 +10,10 @@ use frames::Room;
 use host::{refuses_cut_rows, Host};
 use yesbrulka_reference::feed::{
     self, Going, Stage, State, CLOSE, FLAGS, LARGEST_FIELD, LONGEST, MOST_PLACE, MOST_SITE, MOST_TAIL,
-    OF_END, OF_WEATHER, SHORTEST, SITE, SIZE, STAGES, STANDING, TAIL, UNITS,
+    OF_END, OF_VARS, OF_VOLTAGE, OF_WEATHER, SHORTEST, SITE, SIZE, STAGES, STANDING, TAIL, UNITS, VARS,
 };
 use yesbrulka_reference::reading::Reading;
-use yesbrulka_reference::samples::{currents, inverters, older, roofs, seasons, sticks, Draw};
+use yesbrulka_reference::samples::{currents, inverters, older, roofs, seasons, sticks, voltages, Draw};
 use yesbrulka_reference::season::Standing;
 use yesbrulka_reference::solar::{Sun, Weather};
 use yesbrulka_reference::stick::{self, Answer, Run, MISSING};
@@ -29,13 +29,13 @@ fn state_after(bytes: &[u8]) -> Vec<u8> {
 
 /// A run of an edition without inverters, with weather or not.
 fn plain(edition: u8, units: usize, steps: usize, draw: &mut Draw) -> Run {
-    let run = roofs::run(units, 0, steps, draw);
+    let run = roofs::plain_run(units, 0, steps, draw);
     older::in_edition(edition, run, draw)
 }
 
 /// A small file of any edition that is to be refused, or is not for all that was done to it.
 fn damaged(draw: &mut Draw) -> Vec<u8> {
-    match draw.below(9) {
+    match draw.below(11) {
         0 => older::shuffled_file(draw),
         1 => sticks::noise(60, draw),
         2 => {
@@ -58,19 +58,26 @@ fn damaged(draw: &mut Draw) -> Vec<u8> {
         5 => [sticks::file(&sticks::small_run(draw)), vec![draw.any() as u8; 3]].concat(),
         6 => sticks::damaged_file(draw),
         7 => currents::damaged_file(draw),
+        8 => voltages::damaged_file(draw),
+        9 => {
+            // Cut before its end or in it.
+            let file = sticks::file(&voltages::small_run(draw));
+            file[..file.len() - draw.one_of(&[7, 7, 6, 1, 12])].to_vec()
+        }
         _ => older::damaged_file(draw),
     }
 }
 
 /// A file of any kind.
 fn any_file(draw: &mut Draw) -> Vec<u8> {
-    match draw.below(7) {
+    match draw.below(8) {
         0 | 1 => damaged(draw),
         2 => {
             let run = seasons::run(1 + draw.below(3) as usize, draw.below(6) as usize, draw);
             sticks::file(&run)
         }
         3 => sticks::file(&currents::small_run(draw)),
+        4 => sticks::file(&voltages::small_run(draw)),
         _ => sticks::file(&older::small_run(draw)),
     }
 }
@@ -115,7 +122,7 @@ fn every_cut_in_two() {
         let run = roofs::run(2, 2, 3, &mut draw);
         files.push(sticks::file(&older::in_edition(edition, run, &mut draw)));
     }
-    files.extend((0..100).map(|_| damaged(&mut draw)));
+    files.extend((0..110).map(|_| damaged(&mut draw)));
     // One whose end is missing.
     let whole = sticks::file(&plain(2, 1, 3, &mut draw));
     files.push(whole[..whole.len() - 7].to_vec());
@@ -475,8 +482,10 @@ fn what_follows(state: &[u8], file: &[u8], draw: &mut Draw) -> Vec<u8> {
 fn states_with_every_byte_changed() {
     let mut draw = Draw::from_seed(1_112);
     let mut runs = Comparison::start();
-    let run = sticks::with(&roofs::run(2, 1, 6, &mut draw), |run| {
+    let run = voltages::led(roofs::plain_run(2, 1, 6, &mut draw), &mut draw);
+    let run = sticks::with(&run, |run| {
         run.weather = vec![Some(Weather { irradiance: 0.25, temperature: 10.0 }); 6];
+        run.voltages = vec![None, Some(10_000), Some(0), None, None, Some(20_000)];
         run.readings[5] = Reading::Missing;
     });
     let file = sticks::file(&run);
@@ -514,7 +523,7 @@ fn states_with_every_byte_changed() {
 fn large_states_with_bytes_changed() {
     let mut draw = Draw::from_seed(1_113);
     let mut runs = Comparison::start();
-    let run = currents::plain_run(&[4], 64, 64, 2, &mut draw);
+    let run = voltages::led(currents::plain_run(&[4], 64, 64, 2, &mut draw), &mut draw);
     let file = sticks::file(&older::in_edition(3, run, &mut draw));
     let states = [file.len() - 1, file.len() - 9, MOST_SITE - 100].map(|length| state_after(&file[..length]));
     for round in 0..1_200 {
@@ -544,6 +553,7 @@ fn states_with_numbers_at_their_ends_or_beside_them() {
     for round in 0..24 {
         let run = sticks::with(&roofs::run(2, round % 2, 4, &mut draw), |run| {
             run.weather = vec![Some(Weather { irradiance: 0.25, temperature: 10.0 }); 4];
+            run.voltages.clear();
             run.readings.fill(Reading::Missing);
         });
         let run = older::in_edition(1 + round as u8 % 3, run, &mut draw);
@@ -573,6 +583,7 @@ fn states_with_numbers_at_their_ends_or_beside_them() {
             changes.extend(sun.map(|sun| (17, 4, sun)));
             changes.extend(sun.map(|sun| (21, 4, sun)));
             changes.extend([-100_000_000i64, -100_000_001].map(|sun| (21, 4, sun as u64)));
+            changes.extend([0, 1, 20_000, 20_001, 65_535].map(|voltage| (25, 2, voltage)));
             for (i, unit) in run.site.units.iter().enumerate() {
                 let at = UNITS + STANDING * i;
                 let rated = unit.rated;
@@ -580,6 +591,10 @@ fn states_with_numbers_at_their_ends_or_beside_them() {
                 let rating = i64::from(unit.rating);
                 let asked = [0, 1, -1, rating, rating + 1, -rating, -rating - 1, i64::from(i32::MIN)];
                 changes.extend(asked.map(|asked| (at + 8, 4, asked as u64)));
+            }
+            for at in [0, 1, 2, 3, 127].map(|i| VARS + i * OF_VARS) {
+                let ends = [0, 1, 100_000_000, 100_000_001, -100_000_000, -100_000_001, i64::from(i32::MIN)];
+                changes.extend(ends.map(|vars| (at, OF_VARS, vars as u64)));
             }
             changes.extend([UNITS + 24, FLAGS, FLAGS + 1, FLAGS + 63].map(|at| (at, 1, 1)));
             changes.push((FLAGS, 1, 2));
@@ -613,10 +628,13 @@ fn any_standing(run: &Run, draw: &mut Draw) -> Standing {
             size * sign
         }
     };
+    let vars = |draw: &mut Draw| draw.within(0, 200_000_000) as i32 - 100_000_000;
     Standing {
         stored: run.site.units.iter().map(|unit| draw.within(0, unit.rated)).collect(),
         requests: run.site.units.iter().map(|unit| request(unit.rating, draw)).collect(),
+        unit_vars: run.site.units.iter().map(|_| vars(draw)).collect(),
         on: run.site.inverters.iter().map(|_| draw.below(2) == 0).collect(),
+        inverter_vars: run.site.inverters.iter().map(|_| vars(draw)).collect(),
     }
 }
 
@@ -626,18 +644,22 @@ fn states_that_no_call_makes() {
     let mut draw = Draw::from_seed(1_115);
     let mut runs = Comparison::start();
     for _ in 0..6_000 {
-        let run = older::run(1 + draw.below(3) as usize, draw.below(3) as usize, 3, &mut draw);
+        let maker = draw.one_of(&[older::run, voltages::run]);
+        let run = maker(1 + draw.below(3) as usize, draw.below(3) as usize, 3, &mut draw);
         let file = sticks::file(&run);
         let fields = sticks::fields(&run);
         let site = sticks::bytes(&fields[..roofs::first_step(&run)]);
-        let stage = draw.one_of(&[Stage::Steps, Stage::AfterWeather, Stage::Ended, Stage::Steps]);
+        let stages = [Stage::Steps, Stage::AfterWeather, Stage::AfterVoltage, Stage::Ended, Stage::Steps];
+        let stage = draw.one_of(&stages);
         let any = draw.below(65_536) as u32;
         let steps = draw.one_of(&[0, 1, 2, 65_534, 65_535, any]);
         let tail =
             draw.one_of(&[&[][..], &[], &[4], &[9, 9], &[5, 0], &[4, 0, 24], &[7, 0, 129, 1], &[6, 0, 18]]);
+        let tail = draw.one_of(&[tail, tail, tail, &[12, 0, 2, 1], &[11, 0, 1]]);
         let tail = if stage == Stage::Ended { &[] } else { tail };
         let open = match stage {
             Stage::AfterWeather => OF_WEATHER,
+            Stage::AfterVoltage => draw.one_of(&[OF_VOLTAGE, OF_VOLTAGE + OF_WEATHER]),
             Stage::Ended => OF_END,
             _ => 0,
         };
@@ -652,7 +674,8 @@ fn states_that_no_call_makes() {
             stage,
             site,
             tail: tail.to_vec(),
-            sun: (stage == Stage::AfterWeather).then_some(sun),
+            sun: [Stage::AfterWeather, Stage::AfterVoltage].contains(&stage).then_some(sun),
+            voltage: (stage == Stage::AfterVoltage).then_some(draw.within(0, 20_000) as u16),
             standing: Some(any_standing(&run, &mut draw)),
         });
         let mut row = Row::of(&feed::encode(&state));
@@ -691,7 +714,8 @@ fn states_that_no_call_makes() {
         }
     }
     let met = runs.end(7_500);
-    met.more_than(200, "any number", [0, 8, 9, 10, 11]);
+    met.more_than(200, "any number", [0, 8, 9, 10]);
+    met.more_than(100, "any number", [11]);
 }
 
 /// No field of a step may lie among those before the steps, at any stage.
@@ -700,11 +724,11 @@ fn states_with_a_field_of_a_step_in_the_site_part() {
     let mut runs = Comparison::start();
     let head = &sticks::file(&sticks::whole_case())[..76];
     let weather = sticks::bytes(&[roofs::weather_field(Weather { irradiance: 0.0, temperature: 0.0 })]);
-    for more in [&weather[..], &[MISSING, 0, 0], &CLOSE] {
+    for more in [&weather[..], &[12, 0, 2, 0, 0], &[MISSING, 0, 0], &CLOSE] {
         for close in [&[][..], &CLOSE] {
             let part = [head, more, close].concat();
             for (stage, _) in STAGES.iter().enumerate() {
-                for (place, steps) in [(76, 0), (95, 0), (114, 0), (83, 0), (79, 1), (82, 1)] {
+                for (place, steps) in [(76, 0), (81, 0), (95, 0), (114, 0), (83, 0), (79, 1), (82, 1)] {
                     let mut state = vec![0; SIZE];
                     set(&mut state, 1, 8, place);
                     set(&mut state, 9, 4, steps);
@@ -730,8 +754,9 @@ fn bytes_that_are_no_state() {
     let mut runs = Comparison::start();
     let file = sticks::file(&sticks::whole_case());
     let good = state_after(&file[..80]);
-    // One that had no room for the connections among them.
-    for length in [0, 1, 12, 13, 14, TAIL, SITE - 1, SITE, 23_163, SIZE - 1, SIZE + 1, SIZE + 7, 2 * SIZE] {
+    // One that had no room for the connections among them, and one that had none for the function.
+    let others = [SITE - 1, SITE, 23_163, 23_421, SIZE - 1, SIZE + 1, SIZE + 7, 2 * SIZE];
+    for length in [0, 1, 12, 13, 14, TAIL].into_iter().chain(others) {
         let mut state = good.clone();
         state.resize(length, 0);
         let mut row = Row::of(&state);

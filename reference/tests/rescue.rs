@@ -14,12 +14,12 @@ use yesbrulka_reference::rescue::{Kind, CHANGE};
 use yesbrulka_reference::samples::inverters::{self, Change};
 use yesbrulka_reference::samples::sticks::{self, Field};
 use yesbrulka_reference::samples::wrecks::{self, wreck, Wreck};
-use yesbrulka_reference::samples::{currents, older, roofs, Draw};
+use yesbrulka_reference::samples::{currents, older, roofs, voltages, Draw};
 use yesbrulka_reference::stick::{self, Run, END, MISSING, POWER, TAGS, WEATHER};
 
 /// One unit, and a power, a missing reading and a power, the first and the last with a weather or none with one.
 fn small(edition: u8, inverters: usize, weather: bool, draw: &mut Draw) -> Run {
-    let mut run = roofs::run(1, inverters, 0, draw);
+    let mut run = roofs::plain_run(1, inverters, 0, draw);
     run.readings = vec![sticks::power_reading(draw), Reading::Missing, sticks::power_reading(draw)];
     if weather {
         run.weather = vec![Some(inverters::weather(draw)), None, Some(inverters::weather(draw))];
@@ -27,12 +27,24 @@ fn small(edition: u8, inverters: usize, weather: bool, draw: &mut Draw) -> Run {
     older::in_edition(edition, run, draw)
 }
 
-/// Small sticks of every edition, with and without inverters and weather.
+/// The same under a function, the first and the last with a voltage.
+fn led(edition: u8, inverters: usize, weather: bool, draw: &mut Draw) -> Run {
+    let run = small(edition, inverters, weather, draw);
+    let run = voltages::led(run, draw);
+    sticks::with(&run, |run| run.voltages = vec![Some(10_300), None, Some(0)])
+}
+
+/// Small sticks of every edition, with and without inverters, weather and a function.
 fn small_sticks(draw: &mut Draw) -> Vec<Run> {
     let kinds = [(0, false), (0, true), (1, false), (1, true), (2, true)];
-    let in_edition = |edition| kinds.map(|(inverters, weather)| (edition, inverters, weather));
-    let all = [1, 2, 3].map(in_edition).concat();
-    all.into_iter().map(|(edition, inverters, weather)| small(edition, inverters, weather, draw)).collect()
+    let mut all = Vec::new();
+    for edition in 1..=3 {
+        all.extend(kinds.map(|(inverters, weather)| small(edition, inverters, weather, draw)));
+        all.extend(
+            [(0, true), (1, false)].map(|(inverters, weather)| led(edition, inverters, weather, draw)),
+        );
+    }
+    all
 }
 
 #[test]
@@ -222,7 +234,7 @@ fn without_field(fields: &[Field], at: usize, draw: &mut Draw) -> Vec<Vec<u8>> {
 fn inverters_and_curves_damaged() {
     let mut draw = Draw::from_seed(1_207);
     let mut files = Comparison::start(1_207);
-    for _ in 0..40 {
+    for _ in 0..48 {
         let count = 1 + draw.below(3) as usize;
         let run = older::run(1, count, 3, &mut draw);
         let at = draw.below(count as u64) as usize;
@@ -267,8 +279,11 @@ fn due(edition: u8, draw: &mut Draw) -> Vec<Vec<u8>> {
     due
 }
 
-/// The stages by their numbers, 10 for that of the connections by watts, each with the refusals that a fault can have.
-const STAGES: [(u32, &[u32]); 11] = [
+/// The stage of the connections by watts, which has no number of its own.
+const BY_WATTS: u32 = 13;
+
+/// The stages by their numbers, each with the refusals that a fault can have.
+const STAGES: [(u32, &[u32]); 14] = [
     (0, &[9]),
     (1, &[1, 2, 3, 4, 5, 8]),
     (2, &[1, 2, 3, 4, 5, 8]),
@@ -279,43 +294,31 @@ const STAGES: [(u32, &[u32]); 11] = [
     (7, &[1, 2, 3, 4, 5, 8]),
     (8, &[1, 2, 3, 4, 5, 6, 8]),
     (9, &[1, 2, 3, 4, 5, 8]),
-    (10, &[1, 2, 3, 4, 5, 6, 7, 8]),
+    (10, &[1, 2, 3, 4, 5, 8]),
+    (11, &[1, 2, 3, 4, 5, 6, 8]),
+    (12, &[1, 2, 3, 4, 5, 6, 7, 8]),
+    (BY_WATTS, &[1, 2, 3, 4, 5, 6, 7, 8]),
 ];
 
 #[test]
 fn faults_at_every_stage() {
     let mut draw = Draw::from_seed(1_208);
     let mut files = Comparison::start(1_208);
-    // The fleet, two units and the settings; connections or none; then two inverters, a weather and its reading, a
-    // missing reading, a weather and its reading, the end.
-    let site: [(u8, &[u32]); 2] = [(1, &[1, 2, 2, 3, 10]), (4, &[1, 2, 2, 3, 9, 5])];
-    for (edition, (mode, site)) in (1..=3).flat_map(|edition| site.map(|site| (edition, site))) {
-        let run = sticks::with(&small(edition, 2, true, &mut Draw::from_seed(edition.into())), |run| {
-            run.site.units = vec![run.site.units[0]; 2];
-        });
-        let run = currents::in_mode(mode, run, &mut draw);
-        let fields = sticks::fields(&run);
-        let stages = [site, &[6, 7, 5, 6, 7, 5, 8, 4, 4, 8, 4, 0]].concat();
-        assert_eq!(stages.len(), fields.len() + 1);
-        for (before, stage) in stages.into_iter().enumerate() {
-            let (head, rest) = (sticks::bytes(&fields[..before]), sticks::bytes(&fields[before..]));
-            for due in due(edition, &mut draw) {
-                // Nothing stands there only where nothing comes behind it.
-                let alone = due.is_empty() || draw.below(2) == 0;
-                let file = [&head[..], &due, if alone { &[] } else { &rest }].concat();
-                let fault = stick::check(&file);
-                if fault.place == head.len() as u64 {
-                    files.met.note("stage and fault", 100 * stage + fault.number);
-                }
-                let rescued = files.rescue(file);
-                // Before the steps a fault is refused, and behind that stage it never is.
-                let before_steps = [1, 2, 3, 6, 7, 9].contains(&stage);
-                assert!(!before_steps || rescued.is_err() || fault.place > head.len() as u64);
-                assert!(![0, 4, 8].contains(&stage) || rescued.is_ok());
-            }
+    // The fleet, two units and the settings; connections or none; two inverters; a function or none; then a weather and
+    // its reading, a missing reading, a weather and its reading, with voltages under a function; the end.
+    let site: [(u8, &[u32]); 2] = [(1, &[1, 2, 2, 3, BY_WATTS]), (4, &[1, 2, 2, 3, 9, 5])];
+    let steps: [&[u32]; 2] = [&[8, 4, 4, 8, 4, 0], &[10, 12, 8, 11, 4, 4, 8, 11, 4, 0]];
+    let all = (1..=3).flat_map(|edition| site.map(|site| (edition, site)));
+    for (edition, (mode, site)) in all {
+        for (of, steps) in [small, led].into_iter().zip(steps) {
+            let run = sticks::with(&of(edition, 2, true, &mut Draw::from_seed(edition.into())), |run| {
+                run.site.units = vec![run.site.units[0]; 2];
+            });
+            let run = currents::in_mode(mode, run, &mut draw);
+            faults_of_stages(&mut files, &run, &[site, &[6, 7, 5, 6, 7, 5], steps].concat(), &mut draw);
         }
     }
-    let met = files.end(56_000);
+    let met = files.end(120_000);
     for (stage, numbers) in STAGES {
         met.more_than(2, "stage and fault", numbers.iter().map(|number| 100 * stage + number));
     }
@@ -323,6 +326,30 @@ fn faults_at_every_stage() {
     met.more_than(1_000, "kind", [2, 3]);
     met.more_than(20, "kind", [1]);
     met.more_than(1_000, "weather dropped with its reading", [1]);
+    met.more_than(1_000, "voltage dropped with its reading", [2]);
+}
+
+/// Every fault at each field of a run whose stages these are.
+fn faults_of_stages(files: &mut Comparison, run: &Run, stages: &[u32], draw: &mut Draw) {
+    let fields = sticks::fields(run);
+    assert_eq!(stages.len(), fields.len() + 1);
+    for (before, &stage) in stages.iter().enumerate() {
+        let (head, rest) = (sticks::bytes(&fields[..before]), sticks::bytes(&fields[before..]));
+        for due in due(run.site.edition, draw) {
+            // Nothing stands there only where nothing comes behind it.
+            let alone = due.is_empty() || draw.below(2) == 0;
+            let file = [&head[..], &due, if alone { &[] } else { &rest }].concat();
+            let fault = stick::check(&file);
+            if fault.place == head.len() as u64 {
+                files.met.note("stage and fault", 100 * stage + fault.number);
+            }
+            let rescued = files.rescue(file);
+            // Before the steps a fault is refused, and behind that stage it never is.
+            let before_steps = [1, 2, 3, 6, 7, 9, 10].contains(&stage);
+            assert!(!before_steps || rescued.is_err() || fault.place > head.len() as u64);
+            assert!(![0, 4, 8, 11].contains(&stage) || rescued.is_ok());
+        }
+    }
 }
 
 /// Files as large as they can be and one byte larger, and outputs that would be.

@@ -18,7 +18,7 @@ use yesbrulka_reference::stick::{self, Run, CURVE, INVERTER, MISSING, WEATHER};
 fn smallest(draw: &mut Draw) -> Run {
     let power = sticks::power_reading(draw);
     let weather = inverters::weather(draw);
-    sticks::with(&roofs::run(1, 1, 0, draw), |run| {
+    sticks::with(&roofs::plain_run(1, 1, 0, draw), |run| {
         run.readings = vec![power, Reading::Missing];
         run.weather = vec![Some(weather)];
     })
@@ -83,7 +83,7 @@ fn many_small_runs() {
     met.more_than(20_000, "number", [0]);
     met.more_than(4_000, "number", [11]);
     met.more_than(3_000, "inverters", 0..=3);
-    met.more_than(5, "inverters", 4..=64);
+    met.more_than(3, "inverters", 4..=64);
     met.all_of(2_000, &["a weather", "a weather without inverters", "a weather and no reading"]);
     met.all_of(
         2_000,
@@ -419,9 +419,9 @@ fn fields_with_two_things_wrong() {
                 let bad = files.check_spoiled(&fields[..at], tag, length, &mut draw);
                 // What may stand at each of these places: by the order, or by its values.
                 let allowed: &[u8] = match at {
-                    3 => &[4, 5, 6, 8, 9, 0x0A, 0x7F],
+                    3 => &[4, 5, 6, 8, 9, 0x0A, 0x0B, 0x7F],
                     4 | 5 => &[7],
-                    6 => &[4, 5, 6, 8, 9, 0x7F],
+                    6 => &[4, 5, 6, 8, 9, 0x0B, 0x7F],
                     7 => &[4, 5, 9],
                     _ => &[4, 5, 8, 9, 0x7F],
                 };

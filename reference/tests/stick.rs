@@ -8,9 +8,10 @@ use host::{refuses_cut_rows, Host};
 use yesbrulka_reference::ranges::MOST_BYTES;
 use yesbrulka_reference::reading::Reading;
 use yesbrulka_reference::samples::sticks::{self, Field};
-use yesbrulka_reference::samples::{currents, inverters, roofs, units, Draw};
+use yesbrulka_reference::samples::{currents, inverters, roofs, units, voltages, Draw};
 use yesbrulka_reference::stick::{
-    self, Run, CONNECTIONS, CURRENT, CURVE, END, INVERTER, MISSING, POWER, SETTINGS, TAGS, UNIT, WEATHER,
+    self, Run, CONNECTIONS, CURRENT, CURVE, END, FUNCTION, INVERTER, MISSING, POWER, SETTINGS, TAGS, UNIT,
+    VOLTAGE, WEATHER,
 };
 
 /// One unit, and a power reading and a missing one, with the settings of a farm.
@@ -106,6 +107,8 @@ fn files_with_their_fields_in_another_order() {
     let mut files = Comparison::start();
     let mut of_roofs = roofs::inverter_fields(&inverters::document_inverter()).to_vec();
     of_roofs.push(roofs::weather_field(inverters::weather(&mut Draw::from_seed(405))));
+    of_roofs.extend(voltages::function_fields(&voltages::function(&mut draw)));
+    of_roofs.push(voltages::voltage_field(10_000));
     for round in 0..40 {
         let units = if round == 0 { 64 } else { 1 + draw.below(4) as usize };
         let run = sticks::run(units, 3, &mut draw);
@@ -186,7 +189,7 @@ fn files_with_wrong_tags_and_lengths() {
                 fields[at].value.resize(length.into(), 0);
                 files.check(sticks::bytes(&fields));
             }
-            for tag in [INVERTER, CURVE, WEATHER, CURRENT, CONNECTIONS] {
+            for tag in [INVERTER, CURVE, WEATHER, CURRENT, CONNECTIONS, FUNCTION, VOLTAGE] {
                 for length in sticks::bad_lengths(tag) {
                     let mut fields = fields.clone();
                     fields[at] = Field::new(tag, vec![0; length.into()]);
@@ -340,7 +343,7 @@ fn fields_with_two_things_wrong() {
                 let length = stick::length_in(1, at.min(1), tag).expect("a tag of the list");
                 let bad = files.check_spoiled(&fields[..at], tag, length, &mut draw);
                 let in_steps = [POWER, MISSING, CURRENT, WEATHER, END].contains(&tag);
-                let next = at == 3 && [INVERTER, CONNECTIONS].contains(&tag);
+                let next = at == 3 && [INVERTER, CONNECTIONS, FUNCTION].contains(&tag);
                 match tag {
                     _ if !(right.tag == tag || at >= 3 && in_steps || next) => {
                         files.check_is(4, then(&bad, usize::MAX))

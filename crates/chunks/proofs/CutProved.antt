@@ -4,11 +4,11 @@ use mathlib.Core.List.{List, _++_}
 use mathlib.Core.Path.{_≡_, refl, _∙_, subst}
 use native.Mathlib.Omega.{arith}
 use lib.ListN.{length, length-append}
-use Rattle.solar.specs.declared.Sun.{Sun}
+use Rattle.site.specs.declared.Due.{Due}
 use Rattle.fields.specs.declared.State.{State}
 use Rattle.stick.specs.declared.Reached.{Reached}
 use Rattle.stick.specs.Check.{reached, reachOf}
-use Rattle.stick.specs.Site.{stepsFrom, sunFrom}
+use Rattle.stick.specs.Site.{stepsFrom, dueFrom}
 use Rattle.chunks.specs.Holds.{CutLaw, moved}
 use Rattle.chunks.proofs.ReachChunks.{Went, went-reach, gone, reach-fuel, reach-shift, went-append}
 use Rattle.chunks.proofs.PlaceChunks.{Whole, went-whole, at-end, steps-append}
@@ -23,7 +23,7 @@ module _ (a b : List ℕ) (st m : State) (e : reachOf (length a) st a 0 ≡ reac
       ∙ at-end a b (reachOf (length b) m (a ++ b)) (length a) refl
       ∙ reach-shift a b (length b) m 0
 
-  steps-on : (s : Sun) → stepsFrom (a ++ b) s 0 ≡ stepsFrom a s 0 ++ stepsFrom b (sunFrom a s 0) 0
+  steps-on : (d : Due) → stepsFrom (a ++ b) d 0 ≡ stepsFrom a d 0 ++ stepsFrom b (dueFrom a d 0) 0
   steps-on = steps-append a b (went-whole a over refl)
 
 pub cut-law : (a b : List ℕ) → CutLaw a b

@@ -20,6 +20,7 @@ use Rattle.reading.specs.Conversion.{wattsOf, milliOf}
 use Rattle.curve.specs.Layout.{curveIn}
 use Rattle.unit.specs.Ranges.{unitIn}
 use Rattle.rules.specs.Ranges.{settingsIn}
+use Rattle.lead.specs.Lead.{voltageIn}
 use Rattle.solar.specs.Roof.{inverterIn}
 use Rattle.solar.specs.declared.Sky.{Sky}
 use Rattle.solar.specs.declared.Sky.the-variants.{Clear, Unknown}
@@ -28,7 +29,7 @@ use Rattle.parts.specs.Header.{header, tagAt, lengthAt, past}
 use Rattle.fields.specs.declared.State.{State}
 use Rattle.fields.specs.declared.Taken.{Taken}
 use Rattle.fields.specs.declared.Taken.the-variants.{Stop}
-use Rattle.fields.specs.Fields.{kinds, sizeIn, sizeOf, headOf, allowed, fleetIn, unitAt, settingsAt, phaseAt, phasesAt, inverterAt, boundsFor, weatherAt, sixUnless, fiveUnless, valueOf, tooMany, refusedBy, takenBy, connectionsIn}
+use Rattle.fields.specs.Fields.{kinds, sizeIn, sizeOf, headOf, allowed, fleetIn, unitAt, settingsAt, phaseAt, phasesAt, inverterAt, boundsAt, weatherAt, sixUnless, fiveUnless, valueOf, tooMany, refusedBy, takenBy, connectionsIn, baseIn}
 use Rattle.fields.proofs.FieldLaws.{by-tag, size-else}
 use Rattle.stick.specs.Check.{fieldAt}
 use Rattle.stick.proofs.WalkLaws.{field-stops, field-goes, Headed, headed}
@@ -55,7 +56,7 @@ unfolding sizeOf kinds sizeIn
 size-most st few tag =
     by-tag (λ (t : ℕ). (sizeOf st t ≤ most) ⊎ (sizeOf st t ≡ 65536)) tag
     (inl (lit≤ tt)) (inl (by-test (λ (n : ℕ). n ≤ most) (leb 2 (st .edition)) 57 49 (λ t. lit≤ tt) (λ t. lit≤ tt)))
-    (inl (lit≤ tt)) (inl (lit≤ tt)) (inl (lit≤ tt)) (inl (lit≤ tt)) (inl (lit≤ tt)) (inl (lit≤ tt)) (inl (lit≤ tt)) (inl (omega arith))
+    (inl (lit≤ tt)) (inl (lit≤ tt)) (inl (lit≤ tt)) (inl (lit≤ tt)) (inl (lit≤ tt)) (inl (lit≤ tt)) (inl (lit≤ tt)) (inl (omega arith)) (inl (lit≤ tt)) (inl (lit≤ tt))
     (λ n. subst⁻¹ (λ (k : ℕ). (k ≤ most) ⊎ (k ≡ 65536)) (size-else st tag n) (last (eqb tag 127)))
   where
     last : (b : Bool) → (cond b 4 65536 ≤ most) ⊎ (_≡_ {A = ℕ} (cond b 4 65536) 65536)
@@ -91,12 +92,14 @@ module _ (st : State) (tag : ℕ) (file : List ℕ) (at : ℕ) where
       (λ t. by-test NotOne (st .current) _ _ (λ t e. omega arith) (λ t. usable-not-one (wattsOf (phasesAt file at .first)) (wattsOf (phasesAt file at .second)) (wattsOf (phasesAt file at .third))))
       (λ t. by-test NotOne (eqb tag 5) _ _ (λ t e. omega arith)
       (λ t. by-test NotOne (eqb tag 6) _ _ (λ t. five-not-one (inverterIn (inverterAt file at)))
-      (λ t. by-test NotOne (eqb tag 7) _ _ (λ t. five-not-one (curveIn (boundsFor st) file at))
+      (λ t. by-test NotOne (eqb tag 7) _ _ (λ t. five-not-one (curveIn (boundsAt (st .stage)) file at))
       (λ t. by-test NotOne (eqb tag 8) _ _ (λ t. six-not-one (skyOf (weatherAt file at)))
       (λ t. by-test NotOne (eqb tag 9) _ _
       (λ t. by-test NotOne (st .current) _ _ (λ t. usable-not-one (milliOf (phasesAt file at .first)) (milliOf (phasesAt file at .second)) (milliOf (phasesAt file at .third))) (λ t e. omega arith))
       (λ t. by-test NotOne (eqb tag 10) _ _ (λ t. five-not-one (connectionsIn (st .units) file at))
-      (λ t. by-test NotOne (eqb (be 4 file at) (st .steps)) 0 7 (λ t e. omega arith) (λ t e. omega arith)))))))))))
+      (λ t. by-test NotOne (eqb tag 11) _ _ (λ t. five-not-one (baseIn (be 1 file at)))
+      (λ t. by-test NotOne (eqb tag 12) _ _ (λ t. five-not-one (voltageIn (be 2 file at)))
+      (λ t. by-test NotOne (eqb (be 4 file at) (st .steps)) 0 7 (λ t e. omega arith) (λ t e. omega arith)))))))))))))
 
   pub refused-not-one : refusedBy st tag file at ≡ 1 → ⊥
   unfolding refusedBy

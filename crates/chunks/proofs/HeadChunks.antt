@@ -1,7 +1,7 @@
 -- Where the fields before the steps end, where a list of bytes that ends between two fields is followed by another; and how far that can be: the fields
 -- before the steps have at most `headMost` bytes. Assumes nothing.
 use mathlib.Core.Path.{_≡_, refl, sym, ap, ap₂, _∙_, subst, subst⁻¹}
-use mathlib.Core.Bool.{Bool, true, false, not, cond}
+use mathlib.Core.Bool.{Bool, true, false, not, cond, _||_}
 use mathlib.Core.List.{List, _++_}
 use mathlib.Core.Logic.{_⊎_, inl, inr}
 use Prim.Native.Nat.{ℕ, zero, suc, _+_, _-_, _*_, _≤_, _<_}
@@ -16,10 +16,11 @@ use Rattle.rules.specs.Rules.{byCurrent}
 use Rattle.parts.specs.Header.{header, tagAt, lengthAt, past}
 use Rattle.fields.specs.declared.State.{State}
 use Rattle.fields.specs.declared.Taken.the-variants.{Next}
-use Rattle.fields.specs.Fields.{atFleet, atUnits, atSettings, atInverters, atTemperature, atEfficiency, atConnections, kinds, sizeIn, sizeOf, standsIn, allowed, fleetIn, valueOf, stateOf, goneTo, roofAfter, stateAfter}
-use Rattle.fields.proofs.FieldLaws.{NoTag, by-tag, stands-nowhere, fleet-alone, units-alone, settings-alone, warm-alone, efficiency-alone}
+use Rattle.fields.specs.Fields.{atFleet, atUnits, atSettings, atInverters, atTemperature, atEfficiency, atConnections, atVoltVar, atLed, kinds, sizeIn, sizeOf, standsIn, allowed, isReading, fleetIn, valueOf, Flags, flags, flagsOf, stateOf, goneTo, curveNext, ledFrom, roofAfter, stateAfter}
+use Rattle.fields.proofs.FieldLaws.{NoTag, by-tag, stands-nowhere, fleet-alone, units-alone, settings-alone, warm-alone, efficiency-alone, volt-var-alone, led-or-end}
 use Rattle.stick.specs.Check.{fieldAt, reachOf, start}
 use Rattle.stick.specs.Site.{ofSteps, headFrom}
+use Rattle.stick.proofs.StepLaws.{of-steps}
 use Rattle.stick.proofs.WalkLaws.{Headed, field-cases}
 use Rattle.stick.proofs.SaidLaws.{free-parts, accepted-test}
 use Rattle.chunks.specs.Sizes.{largest, headMost}
@@ -122,10 +123,12 @@ pub data Placed : State → ℕ → Type 0 where
   fleet : {st : State} {i : ℕ} → st .stage ≡ atFleet → i ≡ 0 → Placed st i
   units : {st : State} {i : ℕ} → st .stage ≡ atUnits → Few st → 1 ≤ st .left → i + 60 * st .left ≤ 3849 → Placed st i
   settings : {st : State} {i : ℕ} → st .stage ≡ atSettings → Few st → i ≤ 3849 → Placed st i
-  connections : {st : State} {i : ℕ} → st .stage ≡ atConnections → Few st → i + 286 * st .left + largest ≤ headMost → Placed st i
-  inverters : {st : State} {i : ℕ} → st .stage ≡ atInverters → i + 286 * st .left ≤ headMost → Placed st i
-  warm : {st : State} {i : ℕ} → st .stage ≡ atTemperature → i + 286 * st .left + 264 ≤ headMost → Placed st i
-  efficiency : {st : State} {i : ℕ} → st .stage ≡ atEfficiency → i + 286 * st .left + 132 ≤ headMost → Placed st i
+  connections : {st : State} {i : ℕ} → st .stage ≡ atConnections → Few st → i + 286 * st .left + largest + 136 ≤ headMost → Placed st i
+  inverters : {st : State} {i : ℕ} → st .stage ≡ atInverters → i + 286 * st .left + 136 ≤ headMost → Placed st i
+  warm : {st : State} {i : ℕ} → st .stage ≡ atTemperature → i + 286 * st .left + 400 ≤ headMost → Placed st i
+  efficiency : {st : State} {i : ℕ} → st .stage ≡ atEfficiency → i + 286 * st .left + 268 ≤ headMost → Placed st i
+  volt-var : {st : State} {i : ℕ} → st .stage ≡ atVoltVar → i + 132 ≤ headMost → Placed st i
+  led : {st : State} {i : ℕ} → st .stage ≡ atLed → i ≤ headMost → Placed st i
 
 placed-most : {st : State} {i : ℕ} → Placed st i → i ≤ headMost
 placed-most (fleet e z) = omega arith
@@ -135,6 +138,8 @@ placed-most (connections e few h) = omega arith
 placed-most (inverters e h) = omega arith
 placed-most (warm e h) = omega arith
 placed-most (efficiency e h) = omega arith
+placed-most (volt-var e h) = omega arith
+placed-most (led e h) = h
 
 -- a tag that no step has and that the table does not name, before 7F, stands nowhere
 no-other-tag : (st : State) (tag : ℕ) → NoTag tag → allowed st tag ≡ true → ofSteps tag ≡ false → ⊥
@@ -144,33 +149,39 @@ no-other-tag st tag n a o = go (eqb tag 127) refl
     go true e = passed-failed (ap ofSteps (eqb-true tag 127 e)) o
     go false e = passed-failed a (sym (stands-nowhere st tag n (eqb-false tag 127 e)))
 
--- at the stage of the inverters a tag that no step has is an inverter's, and one may still come; at that of the connections it is theirs, or so too
-module _ (edition count left steps : ℕ) (current : Bool) (tag : ℕ) where
-  inverter-alone : allowed (stateOf atInverters edition count left steps current) tag ≡ true → ofSteps tag ≡ false → (tag ≡ 6) × (1 ≤ left)
-  unfolding allowed kinds standsIn
-  inverter-alone =
-      by-tag (λ (t : ℕ). allowed (stateOf atInverters edition count left steps current) t ≡ true → ofSteps t ≡ false → (t ≡ 6) × (1 ≤ left)) tag
-      (λ a o. absurd (passed-failed a refl)) (λ a o. absurd (passed-failed a refl)) (λ a o. absurd (passed-failed a refl))
-      (λ a o. absurd (passed-failed refl o)) (λ a o. absurd (passed-failed refl o))
-      (λ a o. (refl, leb-true 1 left a))
-      (λ a o. absurd (passed-failed a refl)) (λ a o. absurd (passed-failed refl o)) (λ a o. absurd (passed-failed refl o)) (λ a o. absurd (passed-failed a refl))
-      (λ n a o. absurd (no-other-tag (stateOf atInverters edition count left steps current) tag n a o))
+-- an inverter's tag, and one may still come, or the function's
+abbrev Roofing : ℕ → ℕ → Type 0
+Roofing left tag = ((tag ≡ 6) × (1 ≤ left)) ⊎ (tag ≡ 11)
 
-  connections-or-inverter : allowed (stateOf atConnections edition count left steps current) tag ≡ true → ofSteps tag ≡ false → (tag ≡ 10) ⊎ ((tag ≡ 6) × (1 ≤ left))
+-- at the stage of the inverters a tag that no step has is one of these; at that of the connections it is theirs, or so too
+module _ (edition count left steps : ℕ) (said : Flags) (tag : ℕ) where
+  inverter-or-function : allowed (stateOf atInverters edition count left steps said) tag ≡ true → ofSteps tag ≡ false → Roofing left tag
   unfolding allowed kinds standsIn
-  connections-or-inverter =
-      by-tag (λ (t : ℕ). allowed (stateOf atConnections edition count left steps current) t ≡ true → ofSteps t ≡ false → (t ≡ 10) ⊎ ((t ≡ 6) × (1 ≤ left))) tag
+  inverter-or-function =
+      by-tag (λ (t : ℕ). allowed (stateOf atInverters edition count left steps said) t ≡ true → ofSteps t ≡ false → Roofing left t) tag
       (λ a o. absurd (passed-failed a refl)) (λ a o. absurd (passed-failed a refl)) (λ a o. absurd (passed-failed a refl))
       (λ a o. absurd (passed-failed refl o)) (λ a o. absurd (passed-failed refl o))
-      (λ a o. inr (refl, leb-true 1 left (and-parts (not current) (leb 1 left) a .1)))
+      (λ a o. inl (refl, leb-true 1 left a))
+      (λ a o. absurd (passed-failed a refl)) (λ a o. absurd (passed-failed refl o)) (λ a o. absurd (passed-failed refl o)) (λ a o. absurd (passed-failed a refl))
+      (λ a o. inr refl) (λ a o. absurd (passed-failed refl o))
+      (λ n a o. absurd (no-other-tag (stateOf atInverters edition count left steps said) tag n a o))
+
+  connections-or-other : allowed (stateOf atConnections edition count left steps said) tag ≡ true → ofSteps tag ≡ false → (tag ≡ 10) ⊎ Roofing left tag
+  unfolding allowed kinds standsIn
+  connections-or-other =
+      by-tag (λ (t : ℕ). allowed (stateOf atConnections edition count left steps said) t ≡ true → ofSteps t ≡ false → (t ≡ 10) ⊎ Roofing left t) tag
+      (λ a o. absurd (passed-failed a refl)) (λ a o. absurd (passed-failed a refl)) (λ a o. absurd (passed-failed a refl))
+      (λ a o. absurd (passed-failed refl o)) (λ a o. absurd (passed-failed refl o))
+      (λ a o. inr (inl (refl, leb-true 1 left (and-parts (not (said .current)) (leb 1 left) a .1))))
       (λ a o. absurd (passed-failed a refl)) (λ a o. absurd (passed-failed refl o)) (λ a o. absurd (passed-failed refl o)) (λ a o. inl refl)
-      (λ n a o. absurd (no-other-tag (stateOf atConnections edition count left steps current) tag n a o))
+      (λ a o. inr (inr refl)) (λ a o. absurd (passed-failed refl o))
+      (λ n a o. absurd (no-other-tag (stateOf atConnections edition count left steps said) tag n a o))
 
 module _ (file : List ℕ) (st : State) (i : ℕ) where
   -- one field more
   module _ (hd : Headed st file i) (allows : allowed st (tagAt file i) ≡ true) (value : valueOf st (tagAt file i) file (i + header) ≡ 0) (other : ofSteps (tagAt file i) ≡ false) where
-    at-stage : (n : ℕ) → st .stage ≡ n → allowed (stateOf n (st .edition) (st .units) (st .left) (st .steps) (st .current)) (tagAt file i) ≡ true
-    at-stage n e = ap (λ (n : ℕ). allowed (stateOf n (st .edition) (st .units) (st .left) (st .steps) (st .current)) (tagAt file i)) (sym e) ∙ allows
+    at-stage : (n : ℕ) → st .stage ≡ n → allowed (stateOf n (st .edition) (st .units) (st .left) (st .steps) (flagsOf st)) (tagAt file i) ≡ true
+    at-stage n e = ap (λ (n : ℕ). allowed (stateOf n (st .edition) (st .units) (st .left) (st .steps) (flagsOf st)) (tagAt file i)) (sym e) ∙ allows
 
     at-tag : (k : ℕ) → tagAt file i ≡ k → (lengthAt file i ≡ sizeOf st k → valueOf st k file (i + header) ≡ 0 → Placed (stateAfter st k file (i + header)) (past file i))
         → Placed (stateAfter st (tagAt file i) file (i + header)) (past file i)
@@ -186,38 +197,47 @@ module _ (file : List ℕ) (st : State) (i : ℕ) where
     after-unit few true e h = settings {st = goneTo st atSettings 0 (st .steps)} {i = past file i} refl few (omega arith)
     after-unit few false e h = let l : 1 < st .left = leb-false (st .left) 1 e in units {st = goneTo st atUnits (st .left - 1) (st .steps)} refl few (omega arith) h
 
+    roof-or-function : i + 286 * st .left + 136 ≤ headMost → Roofing (st .left) (tagAt file i) → Placed (stateAfter st (tagAt file i) file (i + header)) (past file i)
+    unfolding sizeOf kinds sizeIn stateAfter roofAfter
+    roof-or-function h (inl six) =
+        let some = six .1 in at-tag 6 (six .0) (λ size v. warm {st = goneTo st atTemperature (st .left - 1) (st .steps)} {i = past file i} refl (omega arith))
+    roof-or-function h (inr eleven) = at-tag 11 eleven (λ size v. volt-var {st = ledFrom st} {i = past file i} refl (omega arith))
+
     pub placed-next : Placed st i → Placed (stateAfter st (tagAt file i) file (i + header)) (past file i)
     unfolding sizeOf kinds sizeIn valueOf stateAfter roofAfter
     placed-next (fleet e z) =
-        at-tag 1 (fleet-alone (st .edition) (st .units) (st .left) (st .steps) (st .current) (tagAt file i) (at-stage atFleet e))
+        at-tag 1 (fleet-alone (st .edition) (st .units) (st .left) (st .steps) (flagsOf st) (tagAt file i) (at-stage atFleet e))
         (λ size v.
         let n = be 1 file (i + header + 1) in
         let c : (1 ≤ n) × (n ≤ 64) = fleet-counts file (i + header) (accepted-test (fleetIn file (i + header)) v) in
         let some = c .0 in
         let few = c .1 in
-        units {st = stateOf atUnits (be 1 file (i + header)) n n (st .steps) (st .current)} {i = past file i} refl few some (omega arith))
+        units {st = stateOf atUnits (be 1 file (i + header)) n n (st .steps) (flagsOf st)} {i = past file i} refl few some (omega arith))
     placed-next (units e few l h) =
-        at-tag 2 (units-alone (st .edition) (st .units) (st .left) (st .steps) (st .current) (tagAt file i) (at-stage atUnits e))
+        at-tag 2 (units-alone (st .edition) (st .units) (st .left) (st .steps) (flagsOf st) (tagAt file i) (at-stage atUnits e))
         (λ size v. let m = unit-most in after-unit few (leb (st .left) 1) refl (omega arith))
     placed-next (settings e few h) =
-        at-tag 3 (settings-alone (st .edition) (st .units) (st .left) (st .steps) (st .current) (tagAt file i) (at-stage atSettings e))
-        (λ size v. connections {st = stateOf atConnections (st .edition) (st .units) 64 (st .steps) (byCurrent (be 1 file (i + header)))} {i = past file i} refl few (omega arith))
+        at-tag 3 (settings-alone (st .edition) (st .units) (st .left) (st .steps) (flagsOf st) (tagAt file i) (at-stage atSettings e))
+        (λ size v. connections {st = stateOf atConnections (st .edition) (st .units) 64 (st .steps) (flags (byCurrent (be 1 file (i + header))) (st .led))} {i = past file i} refl few (omega arith))
     placed-next (connections e few h) =
-        go (connections-or-inverter (st .edition) (st .units) (st .left) (st .steps) (st .current) (tagAt file i) (at-stage atConnections e) other)
+        go (connections-or-other (st .edition) (st .units) (st .left) (st .steps) (flagsOf st) (tagAt file i) (at-stage atConnections e) other)
       where
-        go : (tagAt file i ≡ 10) ⊎ ((tagAt file i ≡ 6) × (1 ≤ st .left)) → Placed (stateAfter st (tagAt file i) file (i + header)) (past file i)
+        go : (tagAt file i ≡ 10) ⊎ Roofing (st .left) (tagAt file i) → Placed (stateAfter st (tagAt file i) file (i + header)) (past file i)
         go (inl ten) = at-tag 10 ten (λ size v. inverters {st = goneTo st atInverters (st .left) (st .steps)} {i = past file i} refl (omega arith))
-        go (inr six) = let some = six .1 in at-tag 6 (six .0) (λ size v. warm {st = goneTo st atTemperature (st .left - 1) (st .steps)} {i = past file i} refl (omega arith))
+        go (inr r) = roof-or-function (omega arith) r
     placed-next (inverters e h) =
-        let six = inverter-alone (st .edition) (st .units) (st .left) (st .steps) (st .current) (tagAt file i) (at-stage atInverters e) other in
-        let some = six .1 in
-        at-tag 6 (six .0) (λ size v. warm {st = goneTo st atTemperature (st .left - 1) (st .steps)} {i = past file i} refl (omega arith))
+        roof-or-function h (inverter-or-function (st .edition) (st .units) (st .left) (st .steps) (flagsOf st) (tagAt file i) (at-stage atInverters e) other)
     placed-next (warm e h) =
-        at-tag 7 (warm-alone (st .edition) (st .units) (st .left) (st .steps) (st .current) (tagAt file i) (at-stage atTemperature e))
-        (λ size v. efficiency {st = stateAfter st 7 file (i + header)} {i = past file i} (ap (λ (n : ℕ). cond (eqb n 6) 7 5) e) (omega arith))
+        at-tag 7 (warm-alone (st .edition) (st .units) (st .left) (st .steps) (flagsOf st) (tagAt file i) (at-stage atTemperature e))
+        (λ size v. efficiency {st = stateAfter st 7 file (i + header)} {i = past file i} (ap curveNext e) (omega arith))
     placed-next (efficiency e h) =
-        at-tag 7 (efficiency-alone (st .edition) (st .units) (st .left) (st .steps) (st .current) (tagAt file i) (at-stage atEfficiency e))
-        (λ size v. inverters {st = stateAfter st 7 file (i + header)} {i = past file i} (ap (λ (n : ℕ). cond (eqb n 6) 7 5) e) (omega arith))
+        at-tag 7 (efficiency-alone (st .edition) (st .units) (st .left) (st .steps) (flagsOf st) (tagAt file i) (at-stage atEfficiency e))
+        (λ size v. inverters {st = stateAfter st 7 file (i + header)} {i = past file i} (ap curveNext e) (omega arith))
+    placed-next (volt-var e h) =
+        at-tag 7 (volt-var-alone (st .edition) (st .units) (st .left) (st .steps) (flagsOf st) (tagAt file i) (at-stage atVoltVar e))
+        (λ size v. led {st = stateAfter st 7 file (i + header)} {i = past file i} (ap curveNext e) (omega arith))
+    placed-next (led e h) =
+        absurd (passed-failed (of-steps (tagAt file i) (led-or-end (st .edition) (st .units) (st .left) (st .steps) (flagsOf st) (tagAt file i) (at-stage atLed e))) other)
 
 -- ---- an accepted field before the steps, from such a place to the next
 pub record FieldTaken (file : List ℕ) (st m : State) (i : ℕ) : Type 0 where
@@ -252,7 +272,7 @@ went-short file {s} {st} {j} {i} (passing m l e f w more) p = go (ofSteps (tagAt
         let on : headEnd file i ≡ headEnd file (past file i) = headFrom-field file i l ∙ ap (λ (b : Bool). cond b i (headEnd file (past file i))) o in
         subst⁻¹ (λ (n : ℕ). (n ≤ headMost) ⊎ (j ≤ headMost)) on (further (placed-on file st m i (omega arith) f o p))
 
--- of the bytes that the fields go over from the start on, the head has at most 9 + 60 * 64 + 15 + 195 + 286 * 64
+-- of the bytes that the fields go over from the start on, the head has at most 9 + 60 * 64 + 15 + 195 + 286 * 64 + 136
 pub head-most : (s : List ℕ) → headFrom (length s) s 0 ≤ reachOf (length s) start s 0 .at → headFrom (length s) s 0 ≤ headMost
 head-most s h = go (went-short s (far-gone s start 0 (omega arith) .went) (fleet refl refl))
   where

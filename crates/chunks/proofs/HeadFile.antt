@@ -9,70 +9,58 @@ use native.Mathlib.Omega.{arith}
 use lib.Dec.{leb, eqb}
 use lib.ListN.{length, take, length-append}
 use lib.Seq.{length-take-le, take-append-seam}
-use borrow.Author.Tests.{le-ltb, leb-false, eqb-true, eqb-false}
+use borrow.Author.Tests.{le-ltb, leb-false, eqb-true}
 use Rattle.whole.proofs.Choice.{by-test, passed-failed}
 use Rattle.octets.specs.BigEndian.{be}
 use Rattle.parts.specs.Header.{header, tagAt, past}
-use Rattle.site.specs.Site.{stepWith}
-use Rattle.solar.specs.declared.Sun.{Sun}
-use Rattle.solar.specs.Weather.{dark}
+use Rattle.site.specs.declared.Due.{Due}
 use Rattle.fields.specs.declared.State.{State}
-use Rattle.fields.specs.Fields.{atEnd, atFleet, atUnits, atSettings, atSteps, atInverters, atTemperature, atEfficiency, atConnections, unitSize, kinds, sizeIn}
-use Rattle.fields.specs.Fields.{sizeOf, headOf, standsIn, allowed, isReading, valueOf, refusedBy, stateOf, roofAfter, stateAfter, takenBy}
-use Rattle.fields.proofs.FieldLaws.{NoTag, by-tag, stands-nowhere, fleet-alone, units-alone, settings-alone, connections-alone, warm-alone, efficiency-alone, fewer, fewer-more}
+use Rattle.fields.specs.Fields.{atEnd, atFleet, atUnits, atSettings, atSteps, atInverters, atTemperature, atEfficiency, atConnections, atVoltVar, atLed, begins, unitSize, kinds, sizeIn}
+use Rattle.fields.specs.Fields.{sizeOf, headOf, standsIn, allowed, isReading, valueOf, refusedBy, Flags, flags, flagsOf, stateOf, goneTo, roofAfter, stateAfter, takenBy}
+use Rattle.fields.proofs.FieldLaws.{fleet-alone, units-alone, settings-alone, connections-alone, warm-alone, efficiency-alone, volt-var-alone, weather-or-end, fewer, fewer-more}
 use Rattle.stick.specs.declared.Answer.{Answer}
 use Rattle.stick.specs.declared.Reached.{Reached}
 use Rattle.stick.specs.Check.{answer, fieldAt, reached, reachOf, ends, start}
-use Rattle.stick.specs.Site.{readingAt, sunAt, stepsFrom, ofSteps, headFrom}
-use Rattle.stick.specs.Posts.{answered, Accepted, fleetBytes, roofBytes, wide, editionAt, unitsAt, unitBytes, unitPlace, settingsPlace, connectionsPlace, connected, roofPlace, stepsPlace}
+use Rattle.stick.specs.Site.{stepsFrom, ofSteps, headFrom}
+use Rattle.stick.specs.Posts.{answered, Accepted, fleetBytes, roofBytes, wide, editionAt, unitsAt, unitBytes, unitPlace, settingsPlace, connectionsPlace, connected, roofPlace, functionBytes, stepsPlace}
+use Rattle.stick.proofs.StepLaws.{of-steps}
 use Rattle.stick.proofs.WalkLaws.{whole, OnTheWay, way-starts, not-too-large}
 use Rattle.stick.proofs.ReachLaws.{walk-reach}
-use Rattle.stick.proofs.SaidLaws.{bytes-follow, One, one, Waited, waited}
+use Rattle.stick.proofs.PlaceLaws.{from-field, closes-none}
+use Rattle.stick.proofs.SaidLaws.{unknown, bytes-follow, One, one, Waited, waited}
 use Rattle.stick.proofs.RoofLaws.{RoofThere}
-use Rattle.stick.proofs.SiteProved.{currentAt, fleet-has, long, fleet-field, unit-fields, settings-field, connection-field, roof-fields, many, next-is, roofs-there}
+use Rattle.stick.proofs.SiteProved.{currentAt, knownAt, fleet-has, long, fleet-field, unit-fields, settings-field, connection-field, roof-fields, many, function-field, end-is, roofs-there}
 use Rattle.chunks.specs.Sizes.{headMost}
 use Rattle.chunks.specs.Holds.{moved}
 use Rattle.chunks.proofs.ReachChunks.{Went, there, passing, went-reach, went-append, went-take, reach-shift, far, far-gone, far-all}
-use Rattle.chunks.proofs.PlaceChunks.{steps-field}
-use Rattle.chunks.proofs.HeadChunks.{headEnd, headFrom-field, Placed, fleet, units, settings, connections, inverters, warm, efficiency, FieldTaken, accepted-field, placed-on, head-most}
+use Rattle.chunks.proofs.HeadChunks.{headEnd, headFrom-field, Placed, fleet, units, settings, connections, inverters, warm, efficiency, volt-var, led, FieldTaken, accepted-field, placed-on, head-most}
 
 -- ---- no step is before the end of the head
-no-reading : (tag : ℕ) → ofSteps tag ≡ false → (isReading tag ≡ false) × (eqb tag 8 ≡ false)
-no-reading tag = go (isReading tag) (eqb tag 8) (eqb tag 127)
+no-reading : (tag : ℕ) → ofSteps tag ≡ false → (isReading tag ≡ false) × ((eqb tag 8 ≡ false) × (eqb tag 12 ≡ false))
+no-reading tag = go (isReading tag) (eqb tag 8) (eqb tag 12) (eqb tag 127)
   where
-    go : (a b c : Bool) → (a || b || c) ≡ false → (a ≡ false) × (b ≡ false)
-    go true b c e = absurd (passed-failed refl e)
-    go false true c e = absurd (passed-failed refl e)
-    go false false c e = (refl, refl)
+    go : (a b c d : Bool) → (a || b || c || d) ≡ false → (a ≡ false) × ((b ≡ false) × (c ≡ false))
+    go true b c d e = absurd (passed-failed refl e)
+    go false true c d e = absurd (passed-failed refl e)
+    go false false true d e = absurd (passed-failed refl e)
+    go false false false d e = (refl, (refl, refl))
 
-pub steps-head : (file : List ℕ) (s : Sun) (k at : ℕ) → stepsFrom file s at ≡ stepsFrom file s (headFrom k file at)
-unfolding headFrom
-steps-head file s zero at = refl
-steps-head file s (suc k) at = go (leb (length file) at) refl (ofSteps (tagAt file at)) refl (steps-head file s k (past file at))
+pub steps-head : (file : List ℕ) (d : Due) (k at : ℕ) → stepsFrom file d at ≡ stepsFrom file d (headFrom k file at)
+unfolding headFrom stepsFrom
+steps-head file d zero at = refl
+steps-head file d (suc k) at = go (leb (length file) at) refl (ofSteps (tagAt file at)) refl (steps-head file d k (past file at))
   where
-    go : (over : Bool) → leb (length file) at ≡ over → (o : Bool) → ofSteps (tagAt file at) ≡ o → stepsFrom file s (past file at) ≡ stepsFrom file s (headFrom k file (past file at))
-        → stepsFrom file s at ≡ stepsFrom file s (cond over at (cond o at (headFrom k file (past file at))))
+    go : (over : Bool) → leb (length file) at ≡ over → (o : Bool) → ofSteps (tagAt file at) ≡ o → stepsFrom file d (past file at) ≡ stepsFrom file d (headFrom k file (past file at))
+        → stepsFrom file d at ≡ stepsFrom file d (cond over at (cond o at (headFrom k file (past file at))))
     go true e o f more = refl
     go false e true f more = refl
     go false e false f more =
         let n = no-reading (tagAt file at) f in
-        steps-field file s at (leb-false (length file) at e)
-        ∙ ap₂ (λ (r l : Bool). cond r (stepWith (readingAt file at) s ∷ stepsFrom file dark (past file at)) (cond l (stepsFrom file (sunAt file at) (past file at)) (stepsFrom file s (past file at)))) (n .0) (n .1)
-        ∙ more
+        closes-none file (record { tagged = refl; followed = from-field file at (leb-false (length file) at e) }) d (n .0) (n .1 .0) (n .1 .1) ∙ more
 
 -- ---- the head of an accepted walk, field by field
-pub steps-only : (edition count left steps : ℕ) (current : Bool) (tag : ℕ) → allowed (stateOf atSteps edition count left steps current) tag ≡ true → ofSteps tag ≡ true
-unfolding allowed kinds standsIn
-steps-only edition count left steps current tag =
-    by-tag (λ (t : ℕ). allowed (stateOf atSteps edition count left steps current) t ≡ true → ofSteps t ≡ true) tag
-    (λ a. absurd (passed-failed a refl)) (λ a. absurd (passed-failed a refl)) (λ a. absurd (passed-failed a refl))
-    (λ a. refl) (λ a. refl)
-    (λ a. absurd (passed-failed a refl)) (λ a. absurd (passed-failed a refl)) (λ a. refl) (λ a. refl) (λ a. absurd (passed-failed a refl))
-    (λ n a. go (eqb tag 127) refl n a)
-  where
-    go : (b : Bool) → eqb tag 127 ≡ b → NoTag tag → allowed (stateOf atSteps edition count left steps current) tag ≡ true → ofSteps tag ≡ true
-    go true e n a = ap ofSteps (eqb-true tag 127 e)
-    go false e n a = absurd (passed-failed a (sym (stands-nowhere (stateOf atSteps edition count left steps current) tag n (eqb-false tag 127 e))))
+pub steps-only : (edition count left steps : ℕ) (said : Flags) (tag : ℕ) → allowed (stateOf atSteps edition count left steps said) tag ≡ true → ofSteps tag ≡ true
+steps-only edition count left steps said tag a = of-steps tag (weather-or-end edition count left steps said tag a)
 
 module _ (file : List ℕ) where
   head-passes : (tag at next : ℕ) → ofSteps tag ≡ false → at < length file → tagAt file at ≡ tag → past file at ≡ next → headEnd file at ≡ headEnd file next
@@ -91,35 +79,35 @@ module _ (file : List ℕ) (ok : whole file .number ≡ 0) where
   pass tag st at next o e w v = head-passes file tag at next o (bytes-follow file ok st at w e) (v .passed .tagged) (v .behind)
 
   module _ (edition count size : ℕ) (wide-is : wide edition ≡ size) where
-    unit-waited : (left at next : ℕ) → at + size ≡ next → OnTheWay file (stateOf atUnits edition count left 0 false) at → Waited file ok 2 (stateOf atUnits edition count left 0 false) at next
+    unit-waited : (left at next : ℕ) → at + size ≡ next → OnTheWay file (stateOf atUnits edition count left 0 unknown) at → Waited file ok 2 (stateOf atUnits edition count left 0 unknown) at next
     unfolding sizeOf
     unit-waited left at next e w =
-        waited file ok 2 (stateOf atUnits edition count left 0 false) at next refl (units-alone edition count left 0 false (tagAt file at))
-        (add-assoc at header (unitSize (stateOf atUnits edition count left 0 false)) ∙ ap (λ (n : ℕ). at + n) wide-is ∙ e) w
+        waited file ok 2 (stateOf atUnits edition count left 0 unknown) at next refl (units-alone edition count left 0 unknown (tagAt file at))
+        (add-assoc at header (unitSize (stateOf atUnits edition count left 0 unknown)) ∙ ap (λ (n : ℕ). at + n) wide-is ∙ e) w
 
-    units-heads : (m at next : ℕ) → at + size * suc m ≡ next → OnTheWay file (stateOf atUnits edition count (suc m) 0 false) at → headEnd file at ≡ headEnd file next
+    units-heads : (m at next : ℕ) → at + size * suc m ≡ next → OnTheWay file (stateOf atUnits edition count (suc m) 0 unknown) at → headEnd file at ≡ headEnd file next
     unfolding stateAfter
     units-heads zero at next e w =
         let long : at + size ≡ next = ap (λ (n : ℕ). at + n) (sym (mul-one size)) ∙ e in
-        pass 2 (stateOf atUnits edition count 1 0 false) at next refl refl w (unit-waited 1 at next long w)
+        pass 2 (stateOf atUnits edition count 1 0 unknown) at next refl refl w (unit-waited 1 at next long w)
     units-heads (suc m) at next e w =
-        let st : State = stateOf atUnits edition count (suc (suc m)) 0 false in
+        let st : State = stateOf atUnits edition count (suc (suc m)) 0 unknown in
         let u : Waited file ok 2 st at (at + size) = unit-waited (suc (suc m)) at (at + size) refl w in
         let less : suc (suc m) - 1 ≡ suc m = omega arith in
-        let on : fewer st ≡ stateOf atUnits edition count (suc m) 0 false =
-        sym (fewer-more st (omega arith)) ∙ ap (λ (n : ℕ). stateOf atUnits edition count n 0 false) less in
+        let on : fewer st ≡ stateOf atUnits edition count (suc m) 0 unknown =
+        sym (fewer-more st (omega arith)) ∙ ap (λ (n : ℕ). stateOf atUnits edition count n 0 unknown) less in
         let far : size * suc (suc m) ≡ size * suc m + size = mul-suc size (suc m) in
         pass 2 st at (at + size) refl refl w u
         ∙ units-heads m (at + size) next (omega arith) (subst (λ (s : State). OnTheWay file s (at + size)) on (u .rest))
 
-  all-heads : (n next : ℕ) → 1 ≤ n → unitPlace file n ≡ next → OnTheWay file (stateOf atUnits (editionAt file) (unitsAt file) n 0 false) fleetBytes → headEnd file fleetBytes ≡ headEnd file next
+  all-heads : (n next : ℕ) → 1 ≤ n → unitPlace file n ≡ next → OnTheWay file (stateOf atUnits (editionAt file) (unitsAt file) n 0 unknown) fleetBytes → headEnd file fleetBytes ≡ headEnd file next
   all-heads zero next h e w = absurd (omega arith)
   all-heads (suc m) next h e w = units-heads (editionAt file) (unitsAt file) (unitBytes file) (long file ok) m fleetBytes next e w
 
   fleet-head : headEnd file 0 ≡ headEnd file fleetBytes
   unfolding sizeOf
   fleet-head =
-      pass 1 start 0 fleetBytes refl refl (way-starts file) (waited file ok 1 start 0 fleetBytes refl (fleet-alone 0 0 0 0 false (tagAt file 0)) refl (way-starts file))
+      pass 1 start 0 fleetBytes refl refl (way-starts file) (waited file ok 1 start 0 fleetBytes refl (fleet-alone 0 0 0 0 unknown (tagAt file 0)) refl (way-starts file))
 
   units-head : headEnd file fleetBytes ≡ headEnd file (settingsPlace file)
   unfolding unitsAt editionAt
@@ -129,10 +117,10 @@ module _ (file : List ℕ) (ok : whole file .number ≡ 0) where
   unfolding sizeOf
   settings-head =
       let e : settingsPlace file + 3 + 12 ≡ connectionsPlace file = omega arith in
-      let st : State = stateOf atSettings (editionAt file) (unitsAt file) 0 0 false in
+      let st : State = stateOf atSettings (editionAt file) (unitsAt file) 0 0 unknown in
       let w : OnTheWay file st (settingsPlace file) = unit-fields file ok .rest in
       pass 3 st (settingsPlace file) (connectionsPlace file) refl refl w
-      (waited file ok 3 st (settingsPlace file) (connectionsPlace file) refl (settings-alone (editionAt file) (unitsAt file) 0 0 false (tagAt file (settingsPlace file))) e w)
+      (waited file ok 3 st (settingsPlace file) (connectionsPlace file) refl (settings-alone (editionAt file) (unitsAt file) 0 0 unknown (tagAt file (settingsPlace file))) e w)
 
   connections-head : headEnd file (connectionsPlace file) ≡ headEnd file (roofPlace file 0)
   unfolding connected
@@ -143,7 +131,7 @@ module _ (file : List ℕ) (ok : whole file .number ≡ 0) where
 
       go : (b : Bool) → connected file ≡ b → headEnd file place ≡ headEnd file (roofPlace file 0)
       go true e =
-          let st : State = stateOf atConnections (editionAt file) (unitsAt file) 64 0 (currentAt file) in
+          let st : State = stateOf atConnections (editionAt file) (unitsAt file) 64 0 (knownAt file) in
           let below : place < length file = bytes-follow file ok st place (settings-field file ok .rest) refl in
           head-passes file 10 place (roofPlace file 0) refl below (eqb-true (tagAt file place) 10 e) (connection-field file ok .behind e)
       go false e = ap (headEnd file) (connection-field file ok .nothing e)
@@ -154,57 +142,90 @@ module _ (file : List ℕ) (ok : whole file .number ≡ 0) where
       let e : roofPlace file i + roofBytes ≡ roofPlace file (suc i) = omega arith in
       roofs-heads i (omega arith) ∙ roof-head file (roofPlace file i) (roofs-there file ok i (omega arith)) ∙ ap (headEnd file) e
 
-  -- at the first step
-  stops-there : headEnd file (roof-fields file ok .next) ≡ roof-fields file ok .next
-  stops-there =
-      let r = roof-fields file ok in
-      let st : State = stateOf atSteps (editionAt file) (unitsAt file) (r .said .remaining) 0 (currentAt file) in
-      let o : One file ok st (r .next) = one file ok st (r .next) (r .said .rest) refl in
-      headFrom-field file (r .next) (o .bytes)
-      ∙ ap (λ (b : Bool). cond b (r .next) (headEnd file (past file (r .next))))
-      (steps-only (editionAt file) (unitsAt file) (r .said .remaining) 0 (currentAt file) (tagAt file (r .next)) (o .allows))
+  -- over the function, if there is one
+  function-passed : (left at : ℕ) → tagAt file at ≡ 11 → OnTheWay file (stateOf atInverters (editionAt file) (unitsAt file) left 0 (knownAt file)) at → headEnd file at ≡ headEnd file (at + functionBytes)
+  unfolding sizeOf stateAfter roofAfter
+  function-passed left at t w =
+      let st : State = stateOf atInverters (editionAt file) (unitsAt file) left 0 (knownAt file) in
+      let v : Waited file ok 11 st at (at + 4) = waited file ok 11 st at (at + 4) refl (λ z. t) (omega arith) w in
+      let known : Flags = flags (currentAt file) true in
+      let curving : State = stateOf atVoltVar (editionAt file) (unitsAt file) left 0 known in
+      pass 11 st at (at + 4) refl refl w v
+      ∙ pass 7 curving (at + 4) (at + functionBytes) refl refl (v .rest)
+      (waited file ok 7 curving (at + 4) (at + functionBytes) refl (volt-var-alone (editionAt file) (unitsAt file) left 0 known (tagAt file (at + 4))) (omega arith) (v .rest))
 
-  head-next : headEnd file 0 ≡ roof-fields file ok .next
+  abbrev roofsEnd : ℕ
+  roofsEnd = roof-fields file ok .next
+
+  abbrev functionThere : Bool
+  functionThere = eqb (tagAt file roofsEnd) 11
+
+  abbrev functionEnd : ℕ
+  functionEnd = roofsEnd + cond functionThere functionBytes 0
+
+  function-head : headEnd file roofsEnd ≡ headEnd file functionEnd
+  function-head = go functionThere refl
+    where
+      go : (b : Bool) → functionThere ≡ b → headEnd file roofsEnd ≡ headEnd file (roofsEnd + cond b functionBytes 0)
+      go true e = function-passed (roof-fields file ok .said .remaining) roofsEnd (eqb-true (tagAt file roofsEnd) 11 e) (roof-fields file ok .said .rest)
+      go false e = let same : roofsEnd ≡ roofsEnd + 0 = omega arith in ap (headEnd file) same
+
+  -- at the first step
+  abbrev waiting : State
+  waiting = stateOf atSteps (editionAt file) (unitsAt file) (roof-fields file ok .said .remaining) 0 (flags (currentAt file) functionThere)
+
+  first-step : One file ok waiting functionEnd
+  first-step = one file ok waiting functionEnd (function-field file ok .rest) refl
+
+  stops-there : headEnd file functionEnd ≡ functionEnd
+  stops-there =
+      headFrom-field file functionEnd (first-step .bytes)
+      ∙ ap (λ (b : Bool). cond b functionEnd (headEnd file (past file functionEnd)))
+      (steps-only (editionAt file) (unitsAt file) (roof-fields file ok .said .remaining) 0 (flags (currentAt file) functionThere) (tagAt file functionEnd) (first-step .allows))
+
+  head-next : headEnd file 0 ≡ functionEnd
   head-next =
-      let r = roof-fields file ok in
-      let e : roofPlace file (many file ok) ≡ r .next = let i = r .is in omega arith in
-      fleet-head ∙ units-head ∙ settings-head ∙ connections-head ∙ roofs-heads (many file ok) (omega arith) ∙ ap (headEnd file) e ∙ stops-there
+      let e : roofPlace file (many file ok) ≡ roofsEnd = let i = roof-fields file ok .is in omega arith in
+      fleet-head ∙ units-head ∙ settings-head ∙ connections-head ∙ roofs-heads (many file ok) (omega arith) ∙ ap (headEnd file) e ∙ function-head ∙ stops-there
 
   -- so the head ends where the first step stands, within the file
   pub head-place : headFrom (length file) file 0 ≡ stepsPlace file
-  head-place = head-next ∙ next-is file ok
+  head-place = head-next ∙ end-is file ok
 
   pub head-within : headFrom (length file) file 0 < length file
-  head-within = subst⁻¹ (λ (n : ℕ). n < length file) head-next (roof-fields file ok .said .bytes)
+  head-within = subst⁻¹ (λ (n : ℕ). n < length file) head-next (first-step .bytes)
 
--- ---- the state where the head ends: an inverter may stand there, after the connections or, by watts, without them
+-- ---- the state where the head ends: an inverter may stand there, after the connections or, by watts, without them; or the function has come
 pub data Opening (st : State) : Type 0 where
   at-inverters : st .stage ≡ atInverters → Opening st
   at-connections : st .stage ≡ atConnections → st .current ≡ false → Opening st
+  at-led : st .stage ≡ atLed → Opening st
 
 module _ (st : State) (tag : ℕ) where
-  at-stage : (n : ℕ) → st .stage ≡ n → allowed st tag ≡ true → allowed (stateOf n (st .edition) (st .units) (st .left) (st .steps) (st .current)) tag ≡ true
-  at-stage n e a = ap (λ (n : ℕ). allowed (stateOf n (st .edition) (st .units) (st .left) (st .steps) (st .current)) tag) (sym e) ∙ a
+  at-stage : (n : ℕ) → st .stage ≡ n → allowed st tag ≡ true → allowed (stateOf n (st .edition) (st .units) (st .left) (st .steps) (flagsOf st)) tag ≡ true
+  at-stage n e a = ap (λ (n : ℕ). allowed (stateOf n (st .edition) (st .units) (st .left) (st .steps) (flagsOf st)) tag) (sym e) ∙ a
 
   no-step : (k : ℕ) → ofSteps k ≡ false → tag ≡ k → ofSteps tag ≡ true → Opening st
   no-step k o e s = absurd (passed-failed s (ap ofSteps e ∙ o))
 
-  -- a field of a step stands first only where an inverter may
+  -- a field of a step stands first only there
   placed-stage : {i : ℕ} → Placed st i → allowed st tag ≡ true → ofSteps tag ≡ true → Opening st
-  placed-stage (fleet e z) a = no-step 1 refl (fleet-alone (st .edition) (st .units) (st .left) (st .steps) (st .current) tag (at-stage atFleet e a))
-  placed-stage (units e few l h) a = no-step 2 refl (units-alone (st .edition) (st .units) (st .left) (st .steps) (st .current) tag (at-stage atUnits e a))
-  placed-stage (settings e few h) a = no-step 3 refl (settings-alone (st .edition) (st .units) (st .left) (st .steps) (st .current) tag (at-stage atSettings e a))
+  placed-stage (fleet e z) a = no-step 1 refl (fleet-alone (st .edition) (st .units) (st .left) (st .steps) (flagsOf st) tag (at-stage atFleet e a))
+  placed-stage (units e few l h) a = no-step 2 refl (units-alone (st .edition) (st .units) (st .left) (st .steps) (flagsOf st) tag (at-stage atUnits e a))
+  placed-stage (settings e few h) a = no-step 3 refl (settings-alone (st .edition) (st .units) (st .left) (st .steps) (flagsOf st) tag (at-stage atSettings e a))
   placed-stage (connections e few h) a = go (st .current) refl
     where
       go : (c : Bool) → st .current ≡ c → ofSteps tag ≡ true → Opening st
       go true c =
           no-step 10 refl
-          (connections-alone (st .edition) (st .units) (st .left) (st .steps) tag
-          (subst (λ (b : Bool). allowed (stateOf atConnections (st .edition) (st .units) (st .left) (st .steps) b) tag ≡ true) c (at-stage atConnections e a)))
+          (connections-alone (st .edition) (st .units) (st .left) (st .steps) (st .led) tag
+          (subst (λ (b : Bool). allowed (stateOf atConnections (st .edition) (st .units) (st .left) (st .steps) (flags b (st .led))) tag ≡ true) c (at-stage atConnections e a)))
       go false c = λ s. at-connections e c
   placed-stage (inverters e h) a = λ s. at-inverters e
-  placed-stage (warm e h) a = no-step 7 refl (warm-alone (st .edition) (st .units) (st .left) (st .steps) (st .current) tag (at-stage atTemperature e a))
-  placed-stage (efficiency e h) a = no-step 7 refl (efficiency-alone (st .edition) (st .units) (st .left) (st .steps) (st .current) tag (at-stage atEfficiency e a))
+  placed-stage (warm e h) a = no-step 7 refl (warm-alone (st .edition) (st .units) (st .left) (st .steps) (flagsOf st) tag (at-stage atTemperature e a))
+  placed-stage (efficiency e h) a = no-step 7 refl (efficiency-alone (st .edition) (st .units) (st .left) (st .steps) (flagsOf st) tag (at-stage atEfficiency e a))
+  placed-stage (volt-var e h) a = no-step 7 refl (volt-var-alone (st .edition) (st .units) (st .left) (st .steps) (flagsOf st) tag (at-stage atVoltVar e a))
+  placed-stage (led e h) a = λ s. at-led e
 
   -- no other field counts as a step
   pub steps-kept : (file : List ℕ) (at : ℕ) → isReading tag ≡ false → stateAfter st tag file at .steps ≡ st .steps
@@ -217,7 +238,9 @@ module _ (st : State) (tag : ℕ) where
       (λ t. by-test Kept (eqb tag 6) _ _ (λ t. refl)
       (λ t. by-test Kept (eqb tag 7) _ _ (λ t. refl)
       (λ t. by-test Kept (eqb tag 8) _ _ (λ t. refl)
-      (λ t. by-test Kept (eqb tag 10) _ _ (λ t. refl) (λ t. refl))))))))
+      (λ t. by-test Kept (eqb tag 10) _ _ (λ t. refl)
+      (λ t. by-test Kept (eqb tag 11) _ _ (λ t. refl)
+      (λ t. by-test Kept (eqb tag 12) _ _ (λ t. refl) (λ t. refl))))))))))
     where
       Kept : State → Type 0
       Kept s = s .steps ≡ st .steps
@@ -264,15 +287,26 @@ went-head file {s} {st} {j} {i} (passing m l e f w more) p z h = go (ofSteps (ta
 abbrev pub endField : List ℕ
 endField = 0x7F ∷ 0x00 ∷ 0x04 ∷ 0x00 ∷ 0x00 ∷ 0x00 ∷ 0x00 ∷ []
 
-end-reached : (edition count left : ℕ) (current : Bool)
-    → reachOf 7 (stateOf atInverters edition count left 0 current) endField 0 ≡ reached 0 7 (stateOf atEnd edition count left 0 current)
+end-reached : (st : State) → eqb (st .stage) 0 ≡ false → begins st ≡ true → st .steps ≡ 0 → reachOf 7 st endField 0 ≡ reached 0 7 (goneTo st atEnd (st .left) 0)
 unfolding reachOf fieldAt headOf sizeOf kinds sizeIn be takenBy refusedBy allowed standsIn valueOf stateAfter roofAfter
-end-reached edition count left current = refl
+end-reached st e b n = simp (e, b, n)
 
-end-reached-early : (edition count left : ℕ)
-    → reachOf 7 (stateOf atConnections edition count left 0 false) endField 0 ≡ reached 0 7 (stateOf atEnd edition count left 0 false)
-unfolding reachOf fieldAt headOf sizeOf kinds sizeIn be takenBy refusedBy allowed standsIn valueOf stateAfter roofAfter
-end-reached-early edition count left = refl
+-- it may stand where the head ends
+going : {st : State} → Opening st → eqb (st .stage) 0 ≡ false
+going (at-inverters e) = ap (λ (n : ℕ). eqb n 0) e
+going (at-connections e c) = ap (λ (n : ℕ). eqb n 0) e
+going (at-led e) = ap (λ (n : ℕ). eqb n 0) e
+
+beginning : (st : State) → Opening st → begins st ≡ true
+beginning st = go
+  where
+    at : ℕ → Bool → Bool
+    at stage current = begins (stateOf stage (st .edition) (st .units) (st .left) (st .steps) (flags current (st .led)))
+
+    go : Opening st → begins st ≡ true
+    go (at-inverters e) = ap (λ (n : ℕ). at n (st .current)) e
+    go (at-connections e c) = ap₂ at e c
+    go (at-led e) = ap (λ (n : ℕ). at n (st .current)) e
 
 -- ---- bytes with whole fields up to where a step may stand first, and the end field of no steps behind them, are an accepted file
 pub went-of-reach : (a : List ℕ) (m : State) → reachOf (length a) start a 0 ≡ reached 0 (length a) m → Went a m (length a) start 0
@@ -280,20 +314,10 @@ went-of-reach a m e = subst (λ (r : Reached). Went a (r .state) (r .at) start 0
 
 module _ (a : List ℕ) (m : State) (w : Went a m (length a) start 0) (stage : Opening m) (none : m .steps ≡ 0) where
   abbrev ended : State
-  ended = stateOf atEnd (m .edition) (m .units) (m .left) 0 (m .current)
+  ended = goneTo m atEnd (m .left) 0
 
   closes : reachOf 7 m endField 0 ≡ reached 0 7 ended
-  closes = go stage
-    where
-      go : Opening m → reachOf 7 m endField 0 ≡ reached 0 7 ended
-      go (at-inverters e) =
-          ap₂ (λ (n k : ℕ). reachOf 7 (stateOf n (m .edition) (m .units) (m .left) k (m .current)) endField 0) e none
-          ∙ end-reached (m .edition) (m .units) (m .left) (m .current)
-      go (at-connections e c) =
-          ap₂ (λ (n k : ℕ). reachOf 7 (stateOf n (m .edition) (m .units) (m .left) k (m .current)) endField 0) e none
-          ∙ ap (λ (b : Bool). reachOf 7 (stateOf atConnections (m .edition) (m .units) (m .left) 0 b) endField 0) c
-          ∙ end-reached-early (m .edition) (m .units) (m .left)
-          ∙ ap (λ (b : Bool). reached 0 7 (stateOf atEnd (m .edition) (m .units) (m .left) 0 b)) (sym c)
+  closes = end-reached m (going stage) (beginning m stage) none
 
   pub closed-reached : reachOf (length (a ++ endField)) start (a ++ endField) 0 ≡ reached 0 (length a + 7) ended
   closed-reached =
@@ -374,5 +398,5 @@ module _ (file : List ℕ) (ok : whole file .number ≡ 0) where
       closed-accepted (take h file) (head-went .middle) head-alone (head-went .stage) (head-went .none) (omega arith)
 
   -- no steps are before the head's end
-  pub steps-behind-head : (s : Sun) → stepsFrom file s 0 ≡ stepsFrom file s h
-  steps-behind-head s = steps-head file s (length file) 0
+  pub steps-behind-head : (d : Due) → stepsFrom file d 0 ≡ stepsFrom file d h
+  steps-behind-head d = steps-head file d (length file) 0

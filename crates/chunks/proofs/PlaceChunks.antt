@@ -1,4 +1,4 @@
--- The places of the fields, the steps, the sun and the end of the head, where a list of bytes that ends between two fields is followed by another: first
+-- The places of the fields, the steps and what the step under way has, where a list of bytes that ends between two fields is followed by another: first
 -- those of the one, then those of the other. Assumes nothing.
 use mathlib.Core.Path.{_≡_, refl, sym, ap, ap₂, _∙_, subst, subst⁻¹}
 use mathlib.Core.Bool.{Bool, true, false, cond}
@@ -6,26 +6,24 @@ use mathlib.Core.List.{List, [], _∷_, _++_, map}
 use Prim.Native.Nat.{ℕ, zero, suc, _+_, _≤_, _<_}
 use native.Mathlib.Nat.{add-zero}
 use native.Mathlib.Omega.{arith}
-use lib.Dec.{leb, eqb, lit≤}
+use lib.Dec.{leb, lit≤}
 use lib.ListN.{length, take, length-append}
 use lib.Seq.{length-take-le}
-use borrow.Author.Tests.{eqb-true}
 use Rattle.whole.proofs.Choice.{by-test}
 use Rattle.parts.specs.Header.{tagAt, lengthAt, past}
 use Rattle.site.specs.declared.Step.{Step}
+use Rattle.site.specs.declared.Due.{Due}
 use Rattle.site.specs.Site.{stepWith}
-use Rattle.solar.specs.declared.Sun.{Sun}
-use Rattle.solar.specs.Weather.{dark}
 use Rattle.fields.specs.declared.State.{State}
 use Rattle.fields.specs.declared.Taken.the-variants.{Next}
 use Rattle.fields.specs.Fields.{isReading, kinds, sizeIn, sizeOf}
 use Rattle.fields.proofs.FieldLaws.{by-tag, size-else}
 use Rattle.stick.specs.Check.{fieldAt, start}
-use Rattle.stick.specs.Site.{placesFrom, readingAt, sunAt, stepsIn, sunIn, stepsFrom, sunFrom}
+use Rattle.stick.specs.Site.{placesFrom, readingAt, dueAfter, stepsIn, dueIn, stepsFrom, dueFrom}
 use Rattle.stick.proofs.WalkLaws.{field-cases}
 use Rattle.stick.proofs.PlaceLaws.{from, from-over, from-field}
 use Rattle.stick.proofs.PlaceLaws.{same as places-fuel}
-use Rattle.chunks.proofs.SameLaws.{Same, reading-same, sun-same}
+use Rattle.chunks.proofs.SameLaws.{Same, reading-same, due-same}
 use Rattle.chunks.proofs.FieldChunks.{same-behind, same-before, tag-shift, past-shift, tag-append, past-append}
 use Rattle.chunks.proofs.ReachChunks.{over-shift, Went, there, passing, went-take, far, far-gone, far-upto}
 
@@ -47,7 +45,7 @@ pub size-least : (st : State) (tag : ℕ) → sizeOf start tag ≤ sizeOf st tag
 unfolding sizeOf kinds sizeIn
 size-least st tag =
     by-tag (λ (t : ℕ). sizeOf start t ≤ sizeOf st t) tag
-    (lit≤ tt) (by-test (λ (n : ℕ). 49 ≤ n) (leb 2 (st .edition)) 57 49 (λ t. lit≤ tt) (λ t. lit≤ tt)) (lit≤ tt) (lit≤ tt) (lit≤ tt) (lit≤ tt) (lit≤ tt) (lit≤ tt) (lit≤ tt) (omega arith)
+    (lit≤ tt) (by-test (λ (n : ℕ). 49 ≤ n) (leb 2 (st .edition)) 57 49 (λ t. lit≤ tt) (λ t. lit≤ tt)) (lit≤ tt) (lit≤ tt) (lit≤ tt) (lit≤ tt) (lit≤ tt) (lit≤ tt) (lit≤ tt) (omega arith) (lit≤ tt) (lit≤ tt)
     (λ n.
     let a = size-else start tag n in
     let b = size-else st tag n in
@@ -129,62 +127,52 @@ module _ (a b : List ℕ) where
       let s : sizeOf start (tagAt (a ++ b) i) ≤ lengthAt (a ++ b) i = omega arith in
       whole-field (record { size = s; all = l }) (subst⁻¹ (Whole (a ++ b)) p (whole-append w v))
 
--- ---- the steps and the sun, one field after another
+-- ---- the steps and what the step under way has, one field after another
 module _ (file : List ℕ) where
-  pub steps-over : (s : Sun) (at : ℕ) → length file ≤ at → stepsFrom file s at ≡ []
+  pub steps-over : (d : Due) (at : ℕ) → length file ≤ at → stepsFrom file d at ≡ []
   unfolding stepsFrom stepsIn
-  steps-over s at h = ap (stepsIn file s) (from-over file at h)
+  steps-over d at h = ap (stepsIn file d) (from-over file at h)
 
-  pub sun-over : (s : Sun) (at : ℕ) → length file ≤ at → sunFrom file s at ≡ s
-  unfolding sunFrom sunIn
-  sun-over s at h = ap (sunIn file s) (from-over file at h)
+  pub due-over : (d : Due) (at : ℕ) → length file ≤ at → dueFrom file d at ≡ d
+  unfolding dueFrom dueIn
+  due-over d at h = ap (dueIn file d) (from-over file at h)
 
-  abbrev stepsBy : Bool → Bool → Sun → ℕ → ℕ → List Step
-  stepsBy r l s at next = cond r (stepWith (readingAt file at) s ∷ stepsFrom file dark next) (cond l (stepsFrom file (sunAt file at) next) (stepsFrom file s next))
-
-  abbrev sunBy : Bool → Bool → Sun → ℕ → ℕ → Sun
-  sunBy r l s at next = cond r (sunFrom file dark next) (cond l (sunFrom file (sunAt file at) next) (sunFrom file s next))
-
-  pub steps-field : (s : Sun) (at : ℕ) → at < length file → stepsFrom file s at ≡ stepsBy (isReading (tagAt file at)) (eqb (tagAt file at) 8) s at (past file at)
+  pub steps-field : (d : Due) (at : ℕ) → at < length file
+      → stepsFrom file d at
+      ≡ cond (isReading (tagAt file at)) (stepWith (readingAt file at) d ∷ stepsFrom file (dueAfter file d at) (past file at)) (stepsFrom file (dueAfter file d at) (past file at))
   unfolding stepsFrom stepsIn
-  steps-field s at h = ap (stepsIn file s) (from-field file at h)
+  steps-field d at h = ap (stepsIn file d) (from-field file at h)
 
-  pub sun-field : (s : Sun) (at : ℕ) → at < length file → sunFrom file s at ≡ sunBy (isReading (tagAt file at)) (eqb (tagAt file at) 8) s at (past file at)
-  unfolding sunFrom sunIn
-  sun-field s at h = ap (sunIn file s) (from-field file at h)
+  pub due-field : (d : Due) (at : ℕ) → at < length file → dueFrom file d at ≡ dueFrom file (dueAfter file d at) (past file at)
+  unfolding dueFrom dueIn
+  due-field d at h = ap (dueIn file d) (from-field file at h)
 
 module _ (a b : List ℕ) where
   -- ---- behind other bytes
-  steps-moved : (s : Sun) (ats : List ℕ) → stepsIn (a ++ b) s (behind a b ats) ≡ stepsIn b s ats
+  after-moved : (d : Due) (i : ℕ) → dueAfter (a ++ b) d (length a + i) ≡ dueAfter b d i
+  after-moved d i = due-same (a ++ b) b (length a + i) i (same-behind a b i 1) (λ e. same-behind a b i 19) (λ e. same-behind a b i 5) d
+
+  steps-moved : (d : Due) (ats : List ℕ) → stepsIn (a ++ b) d (behind a b ats) ≡ stepsIn b d ats
   unfolding stepsIn
-  steps-moved s [] = refl
-  steps-moved s (i ∷ ats) =
+  steps-moved d [] = refl
+  steps-moved d (i ∷ ats) =
       let tag = tag-shift a b i in
       let reading = reading-same (a ++ b) b (length a + i) i (same-behind a b i 1) (λ k l e. same-behind a b i 27) in
-      let lit = sun-same (a ++ b) b (length a + i) i (same-behind a b i 19) in
-      let closed = steps-moved dark ats in
-      let on = ap (λ (s : Sun). stepsIn (a ++ b) s (behind a b ats)) lit ∙ steps-moved (sunAt b i) ats in
-      let more = steps-moved s ats in
-      λ j. cond (isReading (tag j)) (stepWith (reading j) s ∷ closed j) (cond (eqb (tag j) 8) (on j) (more j))
+      let more = ap (λ (e : Due). stepsIn (a ++ b) e (behind a b ats)) (after-moved d i) ∙ steps-moved (dueAfter b d i) ats in
+      λ j. cond (isReading (tag j)) (stepWith (reading j) d ∷ more j) (more j)
 
-  sun-moved : (s : Sun) (ats : List ℕ) → sunIn (a ++ b) s (behind a b ats) ≡ sunIn b s ats
-  unfolding sunIn
-  sun-moved s [] = refl
-  sun-moved s (i ∷ ats) =
-      let tag = tag-shift a b i in
-      let lit = sun-same (a ++ b) b (length a + i) i (same-behind a b i 19) in
-      let closed = sun-moved dark ats in
-      let on = ap (λ (s : Sun). sunIn (a ++ b) s (behind a b ats)) lit ∙ sun-moved (sunAt b i) ats in
-      let more = sun-moved s ats in
-      λ j. cond (isReading (tag j)) (closed j) (cond (eqb (tag j) 8) (on j) (more j))
+  due-moved : (d : Due) (ats : List ℕ) → dueIn (a ++ b) d (behind a b ats) ≡ dueIn b d ats
+  unfolding dueIn
+  due-moved d [] = refl
+  due-moved d (i ∷ ats) = ap (λ (e : Due). dueIn (a ++ b) e (behind a b ats)) (after-moved d i) ∙ due-moved (dueAfter b d i) ats
 
-  pub steps-shift : (s : Sun) (i : ℕ) → stepsFrom (a ++ b) s (length a + i) ≡ stepsFrom b s i
+  pub steps-shift : (d : Due) (i : ℕ) → stepsFrom (a ++ b) d (length a + i) ≡ stepsFrom b d i
   unfolding stepsFrom
-  steps-shift s i = ap (stepsIn (a ++ b) s) (places-shift a b i) ∙ steps-moved s (from b i)
+  steps-shift d i = ap (stepsIn (a ++ b) d) (places-shift a b i) ∙ steps-moved d (from b i)
 
-  pub sun-shift : (s : Sun) (i : ℕ) → sunFrom (a ++ b) s (length a + i) ≡ sunFrom b s i
-  unfolding sunFrom
-  sun-shift s i = ap (sunIn (a ++ b) s) (places-shift a b i) ∙ sun-moved s (from b i)
+  pub due-shift : (d : Due) (i : ℕ) → dueFrom (a ++ b) d (length a + i) ≡ dueFrom b d i
+  unfolding dueFrom
+  due-shift d i = ap (dueIn (a ++ b) d) (places-shift a b i) ∙ due-moved d (from b i)
 
   -- ---- before other bytes, a field that is there says the same
   module _ {i : ℕ} (f : FieldThere a i) where
@@ -201,41 +189,39 @@ module _ (a b : List ℕ) where
     there-past = past-append a b i there-below
 
     there-reading : readingAt (a ++ b) i ≡ readingAt a i
-    there-reading = sym (reading-same a (a ++ b) i i (same-before a b i 1 (let l = there-below in omega arith)) (λ k l e. there-long 27 (let size = ap (sizeOf start) e ∙ l in omega arith)))
+    there-reading = sym (reading-same a (a ++ b) i i (there-long 1 (omega arith)) (λ k l e. there-long 27 (let size = ap (sizeOf start) e ∙ l in omega arith)))
 
-    there-sun : tagAt a i ≡ 8 → sunAt (a ++ b) i ≡ sunAt a i
+    there-due : (d : Due) → dueAfter (a ++ b) d i ≡ dueAfter a d i
     unfolding sizeOf kinds sizeIn
-    there-sun e = sym (sun-same a (a ++ b) i i (there-long 19 (subst⁻¹ (λ (t : ℕ). 19 ≤ 3 + sizeOf start t) e (lit≤ tt))))
+    there-due d =
+        sym (due-same a (a ++ b) i i (there-long 1 (omega arith))
+        (λ e. there-long 19 (subst⁻¹ (λ (t : ℕ). 19 ≤ 3 + sizeOf start t) e (lit≤ tt)))
+        (λ e. there-long 5 (subst⁻¹ (λ (t : ℕ). 5 ≤ 3 + sizeOf start t) e (lit≤ tt))) d)
 
-  pub steps-append : {i : ℕ} → Whole a i → (s : Sun) → stepsFrom (a ++ b) s i ≡ stepsFrom a s i ++ stepsFrom b (sunFrom a s i) 0
-  steps-append {i} (whole-end e) s =
-      at-end a b (stepsFrom (a ++ b) s) i e ∙ steps-shift s 0
-      ∙ sym (ap₂ (λ (l : List Step) (s : Sun). l ++ stepsFrom b s 0) (steps-over a s i (omega arith)) (sun-over a s i (omega arith)))
-  steps-append {i} (whole-field f w) s =
+  pub steps-append : {i : ℕ} → Whole a i → (d : Due) → stepsFrom (a ++ b) d i ≡ stepsFrom a d i ++ stepsFrom b (dueFrom a d i) 0
+  steps-append {i} (whole-end e) d =
+      at-end a b (stepsFrom (a ++ b) d) i e ∙ steps-shift d 0
+      ∙ sym (ap₂ (λ (l : List Step) (d : Due). l ++ stepsFrom b d 0) (steps-over a d i (omega arith)) (due-over a d i (omega arith)))
+  steps-append {i} (whole-field f w) d =
       let below : i + 3 ≤ length a = there-below f in
-      steps-field (a ++ b) s i (omega (arith, length-append a b))
-      ∙ ap₂ (λ (t n : ℕ). stepsBy (a ++ b) (isReading t) (eqb t 8) s i n) (there-tag f) (there-past f)
-      ∙ go (isReading (tagAt a i)) (eqb (tagAt a i) 8) refl (steps-append w)
-      ∙ sym (ap₂ (λ (l : List Step) (s : Sun). l ++ stepsFrom b s 0) (steps-field a s i (omega arith)) (sun-field a s i (omega arith)))
+      let tag = there-tag f in
+      let reading = there-reading f in
+      let more = ap₂ (stepsFrom (a ++ b)) (there-due f d) (there-past f) ∙ steps-append w (dueAfter a d i) in
+      steps-field (a ++ b) d i (omega (arith, length-append a b))
+      ∙ (λ j. cond (isReading (tag j)) (stepWith (reading j) d ∷ more j) (more j))
+      ∙ go (isReading (tagAt a i)) (stepWith (readingAt a i) d) (stepsFrom a (dueAfter a d i) (past a i)) (stepsFrom b (dueFrom a (dueAfter a d i) (past a i)) 0)
+      ∙ sym (ap₂ (λ (l : List Step) (d : Due). l ++ stepsFrom b d 0) (steps-field a d i (omega arith)) (due-field a d i (omega arith)))
     where
-      go : (r l : Bool) → eqb (tagAt a i) 8 ≡ l → ((s : Sun) → stepsFrom (a ++ b) s (past a i) ≡ stepsFrom a s (past a i) ++ stepsFrom b (sunFrom a s (past a i)) 0)
-          → stepsBy (a ++ b) r l s i (past a i) ≡ stepsBy a r l s i (past a i) ++ stepsFrom b (sunBy a r l s i (past a i)) 0
-      go true l e more = ap₂ (λ r (ss : List Step). stepWith r s ∷ ss) (there-reading f) (more dark)
-      go false true e more = ap (λ (s : Sun). stepsFrom (a ++ b) s (past a i)) (there-sun f (eqb-true (tagAt a i) 8 e)) ∙ more (sunAt a i)
-      go false false e more = more s
+      go : (r : Bool) (s : Step) (xs ys : List Step) → cond r (s ∷ (xs ++ ys)) (xs ++ ys) ≡ cond r (s ∷ xs) xs ++ ys
+      go true s xs ys = refl
+      go false s xs ys = refl
 
-  pub sun-append : {i : ℕ} → Whole a i → (s : Sun) → sunFrom (a ++ b) s i ≡ sunFrom b (sunFrom a s i) 0
-  sun-append {i} (whole-end e) s =
-      at-end a b (sunFrom (a ++ b) s) i e ∙ sun-shift s 0 ∙ sym (ap (λ (s : Sun). sunFrom b s 0) (sun-over a s i (omega arith)))
-  sun-append {i} (whole-field f w) s =
+  pub due-append : {i : ℕ} → Whole a i → (d : Due) → dueFrom (a ++ b) d i ≡ dueFrom b (dueFrom a d i) 0
+  due-append {i} (whole-end e) d =
+      at-end a b (dueFrom (a ++ b) d) i e ∙ due-shift d 0 ∙ sym (ap (λ (d : Due). dueFrom b d 0) (due-over a d i (omega arith)))
+  due-append {i} (whole-field f w) d =
       let below : i + 3 ≤ length a = there-below f in
-      sun-field (a ++ b) s i (omega (arith, length-append a b))
-      ∙ ap₂ (λ (t n : ℕ). sunBy (a ++ b) (isReading t) (eqb t 8) s i n) (there-tag f) (there-past f)
-      ∙ go (isReading (tagAt a i)) (eqb (tagAt a i) 8) refl (sun-append w)
-      ∙ sym (ap (λ (s : Sun). sunFrom b s 0) (sun-field a s i (omega arith)))
-    where
-      go : (r l : Bool) → eqb (tagAt a i) 8 ≡ l → ((s : Sun) → sunFrom (a ++ b) s (past a i) ≡ sunFrom b (sunFrom a s (past a i)) 0)
-          → sunBy (a ++ b) r l s i (past a i) ≡ sunFrom b (sunBy a r l s i (past a i)) 0
-      go true l e more = more dark
-      go false true e more = ap (λ (s : Sun). sunFrom (a ++ b) s (past a i)) (there-sun f (eqb-true (tagAt a i) 8 e)) ∙ more (sunAt a i)
-      go false false e more = more s
+      due-field (a ++ b) d i (omega (arith, length-append a b))
+      ∙ ap₂ (dueFrom (a ++ b)) (there-due f d) (there-past f)
+      ∙ due-append w (dueAfter a d i)
+      ∙ sym (ap (λ (d : Due). dueFrom b d 0) (due-field a d i (omega arith)))

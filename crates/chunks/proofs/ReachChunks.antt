@@ -50,7 +50,9 @@ few-after st tag file at v few =
     (λ t. by-test Few (eqb tag 6) _ _ (λ t. few)
     (λ t. by-test Few (eqb tag 7) _ _ (λ t. few)
     (λ t. by-test Few (eqb tag 8) _ _ (λ t. few)
-    (λ t. by-test Few (eqb tag 10) _ _ (λ t. few) (λ t. few))))))))
+    (λ t. by-test Few (eqb tag 10) _ _ (λ t. few)
+    (λ t. by-test Few (eqb tag 11) _ _ (λ t. few)
+    (λ t. by-test Few (eqb tag 12) _ _ (λ t. few) (λ t. few))))))))))
 
 pub few-next : (st m : State) (file : List ℕ) (at : ℕ) → at ≤ length file → fieldAt st file at ≡ Next m → Few st → Few m
 few-next st m file at upto f few =

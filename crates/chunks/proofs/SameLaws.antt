@@ -28,17 +28,23 @@ use Rattle.curve.proofs.PointLaws.{points-count}
 use Rattle.unit.specs.Ranges.{ownLimits, directIn, gridIn, unitIn, connectionIn}
 use Rattle.rules.specs.Rules.{byCurrent}
 use Rattle.rules.specs.Ranges.{settingsIn}
+use Rattle.lead.specs.declared.Voltage.{Voltage}
+use Rattle.lead.specs.declared.Voltage.the-variants.{Said}
+use Rattle.lead.specs.Lead.{voltageIn}
+use Rattle.solar.specs.declared.Sun.{Sun}
 use Rattle.solar.specs.Roof.{inverterIn}
 use Rattle.solar.specs.Weather.{skyOf, sunOr}
+use Rattle.site.specs.declared.Due.{Due}
+use Rattle.site.specs.Site.{due, noneYet}
 use Rattle.parts.specs.Header.{header, tagAt, lengthAt, past}
 use Rattle.fields.specs.declared.State.{State}
 use Rattle.fields.specs.declared.Taken.the-variants.{Next, Stop}
-use Rattle.fields.specs.Fields.{atUnits, atConnections, boundsFor, kinds, sizeIn, sizeOf, allowed, fleetIn, unitAt, settingsAt, phaseAt}
+use Rattle.fields.specs.Fields.{atUnits, atConnections, boundsAt, kinds, sizeIn, sizeOf, allowed, fleetIn, unitAt, settingsAt, phaseAt, isReading, baseIn, flags, flagsOf}
 use Rattle.fields.specs.Fields.{phasesAt, inverterAt, weatherAt, sixUnless, fiveUnless, valueOf, tooMany, refusedBy, stateOf, stateAfter, takenBy, phasesIn, voltsIn, connectionsIn}
 use Rattle.fields.proofs.FieldLaws.{by-tag}
 use Rattle.fields.proofs.TakenLaws.{room-end, value-end}
 use Rattle.stick.specs.Check.{start}
-use Rattle.stick.specs.Site.{headBy, roofAt, readingAt, sunAt}
+use Rattle.stick.specs.Site.{headBy, roofAt, functionAt, readingAt, sunAt, voltageAt, dueAfter}
 
 -- ---- n bytes of F from p on are those of G from q on
 abbrev pub Same : List ℕ → List ℕ → ℕ → ℕ → ℕ → Type 0
@@ -227,10 +233,12 @@ module _ (F G : List ℕ) (p q : ℕ) where
       (λ h. ap (λ r. cond (st .current) 5 (refusalOf (Power r))) (phases-same F G p q h))
       (λ h. refl)
       (λ h. ap (λ v. fiveUnless (inverterIn v)) (inverter-same F G p q h))
-      (λ h. ap fiveUnless (curve-same F G p q (boundsFor st) h))
+      (λ h. ap fiveUnless (curve-same F G p q (boundsAt (st .stage)) h))
       (λ h. ap (λ w. sixUnless (skyOf w)) (weather-same F G p q h))
       (λ h. ap (λ r. cond (st .current) (refusalOf (Current r)) 5) (phases-same F G p q h))
       (λ h. ap fiveUnless (connections-same F G p q (st .units) h))
+      (λ h. ap (λ (n : ℕ). fiveUnless (baseIn n)) (be-front F G p q 1 h 1 (lit≤ tt)))
+      (λ h. ap (λ (n : ℕ). fiveUnless (voltageIn n)) (be-front F G p q 2 h 2 (lit≤ tt)))
       (λ n h.
       let four : 0 + 4 ≤ sizeOf st tag = room-end st tag 0 (sizeOf st tag) (omega arith) n in
       sym (value-end st tag F p n)
@@ -245,17 +253,17 @@ module _ (F G : List ℕ) (p q : ℕ) where
   unfolding stateAfter sizeOf kinds sizeIn
   after-same st tag =
       by-tag (λ (t : ℕ). Same F G p q (sizeOf st t) → stateAfter st t F p ≡ stateAfter st t G q) tag
-      (λ h. ap₂ (λ (e u : ℕ). stateOf atUnits e u u (st .steps) (st .current)) (be-front F G p q 6 h 1 (lit≤ tt)) (be-within F G p q 6 h 1 1 (lit≤ tt)))
+      (λ h. ap₂ (λ (e u : ℕ). stateOf atUnits e u u (st .steps) (flagsOf st)) (be-front F G p q 6 h 1 (lit≤ tt)) (be-within F G p q 6 h 1 1 (lit≤ tt)))
       (λ h. refl)
-      (λ h. ap (λ (m : ℕ). stateOf atConnections (st .edition) (st .units) 64 (st .steps) (byCurrent m)) (be-front F G p q 12 h 1 (lit≤ tt)))
-      (λ h. refl) (λ h. refl) (λ h. refl) (λ h. refl) (λ h. refl) (λ h. refl) (λ h. refl)
+      (λ h. ap (λ (m : ℕ). stateOf atConnections (st .edition) (st .units) 64 (st .steps) (flags (byCurrent m) (st .led))) (be-front F G p q 12 h 1 (lit≤ tt)))
+      (λ h. refl) (λ h. refl) (λ h. refl) (λ h. refl) (λ h. refl) (λ h. refl) (λ h. refl) (λ h. refl) (λ h. refl)
       (λ n h. simp (ne-eqb tag 1 (n .n₁), ne-eqb tag 3 (n .n₃)))
 
   pub taken-same : (st : State) (tag : ℕ) → Same F G p q (sizeOf st tag) → takenBy st tag F p ≡ takenBy st tag G q
   unfolding takenBy
   taken-same st tag h = ap₂ (λ (n : ℕ) (s : State). cond (eqb n 0) (Next s) (Stop n)) (refused-same st tag h) (after-same st tag h)
 
-  -- ---- what a field says, from its tag on: a reading, whose bytes need be there only where it has powers or currents; a sun
+  -- ---- what a field says, from its tag on: a reading, whose bytes need be there only where it has powers or currents; a sun, a voltage
   pub reading-same : Same F G p q 1 → ((k : ℕ) → sizeOf start k ≡ 24 → tagAt F p ≡ k → Same F G p q 27) → readingAt F p ≡ readingAt G q
   unfolding readingAt sizeOf kinds sizeIn
   reading-same t h =
@@ -280,6 +288,26 @@ module _ (F G : List ℕ) (p q : ℕ) where
   unfolding sunAt
   sun-same h = ap (λ w. sunOr (skyOf w)) (weather-same F G (p + 3) (q + 3) (same-from F G p q 19 h 3 16 (lit≤ tt)))
 
+  pub voltage-same : Same F G p q 5 → voltageAt F p ≡ voltageAt G q
+  unfolding voltageAt
+  voltage-same h = ap Said (be-within F G p q 5 h 3 2 (lit≤ tt))
+
+  -- and what the step under way has behind it, where the bytes of a weather or of a voltage are there
+  pub due-same : Same F G p q 1 → (tagAt F p ≡ 8 → Same F G p q 19) → (tagAt F p ≡ 12 → Same F G p q 5) → (d : Due) → dueAfter F d p ≡ dueAfter G d q
+  unfolding dueAfter
+  due-same t w v d =
+      go (isReading (tagAt F p)) (eqb (tagAt F p) 8) (eqb (tagAt F p) 12) refl refl
+      ∙ ap (λ (n : ℕ). has (isReading n) (eqb n 8) (eqb n 12) (sunAt G q) (voltageAt G q)) (tag-same F G p q t)
+    where
+      has : Bool → Bool → Bool → Sun → Voltage → Due
+      has r a b s x = cond r noneYet (cond a (due s (d .voltage)) (cond b (due (d .sun) x) d))
+
+      go : (r a b : Bool) → eqb (tagAt F p) 8 ≡ a → eqb (tagAt F p) 12 ≡ b → has r a b (sunAt F p) (voltageAt F p) ≡ has r a b (sunAt G q) (voltageAt G q)
+      go true a b ea eb = refl
+      go false true b ea eb = ap (λ (s : Sun). due s (d .voltage)) (sun-same (w (eqb-true (tagAt F p) 8 ea)))
+      go false false true ea eb = ap (due (d .sun)) (voltage-same (v (eqb-true (tagAt F p) 12 eb)))
+      go false false false ea eb = refl
+
   -- ---- a roof: an inverter field and two curve fields
   pub roof-same : lengthAt F p ≡ 19 → lengthAt F (p + 22) ≡ 129 → countAt F (p + 25) ≤ 16 → countAt F (p + 157) ≤ 16 → Same F G p q 286 → roofAt F p ≡ roofAt G q
   unfolding roofAt
@@ -303,6 +331,17 @@ module _ (F G : List ℕ) (p q : ℕ) where
     where
       plus : (n a b : ℕ) → n + a + b ≡ n + (a + b)
       plus n a b = add-assoc n a b
+
+  -- ---- a function: its field and a curve field
+  pub function-same : lengthAt F p ≡ 1 → countAt F (p + 7) ≤ 16 → Same F G p q 136 → functionAt F p ≡ functionAt G q
+  unfolding functionAt
+  function-same a c h =
+      let near : lengthAt G q ≡ 1 = sym (length-same F G p q (same-less F G p q 136 h 3 (lit≤ tt))) ∙ a in
+      let f : past F p + 3 ≡ p + 7 = omega arith in
+      let g : past G q + 3 ≡ q + 7 = omega arith in
+      let base = be-within F G p q 136 h 3 1 (lit≤ tt) in
+      let curve = ap (pointsAt F) f ∙ points-same F G (p + 7) (q + 7) (same-from F G p q 136 h 7 129 (lit≤ tt)) c ∙ sym (ap (pointsAt G) g) in
+      λ i. record { base = base i; curve = curve i }
 
 -- ---- the head of a site, by the values of two fields
 pub head-same : (F G : List ℕ) (f g s t : ℕ) → Same F G f g 6 → Same F G s t 12 → headBy F f s ≡ headBy G g t

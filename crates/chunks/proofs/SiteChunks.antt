@@ -1,5 +1,5 @@
--- The head of a file whose walk is accepted, with the end field of no steps behind it, says the same site and the same roofs as the file: both are read off the
--- same places, which lie before the head's end. Assumes nothing.
+-- The head of a file whose walk is accepted, with the end field of no steps behind it, says the same site, the same roofs and the same function as the
+-- file: they are read off the same places, which lie before the head's end. Assumes nothing.
 use mathlib.Core.Path.{_≡_, refl, sym, ap, ap₂, _∙_, subst, subst⁻¹}
 use mathlib.Core.Bool.{Bool, true, false, cond}
 use mathlib.Core.List.{List, [], _∷_, _++_, map}
@@ -21,19 +21,21 @@ use Rattle.curve.specs.Layout.{countAt, pointsAt, restIn, curveIn}
 use Rattle.curve.proofs.PointLaws.{points-count}
 use Rattle.curve.proofs.RangeLaws.{points-some}
 use Rattle.solar.specs.Roof.{warmBounds, efficiencyBounds}
-use Rattle.solar.specs.declared.Sun.{Sun}
+use Rattle.lead.specs.Lead.{led, voltVarBounds}
 use Rattle.parts.specs.Header.{header, tagAt}
 use Rattle.site.specs.declared.Head.{Head}
+use Rattle.site.specs.declared.Due.{Due}
 use Rattle.site.specs.Site.{noUnit}
 use Rattle.fields.specs.Fields.{unitAt, phasesIn, voltsIn}
-use Rattle.stick.specs.Site.{placesFrom, placesOf, having, headBy, connectionsOf, linkIn, siteOf, roofAt, roofsOf, stepsIn, stepsFrom, headFrom}
-use Rattle.stick.specs.Posts.{Accepted, fleetBytes, settingsBytes, roofBytes, wide, editionAt, unitsAt, unitBytes, settingsPlace, connectionsPlace, connected, connectionsBytes, roofPlace, stepsPlace}
+use Rattle.stick.specs.Site.{placesFrom, placesOf, having, headBy, connectionsOf, linkIn, siteOf, roofAt, roofsOf, functionAt, functionsOf, leadingIn, leadingOf, stepsIn, stepsFrom, headFrom}
+use Rattle.stick.specs.Posts.{Accepted, fleetBytes, settingsBytes, roofBytes, wide, editionAt, unitsAt, unitBytes, settingsPlace, connectionsPlace, connected, connectionsBytes, roofPlace, functionBytes, functionPlace, guided, stepsPlace}
 use Rattle.stick.proofs.WalkLaws.{whole}
 use Rattle.stick.proofs.SaidLaws.{every}
 use Rattle.stick.proofs.RoofLaws.{RoofThere}
-use Rattle.stick.proofs.SiteProved.{walk-accepted, fleets-picked, units-picked, settings-picked, roofs-picked, link-is, every-long, many, many-is, roofs-there}
+use Rattle.stick.proofs.FunctionLaws.{FunctionThere}
+use Rattle.stick.proofs.SiteProved.{walk-accepted, fleets-picked, units-picked, settings-picked, roofs-picked, link-is, every-long, many, many-is, roofs-there, functions-picked, function-stands}
 use Rattle.chunks.specs.Sizes.{headMost}
-use Rattle.chunks.proofs.SameLaws.{Same, be-front, be-within, be-deep, tag-same, unit-same, head-same, roof-same}
+use Rattle.chunks.proofs.SameLaws.{Same, be-front, be-within, be-deep, tag-same, unit-same, head-same, roof-same, function-same}
 use Rattle.chunks.proofs.FieldChunks.{same-before}
 use Rattle.chunks.proofs.PlaceChunks.{Whole, went-whole, steps-shift}
 use Rattle.chunks.proofs.HeadChunks.{headEnd, HeadAppend, headFrom-append}
@@ -58,7 +60,7 @@ each-same f g d l h =
     ext-getD d (each f l) (each g l) (each-length f l ∙ sym (each-length g l))
     (λ i b. let j : i < length l = subst (λ (n : ℕ). i < n) (each-length f l) b in each-at f l i d j ∙ h i j (getD l i d) ∙ sym (each-at g l i d j))
 
--- ---- the site and the roofs, by the places of their fields, of any file whose walk is accepted
+-- ---- the site, the roofs and the function, by the places of their fields, of any file whose walk is accepted
 module _ (file : List ℕ) (ok : whole file .number ≡ 0) where
   pub head-told : siteOf file .head ≡ headBy file header (settingsPlace file + header)
   unfolding siteOf
@@ -84,6 +86,10 @@ module _ (file : List ℕ) (ok : whole file .number ≡ 0) where
   unfolding roofsOf
   roofs-told = ap (map (roofAt file)) (roofs-picked file ok)
 
+  pub leading-told : leadingOf file ≡ leadingIn file (cond (guided file) (functionPlace file ∷ []) [])
+  unfolding leadingOf functionsOf
+  leading-told = ap (leadingIn file) (functions-picked file ok)
+
 -- a curve in its ranges has at most sixteen points
 few-points : (b : Bounds) (file : List ℕ) (at : ℕ) → curveIn b file at ≡ true → countAt file at ≤ 16
 unfolding curveIn
@@ -91,6 +97,13 @@ few-points b file at e =
     let p = and-parts (pointsIn b (pointsAt file at)) (restIn file at) e .0 in
     let n = points-some b (pointsAt file at) p .1 in
     omega (arith, points-count file at)
+
+-- no number of roofs has as many bytes as another with a function
+as-many : (m n : ℕ) (a b : Bool) → roofBytes * m + cond a functionBytes 0 ≡ roofBytes * n + cond b functionBytes 0 → (m ≡ n) × (a ≡ b)
+as-many m n true true e = (omega arith, refl)
+as-many m n true false e = absurd (omega arith)
+as-many m n false true e = absurd (omega arith)
+as-many m n false false e = (omega arith, refl)
 
 -- the end field is no part of a head
 end-first : headFrom 7 endField 0 ≡ 0
@@ -194,17 +207,17 @@ module _ (file : List ℕ) (ok : whole file .number ≡ 0) where
   first-kept : roofPlace file 0 ≡ roofPlace G 0
   first-kept = ap₂ (λ (n b : ℕ). n + b + roofBytes * 0) place-kept link-bytes-kept
 
-  -- so there are as many roofs
-  many-kept : many file ok ≡ many G okG
+  -- so there are as many roofs, and a function in both or in neither
+  behind-kept : (many file ok ≡ many G okG) × (guided file ≡ guided G)
   unfolding stepsPlace
-  many-kept =
+  behind-kept =
       let e : h ≡ stepsPlace file = head-place file ok in
       let g : headFrom (length G) G 0 ≡ stepsPlace G = head-place G okG in
       let s = head-end-same in
       let p = first-kept in
       let m = many-is file ok in
       let n = many-is G okG in
-      omega arith
+      as-many (many file ok) (many G okG) (guided file) (guided G) (omega arith)
 
   -- ---- the site
   head-kept : siteOf file .head ≡ siteOf G .head
@@ -279,17 +292,42 @@ module _ (file : List ℕ) (ok : whole file .number ≡ 0) where
   roofs-same =
       sym (roofs-told file ok
       ∙ map-every (roofAt file) (roofAt G) roofBytes (many file ok) (roofPlace file 0) roof-kept
-      ∙ ap₂ (λ (n p : ℕ). map (roofAt G) (every roofBytes n p [])) many-kept first-kept
+      ∙ ap₂ (λ (n p : ℕ). map (roofAt G) (every roofBytes n p [])) (behind-kept .0) first-kept
       ∙ sym (roofs-told G okG))
 
+  -- ---- the function
+  function-kept : guided file ≡ true → functionAt file (functionPlace file) ≡ functionAt G (functionPlace file)
+  unfolding stepsPlace
+  function-kept e =
+      let p : ℕ = functionPlace file in
+      let t : FunctionThere file p = function-stands file ok e in
+      let one = t .first in
+      let end : h ≡ p + functionBytes = head-place file ok ∙ ap (λ (b : Bool). p + cond b functionBytes 0) e in
+      function-same file G p p (omega arith) (few-points voltVarBounds file (p + 7) (t .curve-in)) (same-head p 136 (omega arith))
+
+  function-place-kept : functionPlace file ≡ functionPlace G
+  unfolding functionPlace
+  function-place-kept = let m = behind-kept .0 in let p = first-kept in omega (arith, many-is file ok, many-is G okG)
+
+  pub leading-same : leadingOf (headFile file) ≡ leadingOf file
+  leading-same =
+      sym (leading-told file ok
+      ∙ go (guided file) refl
+      ∙ ap₂ (λ (b : Bool) (p : ℕ). leadingIn G (cond b (p ∷ []) [])) (behind-kept .1) function-place-kept
+      ∙ sym (leading-told G okG))
+    where
+      go : (b : Bool) → guided file ≡ b → leadingIn file (cond b (functionPlace file ∷ []) []) ≡ leadingIn G (cond b (functionPlace file ∷ []) [])
+      go true e = ap led (function-kept e)
+      go false e = refl
+
   -- ---- no steps are in the head
-  pub no-steps : (s : Sun) → stepsFrom (headFile file) s 0 ≡ []
+  pub no-steps : (d : Due) → stepsFrom (headFile file) d 0 ≡ []
   unfolding stepsFrom stepsIn placesFrom be
-  no-steps s =
+  no-steps d =
       let a = take h file in
       let long : length a ≡ h = head-long file ok in
       let place : headFrom (length G) G 0 ≡ length a + 0 = let e = head-end-same in omega arith in
-      steps-behind-head G okG s ∙ ap (stepsFrom G s) place ∙ steps-shift a endField s 0
+      steps-behind-head G okG d ∙ ap (stepsFrom G d) place ∙ steps-shift a endField d 0
 
 -- ---- all of it
 pub record HeadSays (file : List ℕ) : Type 0 where
@@ -300,8 +338,9 @@ pub record HeadSays (file : List ℕ) : Type 0 where
   pub head-end : headFrom (length (headFile file)) (headFile file) 0 ≡ headFrom (length file) file 0
   pub site : siteOf (headFile file) ≡ siteOf file
   pub roofs : roofsOf (headFile file) ≡ roofsOf file
-  pub steps : (s : Sun) → stepsFrom file s 0 ≡ stepsFrom file s (headFrom (length file) file 0)
-  pub none : (s : Sun) → stepsFrom (headFile file) s 0 ≡ []
+  pub leading : leadingOf (headFile file) ≡ leadingOf file
+  pub steps : (d : Due) → stepsFrom file d 0 ≡ stepsFrom file d (headFrom (length file) file 0)
+  pub none : (d : Due) → stepsFrom (headFile file) d 0 ≡ []
 
 pub head-says : (file : List ℕ) → whole file .number ≡ 0 → HeadSays file
 head-says file ok = record {
@@ -312,6 +351,7 @@ head-says file ok = record {
   head-end = head-end-same file ok;
   site = site-same file ok;
   roofs = roofs-same file ok;
+  leading = leading-same file ok;
   steps = steps-behind-head file ok;
   none = no-steps file ok;
 }

@@ -7,4 +7,4 @@ largest = 195
 
 -- the fields before the steps
 abbrev pub headMost : ℕ
-headMost = 22363
+headMost = 22499

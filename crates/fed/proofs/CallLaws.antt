@@ -114,7 +114,7 @@ module _ (s : List ℕ) (w : wellFormed s ≡ true) (some : numberIn s ≡ 0 →
       let is : stopped s ≡ true = sym (ap (λ (x : Bool). cond x (going s) (stopped s)) (ne-eqb n 0 some)) ∙ b in
       let x = between 1 9 n || eqb n 12 in
       let y = leb (stepsKept s) 65535 in
-      let z = leb (placeIn s) (placeMost + 46 * stepsKept s) in
+      let z = leb (placeIn s) (placeMost + 51 * stepsKept s) in
       let three = and-parts (x && y && z) (clear s 13 stateSize) is .0 in
       go (between 1 9 n) refl (and-parts x y (and-parts (x && y) z three .0) .0)
     where
@@ -250,7 +250,7 @@ abbrev pub fault-by : Bool → Bool → ℕ
 fault-by none ended = cond (not none) 1 (cond ended 0 8)
 
 module _ (k : Kept) (well : WellKept k) where
-  end-place : k .place - length (k .tail) ≤ placeMost + 46 * k .state .steps
+  end-place : k .place - length (k .tail) ≤ placeMost + 51 * k .state .steps
   end-place = let m = place-most k well in omega arith
 
   module _ (e : endFault k ≡ 0 → ⊥) where
@@ -284,7 +284,7 @@ module _ (k : Kept) (well : WellKept k) where
         go true ex y f = eqb-true (length (k .tail)) 0 ex
         go false ex y f = absurd (omega arith)
 
-    over-place : k .place ≤ placeMost + 46 * k .state .steps
+    over-place : k .place ≤ placeMost + 51 * k .state .steps
     over-place = let m = place-most k well in let t = no-tail in omega arith
 
     nine : Refusal 9

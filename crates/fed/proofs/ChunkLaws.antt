@@ -12,7 +12,7 @@ use borrow.Author.Tests.{leb-true, leb-false, le-leb, eq-eqb}
 use Rattle.fields.specs.declared.State.{State}
 use Rattle.stick.specs.declared.Reached.{Reached}
 use Rattle.stick.specs.Check.{reachOf}
-use Rattle.stick.specs.Site.{placesFrom, stepsIn, sunIn, stepsFrom, sunFrom, headFrom}
+use Rattle.stick.specs.Site.{placesFrom, stepsIn, dueIn, stepsFrom, dueFrom, headFrom}
 use Rattle.chunks.specs.Sizes.{largest}
 use Rattle.stretch.specs.Stretch.{recordsFrom}
 use Rattle.kept.specs.Kept.{Kept, atStart}
@@ -20,7 +20,7 @@ use Rattle.kept.specs.Layout.{stoppedBytes, bytesFor, keptIn}
 use Rattle.kept.specs.Formed.{wellFormed}
 use Rattle.kept.specs.Posts.{WellKept}
 use Rattle.kept.proofs.KeptLaws.{kept-back, kept-number, kept-formed, stopped-tail}
-use Rattle.taking.specs.Chunk.{goneBy, siteAfter, standsFirst, onFirst, stepsBy, absorbed, resultsBy, fedBy, resultsFor}
+use Rattle.taking.specs.Chunk.{goneBy, siteAfter, standsBefore, stepsBy, absorbed, resultsBy, fedBy, resultsFor}
 use Rattle.taking.proofs.FedLaws.{gone-upto, gone-number, gone-state, gone-place, gone-stays, fed-twice, results-for-twice}
 use Rattle.taking.proofs.WellLaws.{start-well, fed-well}
 use Rattle.feed.specs.Answers.{roomFor, feedNumber, faultLeaves}
@@ -181,11 +181,11 @@ unfolding goneBy reachOf
 start-none = omega arith
 
 start-fed : fedBy atStart [] ≡ atStart
-unfolding fedBy goneBy reachOf absorbed siteAfter headFrom standsFirst onFirst stepsBy stepsFrom stepsIn placesFrom sunFrom sunIn
+unfolding fedBy goneBy reachOf absorbed siteAfter headFrom standsBefore stepsBy stepsFrom stepsIn placesFrom dueFrom dueIn
 start-fed = refl
 
 start-results : resultsFor atStart [] ≡ []
-unfolding resultsFor goneBy reachOf resultsBy siteAfter headFrom standsFirst onFirst stepsBy stepsFrom stepsIn placesFrom recordsFrom
+unfolding resultsFor goneBy reachOf resultsBy siteAfter headFrom standsBefore stepsBy stepsFrom stepsIn placesFrom recordsFrom
 start-results = refl
 
 first-after : first ≡ after atStart []

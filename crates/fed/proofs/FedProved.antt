@@ -1,6 +1,6 @@
 -- A file of any size, fed in any chunks from the start on, against the walk over the whole of it: `fed-law`. Assumes nothing.
 use mathlib.Core.Path.{_≡_, refl, sym, ap, ap₂, _∙_}
-use mathlib.Core.Bool.{Bool, true, false, cond, _||_}
+use mathlib.Core.Bool.{Bool, true, false, cond}
 use mathlib.Core.List.{List, _++_}
 use Prim.Native.Nat.{ℕ, _+_, _-_, _≤_, _<_}
 use native.Mathlib.Omega.{arith}
@@ -8,31 +8,29 @@ use lib.Dec.{leb, eqb}
 use lib.ListN.{length, take, length-drop}
 use lib.Seq.{take-all}
 use borrow.Author.Tests.{leb-true, leb-false, eqb-true, eqb-false, eq-eqb, ne-eqb}
-use Rattle.solar.specs.Weather.{dark}
 use Rattle.solar.specs.Roof.{Roof}
 use Rattle.site.specs.declared.Step.{Step}
-use Rattle.site.specs.Site.{Site}
+use Rattle.lead.specs.Lead.{Leading}
+use Rattle.site.specs.Site.{Site, Plant, noneYet}
 use Rattle.fields.specs.declared.State.{State}
 use Rattle.stick.specs.declared.Answer.{Answer}
 use Rattle.stick.specs.declared.Reached.{Reached}
 use Rattle.stick.specs.Check.{answer, ends, start, walk}
-use Rattle.stick.specs.Site.{siteOf, roofsOf, stepsFrom, stepsOf}
+use Rattle.stick.specs.Site.{siteOf, roofsOf, leadingOf, plantOf, stepsFrom, stepsOf}
 use Rattle.stick.specs.Posts.{answered}
 use Rattle.stick.proofs.ReachLaws.{walk-reach}
 use Rattle.records.specs.Records.{endOf, endBytes}
-use Rattle.roofs.specs.Roofs.{allOff}
-use Rattle.fleet.specs.Step.{atFirst}
-use Rattle.stretch.specs.Stretch.{recordsFrom}
+use Rattle.stretch.specs.Stretch.{standsFirst, recordsFrom}
 use Rattle.season.specs.Run.{resultBy, resultOf}
 use Rattle.chunks.proofs.ReachChunks.{far-all, far-cut}
 use Rattle.chunks.proofs.HeadFile.{headFile}
 use Rattle.chunks.proofs.SiteChunks.{HeadSays, head-says}
-use Rattle.kept.specs.Kept.{Kept, begun, atStart}
+use Rattle.kept.specs.Kept.{Kept, begunAt, begun, atStart}
 use Rattle.kept.specs.Layout.{placeIn, stepsKept, keptIn, bytesFor}
 use Rattle.kept.specs.Formed.{wellFormed}
 use Rattle.kept.specs.Posts.{WellKept}
 use Rattle.kept.proofs.KeptLaws.{kept-back, kept-number, kept-formed}
-use Rattle.taking.specs.Chunk.{headIn, goneBy, siteAfter, standsFirst, onFirst, stepsBy, absorbed, resultsBy, fedBy, resultsFor}
+use Rattle.taking.specs.Chunk.{headIn, goneBy, siteAfter, standsBefore, stepsBy, absorbed, resultsBy, fedBy, resultsFor}
 use Rattle.taking.proofs.LeadLaws.{steps-counted}
 use Rattle.taking.proofs.TwiceLaws.{site-by}
 use Rattle.taking.proofs.FedLaws.{gone-leads}
@@ -167,7 +165,7 @@ module _ (file : List ℕ) where
             absurd (omega arith)
 
     has-begun : begun (goneBy atStart file .state) ≡ true
-    has-begun = ap (λ (n : ℕ). eqb n 0 || eqb n 4 || eqb n 8) ended
+    has-begun = ap begunAt ended
 
     says : HeadSays file
     says = head-says file ok
@@ -178,29 +176,34 @@ module _ (file : List ℕ) where
     site-is : siteAfter atStart file (goneBy atStart file .state) ≡ headFile file
     site-is = site-by atStart file (goneBy atStart file .state) false true refl has-begun
 
-    abbrev results-of : List ℕ → List Step → List ℕ
-    results-of site steps = recordsFrom (siteOf site) (roofsOf site) 0 (atFirst (siteOf site .units)) (allOff (roofsOf site)) steps
+    abbrev results-of : Plant → List Step → List ℕ
+    results-of p steps = recordsFrom p 0 (standsFirst p) steps
 
-    results-by : resultsBy atStart file (goneBy atStart file .state) ≡ results-of (siteAfter atStart file (goneBy atStart file .state)) (stepsFrom file dark (headIn file))
-    unfolding resultsBy standsFirst onFirst stepsBy
+    plant-is : plantOf (siteAfter atStart file (goneBy atStart file .state)) ≡ plantOf file
+    unfolding plantOf
+    plant-is =
+        ap plantOf site-is
+        ∙ ap₂ (λ (s : Site) (r : List Roof). record { site = s; roofs = r; leading = leadingOf (headFile file) }) (says .site) (says .roofs)
+        ∙ ap (λ (l : Leading). record { site = siteOf file; roofs = roofsOf file; leading = l }) (says .leading)
+
+    results-by : resultsBy atStart file (goneBy atStart file .state) ≡ results-of (plantOf (siteAfter atStart file (goneBy atStart file .state))) (stepsFrom file noneYet (headIn file))
+    unfolding resultsBy standsBefore stepsBy
     results-by = refl
 
-    results-are : resultsFor atStart file ≡ recordsFrom (siteOf file) (roofsOf file) 0 (atFirst (siteOf file .units)) (allOff (roofsOf file)) (stepsOf file)
+    results-are : resultsFor atStart file ≡ results-of (plantOf file) (stepsOf file)
     unfolding resultsFor stepsOf
     results-are =
-        let s = says in
         ap (λ (w : List ℕ). resultsBy atStart w (goneBy atStart file .state)) all-taken
         ∙ results-by
-        ∙ ap₂ results-of site-is (sym (s .steps dark))
-        ∙ ap₂ (λ (x : Site) (y : List Roof). recordsFrom x y 0 (atFirst (x .units)) (allOff y) (stepsFrom file dark 0)) (s .site) (s .roofs)
+        ∙ ap₂ results-of plant-is (sym (says .steps noneYet))
 
     steps-are : goneBy atStart file .state .steps ≡ length (stepsOf file)
     unfolding stepsOf
     steps-are =
         let w = take (goneBy atStart file .at) file in
-        let n : 0 + length (stepsFrom w dark (headIn w)) ≡ goneBy atStart file .state .steps = steps-counted w (gone-leads atStart file) dark in
-        let m : length (stepsFrom w dark (headIn w)) ≡ length (stepsFrom file dark (headIn file)) = ap (λ (x : List ℕ). length (stepsFrom x dark (headIn x))) all-taken in
-        let o : length (stepsFrom file dark 0) ≡ length (stepsFrom file dark (headIn file)) = ap length (says .steps dark) in
+        let n : 0 + length (stepsFrom w noneYet (headIn w)) ≡ goneBy atStart file .state .steps = steps-counted w (gone-leads atStart file) noneYet in
+        let m : length (stepsFrom w noneYet (headIn w)) ≡ length (stepsFrom file noneYet (headIn file)) = ap (λ (x : List ℕ). length (stepsFrom x noneYet (headIn x))) all-taken in
+        let o : length (stepsFrom file noneYet 0) ≡ length (stepsFrom file noneYet (headIn file)) = ap length (says .steps noneYet) in
         omega arith
 
     steps-kept : keptIn (after atStart file) .state .steps ≡ length (stepsOf file)

@@ -248,16 +248,16 @@ none-filled n = ap (λ (k : ℕ). replicate k 0) less
     less = omega arith
 
 started-so : (s zeros : List ℕ) → length s ≡ stateSize → length zeros ≡ siteMost → zeros ≡ filled siteMost [] → (t u v : List ℕ)
-    → t ≡ laid s sitePlace zeros → u ≡ laid t heldPlace (standsOf [] [] []) → v ≡ laid u 0 (topOf (markOf atStart) [])
+    → t ≡ laid s sitePlace zeros → u ≡ laid t heldPlace (standsOf [] [] [] []) → v ≡ laid u 0 (topOf (markOf atStart) [])
     → v ≡ bytesFor atStart
 unfolding bytesFor
 started-so s zeros long l z t u v a b d =
     let same : length t ≡ length s = ap length a ∙ laid-length s sitePlace zeros (omega arith) in
-    kept-after t (markOf atStart) [] [] [] [] (same ∙ long) (omega arith) (omega arith) u v b d
-    ∙ ap (λ (r : List ℕ). topOf (markOf atStart) [] ++ standsOf [] [] [] ++ r) (laid-last s zeros sitePlace (omega arith) t a ∙ z)
+    kept-after t (markOf atStart) [] [] [] [] [] (same ∙ long) (omega arith) (omega arith) (omega arith) u v b d
+    ∙ ap (λ (r : List ℕ). topOf (markOf atStart) [] ++ standsOf [] [] [] [] ++ r) (laid-last s zeros sitePlace (omega arith) t a ∙ z)
 
 pub started : (s : List ℕ) → length s ≡ stateSize → (t u v : List ℕ)
-    → t ≡ laid s sitePlace (replicate siteMost 0) → u ≡ laid t heldPlace (standsOf [] [] []) → v ≡ laid u 0 (topOf (markOf atStart) [])
+    → t ≡ laid s sitePlace (replicate siteMost 0) → u ≡ laid t heldPlace (standsOf [] [] [] []) → v ≡ laid u 0 (topOf (markOf atStart) [])
     → (0 ≡ startNumber s) × (v ≡ startLeaves s)
 started s long t u v a b d =
     let e = start-by s true (eq-eqb (length s) stateSize long) in

@@ -91,7 +91,7 @@ module _ (s chunk room : List ℕ) where
     place-is = ap₂ _+_ (ap₂ _-_ (mark-place s m em) (mark-tail s m em going)) (ap (λ (x : Reached). x .at) er)
 
     -- the place of a fault is far from the last number
-    pub place-near : m .place - m .tail + r .at ≤ placeMost + 46 * 65535
+    pub place-near : m .place - m .tail + r .at ≤ placeMost + 51 * 65535
     place-near = omega (arith, place-is, stop-place k (open-well s going) chunk, stop-few k (open-well s going) chunk)
 
     -- a fault

@@ -18,7 +18,7 @@ use Rattle.kept.specs.Kept.{Kept}
 use Rattle.kept.specs.Layout.{knownBy}
 use Rattle.kept.specs.Posts.{WellKept}
 use Rattle.taking.specs.Chunk.{goneBy}
-use Rattle.taking.proofs.TookLaws.{Took, fleet, unit, settings, connections, inverter, warm, efficiency, reading, weather, end, took}
+use Rattle.taking.proofs.TookLaws.{Took, fleet, unit, settings, connections, inverter, warm, efficiency, function, volt-var, reading, weather, voltage, end, took}
 use Rattle.taking.proofs.LedLaws.{led}
 use Rattle.taking.proofs.FedLaws.{gone-leads}
 
@@ -28,13 +28,11 @@ pub record Few (st : State) : Type 0 where
 
 -- one field
 module _ (file : List ℕ) (st : State) (i : ℕ) (m : State) (few : Few st) where
+  alike : m .units ≡ st .units → m .left ≡ st .left → Few m
+  alike u l = let a = few .units in let b = few .left in record { units = omega arith; left = omega arith }
+
   same : (stage steps : ℕ) → m ≡ goneTo st stage (st .left) steps → Few m
-  same stage steps is =
-      let u : m .units ≡ st .units = ap (λ (s : State). s .units) is in
-      let l : m .left ≡ st .left = ap (λ (s : State). s .left) is in
-      let a = few .units in
-      let b = few .left in
-      record { units = omega arith; left = omega arith }
+  same stage steps is = alike (ap (λ (s : State). s .units) is) (ap (λ (s : State). s .left) is)
 
   took-few : Took file st i m → Few m
   took-few (fleet t s p v is) =
@@ -64,8 +62,11 @@ module _ (file : List ℕ) (st : State) (i : ℕ) (m : State) (few : Few st) whe
       record { units = omega arith; left = omega arith }
   took-few (warm t s is) = same 7 (st .steps) is
   took-few (efficiency t s is) = same 5 (st .steps) is
+  took-few (function t s is) = alike (ap (λ (s : State). s .units) is) (ap (λ (s : State). s .left) is)
+  took-few (volt-var t s is) = same 12 (st .steps) is
   took-few (reading t s a b below is) = same 4 (st .steps + 1) is
   took-few (weather t s p is) = same 8 (st .steps) is
+  took-few (voltage t s p v is) = same 11 (st .steps) is
   took-few (end t s p is) = same 0 (st .steps) is
 
 -- fields one by one

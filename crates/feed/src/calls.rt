@@ -10,9 +10,11 @@ use fields::State;
 use kept::Mark;
 use kept::SITE;
 use kept::SIZE;
+use lead::Voltage;
 use records::END_BYTES;
 use records::RECORD_BYTES;
 use records::ROOF_RECORD_BYTES;
+use site::Due;
 use solar::Sun;
 
 // What a state answers before its call is looked at: 0 where the run goes on.
@@ -114,9 +116,12 @@ pub fn start(s: &mut [u8]) -> u8
         state: fields::first(),
         site: 0,
         tail: 0,
-        sun: Sun {
-            irradiance: 0,
-            temperature: 0,
+        due: Due {
+            sun: Sun {
+                irradiance: 0,
+                temperature: 0,
+            },
+            voltage: Voltage::Unsaid,
         },
     };
     kept::zero(s, SITE, SIZE);

@@ -10,10 +10,11 @@ use Rattle.figures.specs.Further.{further}
 use Rattle.figures.specs.Roofs.{roofs}
 use Rattle.figures.specs.Limits.{limits}
 use Rattle.figures.specs.Currents.{currents}
+use Rattle.figures.specs.Voltages.{voltages}
 
 abbrev all : List Row
-all = table ++ further ++ roofs ++ limits ++ currents
+all = table ++ further ++ roofs ++ limits ++ currents ++ voltages
 
 pub figures-hold : map (λ (r : Row). r .given) all ≡ map (λ (r : Row). r .stated) all
-unfolding table further roofs limits currents toBits div ofInt wattsOf choiceOf
+unfolding table further roofs limits currents voltages toBits div ofInt wattsOf choiceOf
 figures-hold = refl

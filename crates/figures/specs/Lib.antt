@@ -5,3 +5,4 @@ pub mod Further
 pub mod Roofs
 pub mod Limits
 pub mod Currents
+pub mod Voltages

@@ -24,7 +24,7 @@ use Rattle.storage.specs.Step.{steppedOf}
 use Rattle.storage.specs.Answers.{stepCall}
 use Rattle.stick.specs.declared.Answer.{Answer}
 use Rattle.fields.specs.declared.State.{State}
-use Rattle.fields.specs.Fields.{atSteps, stateOf}
+use Rattle.fields.specs.Fields.{flags, atSteps, stateOf}
 use Rattle.stick.specs.Check.{fieldAt, takenCall, checkOf}
 use Rattle.season.specs.Answers.{runAnswer, runLeaves}
 
@@ -96,7 +96,7 @@ step u seconds request = said (λ (o : Outcome). o .watts ∷ o .vars ∷ pos (o
 -- the first field of these bytes, where a step is waited for and so many are accepted: the steps then
 unfoldable pub field : ℕ → List ℕ → List ℤ
 unfolding fieldAt
-field steps file = said (λ (s : State). pos (s .steps) ∷ []) (takenCall 0 steps (fieldAt (stateOf atSteps 1 1 0 steps false) file 0))
+field steps file = said (λ (s : State). pos (s .steps) ∷ []) (takenCall 0 steps (fieldAt (stateOf atSteps 1 1 0 steps (flags false false)) file 0))
 
 -- the check of a file; and a run into a room of n bytes, all 255: the answer, and what the room then holds
 abbrev pub answered : Answer → List ℤ

@@ -1,6 +1,6 @@
--- One step of a site: a pass keeps the number of requests; a loop over the units that replaces each store and lays each record behind the one before
--- has laid all of them; and no store rises above rated. Assumes nothing.
-use mathlib.Core.Path.{_≡_, refl, sym, ap, ap₂, _∙_, subst}
+-- One step of a site: a pass keeps the number of requests; a loop over the units that replaces each store and the vars last requested of each, and lays each
+-- record behind the one before, has laid all of them; no store rises above rated, and the vars kept stay in their bounds. Assumes nothing.
+use mathlib.Core.Path.{_≡_, refl, sym, ap, ap₂, _∙_, subst, subst⁻¹}
 use mathlib.Core.List.{List, []}
 use Prim.Native.Nat.{ℕ, zero, suc, _+_, _*_, _^_, _≤_, _<_}
 use native.Mathlib.Nat.{le-trans, le-of-eq}
@@ -9,10 +9,9 @@ use native.Mathlib.Omega.{arith}
 use lib.IntN.{ℤ, pos, natAbs}
 use lib.Signed.{mag}
 use lib.ListN.{length, getD, set}
-use mir.Syntax.{w64}
+use mir.Syntax.{w32, w64}
 use mir.Val.{toZ, ofZ}
 use Rattle.whole.proofs.SignLaws.{read}
-use Rattle.whole.specs.Over.{each}
 use Rattle.whole.proofs.OverLaws.{each-length, each-at, part, part-none, part-all, part-length, part-next, part-more}
 use Rattle.octets.specs.BigEndian.{laid}
 use Rattle.octets.proofs.LaidLaws.{laid-length}
@@ -33,16 +32,20 @@ use Rattle.controller.specs.Posts.{Sound}
 use Rattle.controller.proofs.SoundLaws.{rows-sound}
 use Rattle.controller.proofs.StandsLaws.{pass-length}
 use Rattle.storage.specs.declared.Outcome.{Outcome}
-use Rattle.storage.specs.Step.{stepOf}
-use Rattle.storage.proofs.ReliedProved.{relied}
+use Rattle.lead.specs.declared.Lead.{Lead}
+use Rattle.lead.specs.Posts.{Modest}
+use Rattle.guided.specs.Units.{ledStep, varsKept, LedLaw}
+use Rattle.guided.specs.Posts.{Guiding}
+use Rattle.guided.proofs.LedProved.{led-law}
+use Rattle.guided.proofs.SharedLaws.{back, small-same}
 use Rattle.site.specs.declared.Head.{Head}
-use Rattle.site.specs.declared.Step.{Step}
 use Rattle.site.specs.Site.{Site, count, unitOf}
 use Rattle.site.specs.Ranges.{Sited}
 use Rattle.records.specs.Records.{recordOf}
 use Rattle.records.proofs.LayLaws.{behind, both, nothing, record-length}
-use Rattle.fleet.specs.Step.{standing, passedOn, askedBy, given, storedAfter, recordsOf, after, recordsBy}
-use Rattle.fleet.specs.Posts.{Held, siteBy, measuredBy}
+use Rattle.fleet.specs.declared.Moment.{Moment}
+use Rattle.fleet.specs.Step.{standing, passedOn, askedBy, given, keptVars, storedAfter, varsAfter, recordsOf, after, recordsBy}
+use Rattle.fleet.specs.Posts.{Stored, Held, siteBy, measuredBy}
 use Rattle.fleet.proofs.SiteLaws.{held-ranged, rows-count, row-unit, rows-below, rows-in, rows-some, rows-few}
 
 -- ---- the pass, or none
@@ -108,122 +111,193 @@ measured-small (Current p) phase m e = current-small p phase m e
 
 -- what the pass counts on, from a site in its ranges and what stands
 pub ask-sound : (head : Head) (rows : List (List ℕ)) (stored : List ℕ) (rs : List ℤ) (r : Reading) (m : ℤ) → measuredBy r (head .phase) ≡ Chosen m → mag m < 2 ^ 63
-    → Sited (siteBy head rows) → Held (siteBy head rows) stored rs → Sound (head .settings) (toZ w64 (ofZ w64 m)) (fleetBy rows stored) (length rs)
-ask-sound head rows stored rs r m e fits h st =
+    → Sited (siteBy head rows) → length stored ≡ count (siteBy head rows) → length rs ≡ count (siteBy head rows) → Stored (siteBy head rows) stored
+    → Sound (head .settings) (toZ w64 (ofZ w64 m)) (fleetBy rows stored) (length rs)
+ask-sound head rows stored rs r m e fits h stores asks within =
     let small : natAbs m ≤ 300000000 = measured-small r (head .phase) m e in
     let n = rows-count head rows in
-    subst (λ (k : ℕ). Sound (head .settings) (toZ w64 (ofZ w64 m)) (fleetBy rows stored) k) (sym (st .asks ∙ n))
+    subst (λ (k : ℕ). Sound (head .settings) (toZ w64 (ofZ w64 m)) (fleetBy rows stored) k) (sym (asks ∙ n))
     (subst (λ (z : ℤ). Sound (head .settings) z (fleetBy rows stored) (length rows)) (sym (read w64 m fits))
-    (rows-sound rows (rows-in head rows h) (rows-few head rows h) (rows-some head rows h) (head .settings) (h .settings) stored (st .stores ∙ n)
-    (λ i l. le-trans (st .within i (le-trans l (le-of-eq (sym n)))) (le-of-eq (ap (λ (u : Unit). u .rated) (row-unit head rows i))))
+    (rows-sound rows (rows-in head rows h) (rows-few head rows h) (rows-some head rows h) (head .settings) (h .settings) stored (stores ∙ n)
+    (λ i l. le-trans (within i (le-trans l (le-of-eq (sym n)))) (le-of-eq (ap (λ (u : Unit). u .rated) (row-unit head rows i))))
     (λ i l. le-trans (le-of-eq (ap (λ (u : Unit). u .link) (sym (row-unit head rows i)))) (h .links i (rows-below head rows i l))) m small))
 
 -- ---- a unit's step, of its row
-pub given-is : (head : Head) (rows : List (List ℕ)) (i s : ℕ) (r : ℤ) (o : Outcome) → o ≡ stepOf (holding (unitBy (getD rows i [])) s) (head .seconds) r
-    → o ≡ given (siteBy head rows) i s r
-unfolding given
-given-is head rows i s r o e = e ∙ ap (λ (u : Unit). stepOf (holding u s) (head .seconds) r) (sym (row-unit head rows i))
+module _ (head : Head) (rows : List (List ℕ)) (l : Lead) (i s : ℕ) (r v : ℤ) where
+  pub given-is : (o : Outcome) → o ≡ ledStep l (holding (unitBy (getD rows i [])) s) v (head .seconds) r → o ≡ given (siteBy head rows) l i s r v
+  unfolding given
+  given-is o e = e ∙ ap (λ (u : Unit). ledStep l (holding u s) v (head .seconds) r) (sym (row-unit head rows i))
+
+  pub kept-is : (k : ℤ) → k ≡ varsKept l (holding (unitBy (getD rows i [])) s) v (head .seconds) r → k ≡ keptVars (siteBy head rows) l i s r v
+  unfolding keptVars
+  kept-is k e = e ∙ ap (λ (u : Unit). varsKept l (holding u s) v (head .seconds) r) (sym (row-unit head rows i))
 
 -- ---- the records
-pub records-length : (n : ℕ) (site : Site) (step : ℕ) (stored : List ℕ) (rs : List ℤ) → length (recordsOf n site step stored rs) ≡ 40 * n
+pub records-length : (n : ℕ) (site : Site) (l : Lead) (step : ℕ) (stored : List ℕ) (rs vs : List ℤ) → length (recordsOf n site l step stored rs vs) ≡ 40 * n
 unfolding recordsOf
-records-length zero site step stored rs = refl
-records-length (suc n) site step stored rs =
-    let r = recordOf step n (getD rs n (pos 0)) (given site n (getD stored n 0) (getD rs n (pos 0))) in
-    let l : length r ≡ 40 = record-length step n (getD rs n (pos 0)) (given site n (getD stored n 0) (getD rs n (pos 0))) in
+records-length zero site l step stored rs vs = refl
+records-length (suc n) site l step stored rs vs =
+    let o = given site l n (getD stored n 0) (getD rs n (pos 0)) (getD vs n (pos 0)) in
     let e : 40 * n + 40 ≡ 40 * suc n = omega arith in
-    both (recordsOf n site step stored rs) r (40 * n) 40 (records-length n site step stored rs) l ∙ e
+    both (recordsOf n site l step stored rs vs) (recordOf step n (getD rs n (pos 0)) o) (40 * n) 40
+    (records-length n site l step stored rs vs) (record-length step n (getD rs n (pos 0)) o) ∙ e
 
 -- ---- the loop over the units
-module _ (site : Site) (step : ℕ) (stored : List ℕ) (rs : List ℤ) (room : List ℕ) (at : ℕ) where
-  -- what a unit holds afterwards
-  abbrev pub left : ℕ → ℕ → ℕ
-  left i s = given site i s (getD rs i (pos 0)) .stored
+module _ (site : Site) (m : Moment) (stored : List ℕ) (rs vs : List ℤ) (room : List ℕ) where
+  -- what a unit does, what it holds afterwards, and the vars then kept
+  abbrev does : ℕ → Outcome
+  does i = given site (m .lead) i (getD stored i 0) (getD rs i (pos 0)) (getD vs i (pos 0))
 
-  pub record Giving (i : ℕ) (now-stored now-room : List ℕ) : Type 0 where
+  abbrev left : ℕ → ℕ → ℕ
+  left i s = given site (m .lead) i s (getD rs i (pos 0)) (getD vs i (pos 0)) .stored
+
+  abbrev kept : ℕ → ℤ → ℤ
+  kept i v = keptVars site (m .lead) i (getD stored i 0) (getD rs i (pos 0)) v
+
+  abbrev records : ℕ → List ℕ
+  records n = recordsOf n site (m .lead) (m .step) stored rs vs
+
+  records-long : (n : ℕ) → length (records n) ≡ 40 * n
+  records-long n = records-length n site (m .lead) (m .step) stored rs vs
+
+  pub record Giving (i : ℕ) (now-stored : List ℕ) (now-vars : List ℤ) (now-room : List ℕ) : Type 0 where
     pub upto : i ≤ count site
     pub stored-is : now-stored ≡ part left stored i
-    pub room-is : now-room ≡ laid room at (recordsOf i site step stored rs)
+    pub vars-is : now-vars ≡ part kept vs i
+    pub room-is : now-room ≡ laid room (m .at) (records i)
 
-  pub none-given : Giving 0 stored room
+  pub none-given : Giving 0 stored vs room
   unfolding recordsOf
-  none-given = record { upto = omega arith; stored-is = sym (part-none left stored); room-is = nothing room at }
+  none-given = record {
+    upto = omega arith;
+    stored-is = sym (part-none left stored);
+    vars-is = sym (part-none kept vs);
+    room-is = nothing room (m .at);
+  }
 
-  module _ (fits : at + 40 * count site ≤ length room) (same : length stored ≡ count site) (i : ℕ) (now-stored now-room : List ℕ) (g : Giving i now-stored now-room) where
-    -- the room's length has not changed
-    pub room-length : length now-room ≡ length room
-    room-length =
-        let l : length (recordsOf i site step stored rs) ≡ 40 * i = records-length i site step stored rs in
+  module _ (st : Held site stored rs vs) (y : Modest (m .lead)) (fits : m .at + 40 * count site ≤ length room) (i : ℕ) (now-stored : List ℕ) (now-vars : List ℤ) (now-room : List ℕ)
+      (g : Giving i now-stored now-vars now-room) where
+    upto-stored : i ≤ length stored
+    upto-stored = le-trans (g .upto) (le-of-eq (sym (st .stores)))
+
+    upto-vars : i ≤ length vs
+    upto-vars = le-trans (g .upto) (le-of-eq (sym (st .leads)))
+
+    -- the lengths have not changed
+    pub lengths : (length now-stored ≡ length stored) × ((length now-vars ≡ length vs) × (length now-room ≡ length room))
+    lengths =
         let u = g .upto in
-        ap length (g .room-is) ∙ laid-length room at (recordsOf i site step stored rs) (omega arith)
+        let e = records-long i in (
+          ap length (g .stored-is) ∙ part-length left stored i upto-stored,
+          (
+            ap length (g .vars-is) ∙ part-length kept vs i upto-vars,
+            ap length (g .room-is) ∙ laid-length room (m .at) (records i) (omega arith),
+          ),
+        )
 
-    pub stored-length : length now-stored ≡ length stored
-    stored-length = let u = g .upto in ap length (g .stored-is) ∙ part-length left stored i (omega arith)
+    -- the next unit holds what it held, no more than rated, and its vars are as they were
+    module _ (h : i < count site) where
+      in-stored : i < length stored
+      in-stored = le-trans h (le-of-eq (sym (st .stores)))
 
-    -- the next unit holds what it held
-    pub next-holds : i < length stored → getD now-stored i 0 ≡ getD stored i 0
-    next-holds h = ap (λ (t : List ℕ). getD t i 0) (g .stored-is) ∙ part-next left stored i 0 h
+      in-vars : i < length vs
+      in-vars = le-trans h (le-of-eq (sym (st .leads)))
 
-    -- one unit more
-    pub one-more : (o : Outcome) (request : ℤ) (then-stored then-room : List ℕ) → i < count site → request ≡ getD rs i (pos 0) → o ≡ given site i (getD now-stored i 0) request
-        → then-stored ≡ set now-stored i (o .stored) → then-room ≡ laid now-room (at + 40 * i) (recordOf step i request o) → Giving (i + 1) then-stored then-room
-    unfolding recordsOf
-    one-more o request then-stored then-room h er eo es em =
-        let k : i < length stored = le-trans h (le-of-eq (sym same)) in
-        let here = next-holds k in
-        let is : o ≡ given site i (getD stored i 0) (getD rs i (pos 0)) = eo ∙ ap₂ (given site i) here er in
-        let more = recordOf step i (getD rs i (pos 0)) (given site i (getD stored i 0) (getD rs i (pos 0))) in
-        let there : then-room ≡ laid now-room (at + 40 * i) more = em ∙ ap (laid now-room (at + 40 * i)) (ap₂ (recordOf step i) er is) in
-        record {
-          upto = omega arith;
-          stored-is = es ∙ ap (λ (t : List ℕ). set t i (o .stored)) (g .stored-is) ∙ part-more left stored i 0 (o .stored) k (ap (λ (x : Outcome). x .stored) is);
-          room-is =
-              behind room at (omega arith) (recordsOf i site step stored rs) more (40 * i) (records-length i site step stored rs) now-room then-room (g .room-is) there
-              ∙ ap (λ (n : ℕ). laid room at (recordsOf n site step stored rs)) (sym (add-one i));
-        }
+      next-holds : getD now-stored i 0 ≡ getD stored i 0
+      next-holds = ap (λ (t : List ℕ). getD t i 0) (g .stored-is) ∙ part-next left stored i 0 in-stored
 
-    -- and that is no more than rated
-    pub next-within : Held site stored rs → i < count site → getD now-stored i 0 ≤ unitOf site i .rated
-    next-within st h = le-trans (le-of-eq (next-holds (le-trans h (le-of-eq (sym same))))) (st .within i h)
+      next-vars : back (getD now-vars i (pos 0)) ≡ getD vs i (pos 0)
+      next-vars =
+          ap (λ (t : List ℤ). back (getD t i (pos 0))) (g .vars-is) ∙ ap back (part-next kept vs i (pos 0) in-vars)
+          ∙ small-same (getD vs i (pos 0)) (st .small i h)
 
-  -- all units
-  pub all-stored : length stored ≡ count site → (i : ℕ) (now-stored now-room : List ℕ) → Giving i now-stored now-room → i ≡ count site → now-stored ≡ storedAfter site stored rs
-  unfolding storedAfter
-  all-stored same i now-stored now-room g e = g .stored-is ∙ ap (part left stored) (e ∙ sym same) ∙ part-all left stored
+      pub next-within : getD now-stored i 0 ≤ unitOf site i .rated
+      next-within = le-trans (le-of-eq next-holds) (st .within i h)
 
-  pub all-laid : (i : ℕ) (now-stored now-room : List ℕ) → Giving i now-stored now-room → i ≡ count site → now-room ≡ laid room at (recordsOf (count site) site step stored rs)
-  all-laid i now-stored now-room g e = g .room-is ∙ ap (λ (n : ℕ). laid room at (recordsOf n site step stored rs)) e
+      pub next-guiding : Guiding (m .lead) (back (getD now-vars i (pos 0)))
+      next-guiding = subst⁻¹ (Guiding (m .lead)) next-vars (record { modest = y; last-small = st .small i h })
 
--- ---- what stands after a step is still a store and a request for each unit, none above rated
-pub still-held : (site : Site) (stored : List ℕ) (rs rs′ : List ℤ) → Sited site → Held site stored rs → length rs′ ≡ length rs → Held site (storedAfter site stored rs′) rs′
-unfolding storedAfter given
-still-held site stored rs rs′ h st e = record {
-  stores = each-length (λ (i s : ℕ). given site i s (getD rs′ i (pos 0)) .stored) stored ∙ st .stores;
-  asks = e ∙ st .asks;
-  within = λ i l.
-      let at : getD (each (λ (j s : ℕ). given site j s (getD rs′ j (pos 0)) .stored) stored) i 0 ≡ given site i (getD stored i 0) (getD rs′ i (pos 0)) .stored =
-      each-at (λ (j s : ℕ). given site j s (getD rs′ j (pos 0)) .stored) stored i 0 (le-trans l (le-of-eq (sym (st .stores)))) in
-      let ranged = held-ranged site h i (getD stored i 0) l (st .within i l) in
-      le-trans (le-of-eq at) (relied (holding (unitOf site i) (getD stored i 0)) (site .head .seconds) (getD rs′ i (pos 0)) (ranged .unit) (ranged .seconds-in) .neverAboveRated);
-}
+      -- one unit more, by what the code reads of the lists
+      pub one-more : mag (getD rs i (pos 0)) < 2 ^ 31
+          → (o : Outcome) → o ≡ given site (m .lead) i (getD now-stored i 0) (back (getD rs i (pos 0))) (back (getD now-vars i (pos 0)))
+          → (k : ℤ) → mag k < 2 ^ 31 → k ≡ keptVars site (m .lead) i (getD now-stored i 0) (back (getD rs i (pos 0))) (back (getD now-vars i (pos 0)))
+          → (then-room : List ℕ) → then-room ≡ laid now-room (m .at + 40 * i) (recordOf (m .step) i (back (getD rs i (pos 0))) o)
+          → Giving (i + 1) (set now-stored i (o .stored)) (set now-vars i (back k)) then-room
+      unfolding recordsOf
+      one-more hr o eo k hk ek then-room em =
+          let er : back (getD rs i (pos 0)) ≡ getD rs i (pos 0) = read w32 (getD rs i (pos 0)) hr in
+          let is : o ≡ does i =
+          eo ∙ ap₂ (λ (s : ℕ) (z : ℤ). given site (m .lead) i s z (back (getD now-vars i (pos 0)))) next-holds er
+          ∙ ap (given site (m .lead) i (getD stored i 0) (getD rs i (pos 0))) next-vars in
+          let kept-is : back k ≡ kept i (getD vs i (pos 0)) =
+          read w32 k hk ∙ ek ∙ ap₂ (λ (s : ℕ) (z : ℤ). keptVars site (m .lead) i s z (back (getD now-vars i (pos 0)))) next-holds er ∙ ap (kept i) next-vars in
+          let more = recordOf (m .step) i (getD rs i (pos 0)) (does i) in
+          let there : then-room ≡ laid now-room (m .at + 40 * i) more = em ∙ ap (laid now-room (m .at + 40 * i)) (ap₂ (recordOf (m .step) i) er is) in
+          record {
+            upto = omega arith;
+            stored-is =
+                ap (λ (t : List ℕ). set t i (o .stored)) (g .stored-is)
+                ∙ part-more left stored i 0 (o .stored) in-stored (ap (λ (x : Outcome). x .stored) is);
+            vars-is = ap (λ (t : List ℤ). set t i (back k)) (g .vars-is) ∙ part-more kept vs i (pos 0) (back k) in-vars kept-is;
+            room-is =
+                behind room (m .at) (omega arith) (records i) more (40 * i) (records-long i) now-room then-room (g .room-is) there
+                ∙ ap (λ (n : ℕ). laid room (m .at) (records n)) (sym (add-one i));
+          }
+
+    -- all units
+    pub all-given : i ≡ count site → (now-stored ≡ storedAfter site (m .lead) stored rs vs)
+        × ((now-vars ≡ varsAfter site (m .lead) stored rs vs) × (now-room ≡ laid room (m .at) (records (count site))))
+    unfolding storedAfter varsAfter
+    all-given e = (
+      g .stored-is ∙ ap (part left stored) (e ∙ sym (st .stores)) ∙ part-all left stored,
+      (
+        g .vars-is ∙ ap (part kept vs) (e ∙ sym (st .leads)) ∙ part-all kept vs,
+        g .room-is ∙ ap (λ (n : ℕ). laid room (m .at) (records n)) e,
+      ),
+    )
+
+-- ---- what stands after a step is still a store, a request and vars for each unit, none above rated, none beyond their bounds
+module _ (site : Site) (l : Lead) (stored : List ℕ) (rs vs rs′ : List ℤ) (h : Sited site) (y : Modest l) (st : Held site stored rs vs) (e : length rs′ ≡ length rs) where
+  law : (i : ℕ) → i < count site → LedLaw l (holding (unitOf site i) (getD stored i 0)) (getD vs i (pos 0)) (site .head .seconds) (getD rs′ i (pos 0))
+  law i b =
+      led-law l (holding (unitOf site i) (getD stored i 0)) (getD vs i (pos 0)) (site .head .seconds) (getD rs′ i (pos 0))
+      (held-ranged site h i (getD stored i 0) b (st .within i b)) (record { modest = y; last-small = st .small i b })
+
+  pub still-held : Held site (storedAfter site l stored rs′ vs) rs′ (varsAfter site l stored rs′ vs)
+  unfolding storedAfter varsAfter given keptVars ledStep
+  still-held = record {
+    stores = each-length (λ (i s : ℕ). given site l i s (getD rs′ i (pos 0)) (getD vs i (pos 0)) .stored) stored ∙ st .stores;
+    asks = e ∙ st .asks;
+    leads = each-length (λ (i : ℕ) (v : ℤ). keptVars site l i (getD stored i 0) (getD rs′ i (pos 0)) v) vs ∙ st .leads;
+    within = λ i b.
+        le-trans (le-of-eq (each-at (λ (j s : ℕ). given site l j s (getD rs′ j (pos 0)) (getD vs j (pos 0)) .stored) stored i 0 (le-trans b (le-of-eq (sym (st .stores))))))
+        (law i b .relied .neverAboveRated);
+    small = λ i b.
+        le-trans (le-of-eq (ap natAbs (each-at (λ (j : ℕ) (v : ℤ). keptVars site l j (getD stored j 0) (getD rs′ j (pos 0)) v) vs i (pos 0) (le-trans b (le-of-eq (sym (st .leads)))))))
+        (law i b .kept-small);
+  }
 
 -- ---- a step: the pass or none, then every unit
-module _ (site : Site) (stored : List ℕ) (rs : List ℤ) (s : Step) (rs′ : List ℤ) (ea : rs′ ≡ askedBy site stored rs (s .reading)) where
+module _ (site : Site) (m : Moment) (stored : List ℕ) (rs vs rs′ : List ℤ) (ea : rs′ ≡ askedBy site stored rs (m .reading)) where
   same-many : length rs′ ≡ length rs
-  same-many = ap length ea ∙ asked-length site stored rs (s .reading)
+  same-many = ap length ea ∙ asked-length site stored rs (m .reading)
 
-  pub asked-held : Held site stored rs → Held site stored rs′
-  asked-held st = record { stores = st .stores; asks = same-many ∙ st .asks; within = st .within }
+  pub asked-held : Held site stored rs vs → Held site stored rs′ vs
+  asked-held st = record { stores = st .stores; asks = same-many ∙ st .asks; leads = st .leads; within = st .within; small = st .small }
 
-  pub step-laid : (step at : ℕ) (room then-room : List ℕ) → then-room ≡ laid room at (recordsOf (count site) site step stored rs′)
-      → then-room ≡ laid room at (recordsBy site step (standing stored rs) s)
+  pub step-laid : (room then-room : List ℕ) → then-room ≡ laid room (m .at) (recordsOf (count site) site (m .lead) (m .step) stored rs′ vs)
+      → then-room ≡ laid room (m .at) (recordsBy site (m .lead) (m .step) (standing stored rs vs) (m .reading))
   unfolding recordsBy
-  step-laid step at room then-room e = e ∙ ap (λ (qs : List ℤ). laid room at (recordsOf (count site) site step stored qs)) ea
+  step-laid room then-room e = e ∙ ap (λ (qs : List ℤ). laid room (m .at) (recordsOf (count site) site (m .lead) (m .step) stored qs vs)) ea
 
-  module _ (then-stored : List ℕ) (es : then-stored ≡ storedAfter site stored rs′) where
-    pub step-standing : standing then-stored rs′ ≡ after site (standing stored rs) s
+  module _ (then-stored : List ℕ) (es : then-stored ≡ storedAfter site (m .lead) stored rs′ vs) (then-vars : List ℤ) (ev : then-vars ≡ varsAfter site (m .lead) stored rs′ vs) where
+    pub step-standing : standing then-stored rs′ then-vars ≡ after site (m .lead) (standing stored rs vs) (m .reading)
     unfolding after
-    step-standing = ap (λ (t : List ℕ). standing t rs′) es ∙ ap (λ (qs : List ℤ). standing (storedAfter site stored qs) qs) ea
+    step-standing =
+        ap₂ (λ (t : List ℕ) (w : List ℤ). standing t rs′ w) es ev
+        ∙ ap (λ (qs : List ℤ). standing (storedAfter site (m .lead) stored qs vs) qs (varsAfter site (m .lead) stored qs vs)) ea
 
-    pub step-held : Sited site → Held site stored rs → Held site then-stored rs′
-    step-held h st = subst (λ (t : List ℕ). Held site t rs′) (sym es) (still-held site stored rs rs′ h st same-many)
+    pub step-held : Sited site → Modest (m .lead) → Held site stored rs vs → Held site then-stored rs′ then-vars
+    step-held h y st =
+        subst⁻¹ (λ (t : List ℕ). Held site t rs′ then-vars) es
+        (subst⁻¹ (Held site (storedAfter site (m .lead) stored rs′ vs) rs′) ev (still-held site (m .lead) stored rs vs rs′ h y st same-many))

@@ -2,7 +2,7 @@
 use Prim.Native.Nat.{ℕ, _≤_, _<_}
 use mathlib.Core.List.{List}
 use mathlib.Core.Path.{_≡_}
-use lib.IntN.{ℤ}
+use lib.IntN.{ℤ, pos, natAbs}
 use lib.ListN.{length, getD}
 use Rattle.reading.specs.declared.Reading.{Reading}
 use Rattle.reading.specs.declared.Reading.the-variants.{Missing, Power, Current}
@@ -30,11 +30,17 @@ pub record Ready (f : Frame) (rows : List (List ℕ)) : Type 0 where
   pub totals : TotalsOf rows (f .totals)
   pub rested : Rested rows
 
--- a store and a request for each unit, no store above rated
-pub record Held (site : Site) (stored : List ℕ) (requests : List ℤ) : Type 0 where
+-- no store above rated
+abbrev pub Stored : Site → List ℕ → Type 0
+Stored site stored = (i : ℕ) → i < count site → getD stored i 0 ≤ unitOf site i .rated
+
+-- a store, a request and vars for each unit, no store above rated, no vars beyond their bounds
+pub record Held (site : Site) (stored : List ℕ) (requests vars : List ℤ) : Type 0 where
   pub stores : length stored ≡ count site
   pub asks : length requests ≡ count site
-  pub within : (i : ℕ) → i < count site → getD stored i 0 ≤ unitOf site i .rated
+  pub leads : length vars ≡ count site
+  pub within : Stored site stored
+  pub small : (i : ℕ) → i < count site → natAbs (getD vars i (pos 0)) ≤ 100000000
 
 -- the measure of a reading, as the code has it: none of a missing one
 unfoldable pub measuredBy : Reading → ℕ → Measure

@@ -1,6 +1,7 @@
 -- What stands between two steps, and one step of a site (rules T1 to T4): one pass on the step's reading, none if it is missing, then one step of every
--- unit; and the step's records.
+-- unit, by what leads it; and the step's records.
 use Prim.Native.Nat.{ℕ, zero, suc, _*_}
+use mathlib.Core.Bool.{Bool}
 use mathlib.Core.List.{List, [], _++_, map}
 use lib.IntN.{ℤ, pos}
 use lib.ListN.{length, getD, replicate}
@@ -14,22 +15,30 @@ use Rattle.unit.specs.Ranges.{holding}
 use Rattle.members.specs.Ranges.{fleetFor}
 use Rattle.controller.specs.Pass.{passOf}
 use Rattle.storage.specs.declared.Outcome.{Outcome}
-use Rattle.storage.specs.Step.{stepOf}
-use Rattle.site.specs.declared.Step.{Step}
+use Rattle.lead.specs.declared.Lead.{Lead}
+use Rattle.guided.specs.Units.{ledStep, varsKept}
 use Rattle.site.specs.Site.{Site, count, unitOf}
 use Rattle.records.specs.Records.{recordOf, recordBytes}
 
--- ---- what stands: what each unit holds, and what it is asked
+-- ---- what stands of the units: what each holds, what it is asked, and the vars last requested of it
 pub record Standing : Type 0 where
   pub stored : List ℕ
   pub requests : List ℤ
+  pub vars : List ℤ
 
-abbrev pub standing : List ℕ → List ℤ → Standing
-standing stored requests = record { stored = stored; requests = requests }
+abbrev pub standing : List ℕ → List ℤ → List ℤ → Standing
+standing stored requests vars = record { stored = stored; requests = requests; vars = vars }
 
--- T2: at first each unit holds what its record says and is asked nothing
+-- T2: at first each unit holds what its record says, is asked nothing, and its own var request counts as last requested
 unfoldable pub atFirst : List Unit → Standing
-atFirst units = standing (map (λ (u : Unit). u .stored) units) (replicate (length units) (pos 0))
+atFirst units =
+    standing (map (λ (u : Unit). u .stored) units) (replicate (length units) (pos 0)) (map (λ (u : Unit). u .«var_request») units)
+
+-- T1: what stands of the whole plant: the units, which inverters are on, and the vars last requested of these
+pub record Stands : Type 0 where
+  pub units : Standing
+  pub on : List Bool
+  pub vars : List ℤ
 
 -- ---- T3: the pass
 
@@ -47,31 +56,43 @@ askedBy site stored rs (Current p) = passedOn site stored rs (measureCall (curre
 
 -- ---- T4: one step of every unit
 
--- unit i, which holds s and is asked r
-unfoldable pub given : Site → ℕ → ℕ → ℤ → Outcome
-unfolding stepOf
-given site i s r = stepOf (holding (unitOf site i) s) (site .head .seconds) r
+-- unit i, which holds s and is asked r, with v as the vars last requested of it
+unfoldable pub given : Site → Lead → ℕ → ℕ → ℤ → ℤ → Outcome
+unfolding ledStep
+given site l i s r v = ledStep l (holding (unitOf site i) s) v (site .head .seconds) r
 
--- what each unit then holds
-unfoldable pub storedAfter : Site → List ℕ → List ℤ → List ℕ
+-- and the vars then kept as last requested
+unfoldable pub keptVars : Site → Lead → ℕ → ℕ → ℤ → ℤ → ℤ
+unfolding varsKept
+keptVars site l i s r v = varsKept l (holding (unitOf site i) s) v (site .head .seconds) r
+
+-- of every unit
+unfoldable pub storedAfter : Site → Lead → List ℕ → List ℤ → List ℤ → List ℕ
 unfolding each given
-storedAfter site stored rs = each (λ (i s : ℕ). given site i s (getD rs i (pos 0)) .stored) stored
+storedAfter site l stored rs vs = each (λ (i s : ℕ). given site l i s (getD rs i (pos 0)) (getD vs i (pos 0)) .stored) stored
+
+unfoldable pub varsAfter : Site → Lead → List ℕ → List ℤ → List ℤ → List ℤ
+unfolding each keptVars
+varsAfter site l stored rs vs = each (λ (i : ℕ) (v : ℤ). keptVars site l i (getD stored i 0) (getD rs i (pos 0)) v) vs
 
 -- the records of the first n units in a step
-unfoldable pub recordsOf : ℕ → Site → ℕ → List ℕ → List ℤ → List ℕ
+unfoldable pub recordsOf : ℕ → Site → Lead → ℕ → List ℕ → List ℤ → List ℤ → List ℕ
 unfolding recordOf given
-recordsOf zero site step stored rs = []
-recordsOf (suc n) site step stored rs =
-    recordsOf n site step stored rs ++ recordOf step n (getD rs n (pos 0)) (given site n (getD stored n 0) (getD rs n (pos 0)))
+recordsOf zero site l step stored rs vs = []
+recordsOf (suc n) site l step stored rs vs =
+    recordsOf n site l step stored rs vs
+    ++ recordOf step n (getD rs n (pos 0)) (given site l n (getD stored n 0) (getD rs n (pos 0)) (getD vs n (pos 0)))
 
 -- ---- a step: what stands after it, and its records
-unfoldable pub after : Site → Standing → Step → Standing
-unfolding askedBy storedAfter
-after site st s = let rs = askedBy site (st .stored) (st .requests) (s .reading) in standing (storedAfter site (st .stored) rs) rs
+unfoldable pub after : Site → Lead → Standing → Reading → Standing
+unfolding askedBy storedAfter varsAfter
+after site l st r =
+    let rs = askedBy site (st .stored) (st .requests) r in
+    standing (storedAfter site l (st .stored) rs (st .vars)) rs (varsAfter site l (st .stored) rs (st .vars))
 
-unfoldable pub recordsBy : Site → ℕ → Standing → Step → List ℕ
+unfoldable pub recordsBy : Site → Lead → ℕ → Standing → Reading → List ℕ
 unfolding askedBy recordsOf
-recordsBy site step st s = recordsOf (count site) site step (st .stored) (askedBy site (st .stored) (st .requests) (s .reading))
+recordsBy site l step st r = recordsOf (count site) site l step (st .stored) (askedBy site (st .stored) (st .requests) r) (st .vars)
 
 -- the bytes of a step's records
 abbrev pub stepBytes : Site → ℕ

@@ -3,14 +3,15 @@ ghost use Prim.Native.Nat.{_+_, _≤_};
 ghost use lib.ListN.{length};
 ghost use Rattle.octets.specs.BigEndian.{laid};
 ghost use Rattle.site.specs.Site.{count};
-ghost use Rattle.fleet.specs.Step.{standing, askedBy, storedAfter, recordsOf, after, recordsBy, stepBytes};
-ghost use Rattle.fleet.specs.Posts.{Ready, Held, siteIn, measuredBy};
+ghost use Rattle.fleet.specs.Step.{standing, askedBy, storedAfter, varsAfter, recordsOf, after, recordsBy, stepBytes};
+ghost use Rattle.lead.specs.Posts.{Modest};
+ghost use Rattle.fleet.specs.Posts.{Ready, Stored, Held, siteIn, measuredBy};
 use super::Frame;
+use super::Moment;
 use super::units;
 use reading::Measure;
 use reading::Reading;
 use records::RECORD_BYTES;
-use site::Step;
 
 // The measure of a reading; none of a missing one.
 fn measured(r: Reading, phase: u8) -> Measure
@@ -26,7 +27,9 @@ fn measured(r: Reading, phase: u8) -> Measure
 // The requests after a reading: one pass, and none if the reading is missing.
 fn ask(f: Frame, rows: &[[u64; 18]], r: Reading, stored: &[u64], requests: &mut [i32])
     requires { ⌜ Ready f (now rows) ⌝ }
-    requires { ⌜ Held (siteIn f (now rows)) (now stored) (now requests) ⌝ }
+    requires { ⌜ length (now stored) ≡ count (siteIn f (now rows)) ⌝ }
+    requires { ⌜ length (now requests) ≡ count (siteIn f (now rows)) ⌝ }
+    requires { ⌜ Stored (siteIn f (now rows)) (now stored) ⌝ }
     ensures { λ _. ⌜ now (requests .exit) ≡ askedBy (siteIn f (now (rows .entry))) (now (stored .entry)) (now (requests .entry)) r ⌝ }
 {
     let head = f.head;
@@ -38,53 +41,63 @@ fn ask(f: Frame, rows: &[[u64; 18]], r: Reading, stored: &[u64], requests: &mut 
     controller::pass_within(s, m, t, rows, stored, requests);
 }
 
-// One step of every unit, and their records from a place of the room on.
+// One step of every unit, and their records.
 fn give_all(
     f: Frame,
     rows: &[[u64; 18]],
-    step: u32,
+    m: Moment,
     requests: &[i32],
     stored: &mut [u64],
+    vars: &mut [i32],
     room: &mut [u8],
-    at: usize,
 )
     requires { ⌜ Ready f (now rows) ⌝ }
-    requires { ⌜ Held (siteIn f (now rows)) (now stored) (now requests) ⌝ }
-    requires { ⌜ at + stepBytes (siteIn f (now rows)) ≤ length (now room) ⌝ }
-    ensures { λ _. ⌜ now (stored .exit) ≡ storedAfter (siteIn f (now (rows .entry))) (now (stored .entry)) (now (requests .entry)) ⌝ }
-    ensures { λ _. ⌜ now (room .exit) ≡ laid (now (room .entry)) at (recordsOf (count (siteIn f (now (rows .entry)))) (siteIn f (now (rows .entry))) step (now (stored .entry)) (now (requests .entry))) ⌝ }
+    requires { ⌜ Held (siteIn f (now rows)) (now stored) (now requests) (now vars) ⌝ }
+    requires { ⌜ Modest (m .lead) ⌝ }
+    requires { ⌜ m .at + stepBytes (siteIn f (now rows)) ≤ length (now room) ⌝ }
+    ensures { λ _. ⌜ now (stored .exit) ≡ storedAfter (siteIn f (now (rows .entry))) (m .lead) (now (stored .entry)) (now (requests .entry)) (now (vars .entry)) ⌝ }
+    ensures { λ _. ⌜ now (vars .exit) ≡ varsAfter (siteIn f (now (rows .entry))) (m .lead) (now (stored .entry)) (now (requests .entry)) (now (vars .entry)) ⌝ }
+    ensures { λ _. ⌜ now (room .exit) ≡ laid (now (room .entry)) (m .at)
+        (recordsOf (count (siteIn f (now (rows .entry)))) (siteIn f (now (rows .entry))) (m .lead) (m .step) (now (stored .entry)) (now (requests .entry)) (now (vars .entry))) ⌝ }
 {
     let mut i = 0;
     while i < requests.len() {
         let head = f.head;
+        let lead = m.lead;
         let request = requests[i];
-        let o = units::give(rows, i, head.seconds, stored[i], request);
+        let last = vars[i];
+        let g = units::give(rows, i, head.seconds, stored[i], request, lead, last);
+        let o = g.outcome;
         let left = o.stored;
         stored[i] = left;
-        records::put_record(room, at + RECORD_BYTES * i, step, i as u8, request, o);
+        let kept = g.vars;
+        vars[i] = kept;
+        records::put_record(room, m.at + RECORD_BYTES * i, m.step, i as u8, request, o);
         i += 1;
     }
 }
 
-// One step of a site: what stands afterwards, and the step's records from a place of the room on.
+// One step of a site: what stands afterwards, and the step's records.
 pub fn step(
     f: Frame,
     rows: &[[u64; 18]],
-    k: u32,
-    s: Step,
+    m: Moment,
     stored: &mut [u64],
     requests: &mut [i32],
+    vars: &mut [i32],
     room: &mut [u8],
-    at: usize,
 )
     requires { ⌜ Ready f (now rows) ⌝ }
-    requires { ⌜ Held (siteIn f (now rows)) (now stored) (now requests) ⌝ }
-    requires { ⌜ at + stepBytes (siteIn f (now rows)) ≤ length (now room) ⌝ }
-    ensures { λ _. ⌜ standing (now (stored .exit)) (now (requests .exit)) ≡ after (siteIn f (now (rows .entry))) (standing (now (stored .entry)) (now (requests .entry))) s ⌝ }
-    ensures { λ _. ⌜ now (room .exit) ≡ laid (now (room .entry)) at (recordsBy (siteIn f (now (rows .entry))) k (standing (now (stored .entry)) (now (requests .entry))) s) ⌝ }
-    ensures { λ _. ⌜ Held (siteIn f (now (rows .entry))) (now (stored .exit)) (now (requests .exit)) ⌝ }
+    requires { ⌜ Held (siteIn f (now rows)) (now stored) (now requests) (now vars) ⌝ }
+    requires { ⌜ Modest (m .lead) ⌝ }
+    requires { ⌜ m .at + stepBytes (siteIn f (now rows)) ≤ length (now room) ⌝ }
+    ensures { λ _. ⌜ standing (now (stored .exit)) (now (requests .exit)) (now (vars .exit)) ≡
+        after (siteIn f (now (rows .entry))) (m .lead) (standing (now (stored .entry)) (now (requests .entry)) (now (vars .entry))) (m .reading) ⌝ }
+    ensures { λ _. ⌜ now (room .exit) ≡ laid (now (room .entry)) (m .at)
+        (recordsBy (siteIn f (now (rows .entry))) (m .lead) (m .step) (standing (now (stored .entry)) (now (requests .entry)) (now (vars .entry))) (m .reading)) ⌝ }
+    ensures { λ _. ⌜ Held (siteIn f (now (rows .entry))) (now (stored .exit)) (now (requests .exit)) (now (vars .exit)) ⌝ }
 {
-    let r = s.reading;
+    let r = m.reading;
     ask(f, rows, r, stored, requests);
-    give_all(f, rows, k, requests, stored, room, at);
+    give_all(f, rows, m, requests, stored, vars, room);
 }

@@ -1,17 +1,19 @@
 ghost use mathlib.Core.Path.{_≡_};
 ghost use Prim.Native.Nat.{_≤_, _<_};
-ghost use mathlib.Core.List.{[]};
+ghost use mathlib.Core.List.{[], map};
 ghost use lib.ListN.{length, getD};
 ghost use Rattle.unit.specs.Ranges.{Ranged, holding};
 ghost use Rattle.rows.specs.Rows.{unitBy, unitsBy};
-ghost use Rattle.storage.specs.Step.{stepOf};
+ghost use Rattle.guided.specs.Units.{ledStep, varsKept};
+ghost use Rattle.guided.specs.Posts.{Guiding};
 ghost use Rattle.storage.specs.Posts.{Rested};
 ghost use Rattle.site.specs.Ranges.{Sited};
 ghost use Rattle.fleet.specs.Step.{standing, atFirst};
 ghost use Rattle.fleet.specs.Posts.{Ready, siteBy};
 use super::Frame;
+use guided::Led;
+use lead::Lead;
 use site::Head;
-use storage::Outcome;
 
 // What no step changes, worked out once: the sums over the fleet, beside what the file says.
 pub fn framed(head: Head, units: &[[u64; 18]]) -> Frame
@@ -26,34 +28,64 @@ pub fn framed(head: Head, units: &[[u64; 18]]) -> Frame
     }
 }
 
-// What stands at first: each unit holds what its row says and is asked nothing.
-pub fn start(units: &[[u64; 18]], stored: &mut [u64], requests: &mut [i32])
+// Each unit's own var request.
+fn own_vars(units: &[[u64; 18]], vars: &mut [i32])
+    requires { ⌜ length (now vars) ≡ length (now units) ⌝ }
+    ensures { λ _. ⌜ now (vars .exit) ≡ map (λ u. u .«var_request») (unitsBy (now (units .entry))) ⌝ }
+{
+    let mut i = 0;
+    while i < vars.len() {
+        let u = rows::unit_of(units, i);
+        let own = u.var_request;
+        vars[i] = own;
+        i += 1;
+    }
+}
+
+// What stands at first: each unit holds what its row says, is asked nothing, and its own var request
+// counts as last requested.
+pub fn start(units: &[[u64; 18]], stored: &mut [u64], requests: &mut [i32], vars: &mut [i32])
     requires { ⌜ length (now stored) ≡ length (now units) ⌝ }
     requires { ⌜ length (now requests) ≡ length (now units) ⌝ }
-    ensures { λ _. ⌜ standing (now (stored .exit)) (now (requests .exit)) ≡ atFirst (unitsBy (now (units .entry))) ⌝ }
+    requires { ⌜ length (now vars) ≡ length (now units) ⌝ }
+    ensures { λ _. ⌜ standing (now (stored .exit)) (now (requests .exit)) (now (vars .exit)) ≡ atFirst (unitsBy (now (units .entry))) ⌝ }
 {
     rows::stores(units, stored);
     members::clear(requests);
+    own_vars(units, vars);
 }
 
-// One step of the unit of row i, which holds so much and is asked a request. One that is asked
-// nothing rests.
-pub fn give(units: &[[u64; 18]], i: usize, seconds: u32, held: u64, request: i32) -> Outcome
+// One step of the unit of row i, which holds so much and is asked a request, by what leads it and the
+// vars last requested of it. One that nothing leads and that is asked nothing rests.
+pub fn give(
+    units: &[[u64; 18]],
+    i: usize,
+    seconds: u32,
+    held: u64,
+    request: i32,
+    l: Lead,
+    last: i32,
+) -> Led
     requires { ⌜ i < length (now units) ⌝ }
     requires { ⌜ Rested (now units) ⌝ }
     requires { ⌜ Ranged (unitBy (getD (now units) i [])) seconds ⌝ }
     requires { ⌜ held ≤ unitBy (getD (now units) i []) .rated ⌝ }
-    ensures { λ r. ⌜ r ≡ stepOf (holding (unitBy (getD (now (units .entry)) i [])) held) seconds request ⌝ }
+    requires { ⌜ Guiding l last ⌝ }
+    ensures { λ r. ⌜ r .outcome ≡ ledStep l (holding (unitBy (getD (now (units .entry)) i [])) held) last seconds request ⌝ }
+    ensures { λ r. ⌜ r .vars ≡ varsKept l (holding (unitBy (getD (now (units .entry)) i [])) held) last seconds request ⌝ }
 {
-    if request == 0 {
-        return storage::rest(
-            rows::draw_of(units, i),
-            rows::vars_of(units, i),
-            held,
-            seconds,
-        );
+    if !(l.leads | l.after | l.fresh) & (request == 0) {
+        return Led {
+            outcome: storage::rest(
+                rows::draw_of(units, i),
+                rows::vars_of(units, i),
+                held,
+                seconds,
+            ),
+            vars: last,
+        };
     }
     let mut u = rows::unit_of(units, i);
     u.stored = held;
-    storage::step_within(u, seconds, request)
+    guided::give(u, seconds, request, l, last)
 }

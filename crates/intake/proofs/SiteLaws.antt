@@ -1,24 +1,27 @@
 -- A site is run over whichever way it is given; and the bytes of its records, as the code counts them. Assumes nothing.
 use mathlib.Core.Path.{_≡_, ap₂, subst⁻¹}
+use mathlib.Core.Bool.{Bool}
 use mathlib.Core.List.{List}
 use Prim.Native.Nat.{ℕ, _+_, _*_, _≤_}
 use native.Mathlib.Nat.{le-trans, le-of-eq}
 use lib.IntN.{ℤ}
 use lib.ListN.{length}
-use Rattle.solar.specs.Roof.{Roof}
 use Rattle.site.specs.Site.{Site, count}
+use Rattle.stick.specs.Site.{siteOf, roofsOf, plantOf}
 use Rattle.fleet.specs.Step.{stepBytes}
-use Rattle.fleet.specs.Posts.{Held}
 use Rattle.stretch.specs.Stretch.{allBytes}
+use Rattle.stretch.specs.Posts.{Holding}
 
--- what stands is held, and the records fit
-pub held-alike : (x y : Site) (stored : List ℕ) (rs : List ℤ) → x ≡ y → Held y stored rs → Held x stored rs
-held-alike x y stored rs e h = subst⁻¹ (λ (z : Site). Held z stored rs) e h
+-- what stands is held
+pub held-alike : (x y : Site) (stored : List ℕ) (rs vs : List ℤ) (on : List Bool) → x ≡ y → Holding y stored rs vs on → Holding x stored rs vs on
+held-alike x y stored rs vs on e h = subst⁻¹ (λ (z : Site). Holding z stored rs vs on) e h
 
-pub fit-alike : (x y : Site) (roofs : List Roof) (flags out steps room : ℕ) → x ≡ y → flags ≡ length roofs → out + allBytes y roofs * steps ≤ room
+-- the records fit, and so many bytes have those of so many steps
+pub fit-alike : (file : List ℕ) (x : Site) (flags out steps room : ℕ) → x ≡ siteOf file → flags ≡ length (roofsOf file) → out + allBytes (plantOf file) * steps ≤ room
     → out + (stepBytes x + 29 * flags) * steps ≤ room
-fit-alike x y roofs flags out steps room e d h = le-trans (le-of-eq (ap₂ (λ (z : Site) (k : ℕ). out + (stepBytes z + 29 * k) * steps) e d)) h
+unfolding plantOf
+fit-alike file x flags out steps room e d h = le-trans (le-of-eq (ap₂ (λ (z : Site) (k : ℕ). out + (stepBytes z + 29 * k) * steps) e d)) h
 
--- the bytes of the records of so many steps
-pub bytes-are : (site : Site) (roofs : List Roof) (n m steps : ℕ) → n ≡ count site → m ≡ length roofs → (40 * n + 29 * m) * steps ≡ allBytes site roofs * steps
-bytes-are site roofs n m steps e d = ap₂ (λ (u v : ℕ). (40 * u + 29 * v) * steps) e d
+pub bytes-are : (file : List ℕ) (n m steps : ℕ) → n ≡ count (siteOf file) → m ≡ length (roofsOf file) → (40 * n + 29 * m) * steps ≡ allBytes (plantOf file) * steps
+unfolding plantOf
+bytes-are file n m steps e d = ap₂ (λ (u v : ℕ). (40 * u + 29 * v) * steps) e d

@@ -9,7 +9,7 @@ use lib.Seq.{slice, take-length, drop-at}
 use Rattle.octets.specs.BigEndian.{laid}
 use Rattle.records.proofs.LayLaws.{both}
 use Rattle.kept.specs.declared.Mark.{Mark}
-use Rattle.kept.specs.Layout.{heldPlace, tailMost, siteMost, filled, numbersOf, topOf, standsOf, markIn, keptIn, markOf, bytesFor}
+use Rattle.kept.specs.Layout.{heldPlace, tailMost, siteMost, filled, numbersOf, topOf, standsOf, allVars, markIn, keptIn, markOf, bytesFor}
 use Rattle.kept.specs.Posts.{Sized}
 use Rattle.kept.proofs.NumberLaws.{numbers-length}
 use Rattle.kept.proofs.PieceLaws.{filled-long}
@@ -18,11 +18,11 @@ use Rattle.taking.specs.Chunk.{withTail}
 
 -- a mark with a tail of so many bytes that were not taken
 abbrev pub tailed : Mark → ℕ → Mark
-tailed m n = record { place = m .place + n; state = m .state; site = m .site; tail = n; sun = m .sun }
+tailed m n = record { place = m .place + n; state = m .state; site = m .site; tail = n; due = m .due }
 
 top-long : (m : Mark) (tail : List ℕ) → length tail ≤ tailMost → length (topOf m tail) ≡ heldPlace
 unfolding topOf
-top-long m tail h = both (numbersOf m) (filled tailMost tail) 25 tailMost (numbers-length m) (filled-long tailMost tail h)
+top-long m tail h = both (numbersOf m) (filled tailMost tail) 27 tailMost (numbers-length m) (filled-long tailMost tail h)
 
 module _ (s : List ℕ) (z : Sized s) (m : Mark) (em : m ≡ markIn s) where
   pub tail-place : m .place ≡ keptIn s .place
@@ -37,16 +37,16 @@ module _ (s : List ℕ) (z : Sized s) (m : Mark) (em : m ≡ markIn s) where
   unfolding markIn keptIn
   tailed-is tail =
       ap (λ (k : Mark). tailed k (length tail)) em
-      ∙ ap (λ (n : ℕ). tailed (record { place = markIn s .place; state = markIn s .state; site = n; tail = markIn s .tail; sun = markIn s .sun }) (length tail)) (sym (site-part-length s z))
+      ∙ ap (λ (n : ℕ). tailed (record { place = markIn s .place; state = markIn s .state; site = n; tail = markIn s .tail; due = markIn s .due }) (length tail)) (sym (site-part-length s z))
 
   module _ (bare : keptIn s .tail ≡ []) (is : s ≡ bytesFor (keptIn s)) where
     abbrev stands : List ℕ
-    stands = standsOf (keptIn s .stands .stored) (keptIn s .stands .requests) (keptIn s .on)
+    stands = standsOf (keptIn s .stands .units .stored) (keptIn s .stands .units .requests) (allVars (keptIn s .stands)) (keptIn s .stands .on)
 
     abbrev site : List ℕ
     site = filled siteMost (keptIn s .site)
 
-    behind-mark : drop heldPlace s ≡ standsOf (keptIn s .stands .stored) (keptIn s .stands .requests) (keptIn s .on) ++ filled siteMost (keptIn s .site)
+    behind-mark : drop heldPlace s ≡ stands ++ site
     unfolding bytesFor
     behind-mark =
         let none : length (keptIn s .tail) ≡ 0 = ap length bare in

@@ -1,27 +1,27 @@
 -- Nobody has to believe this file: the parts of contracts by name.
 use Prim.Native.Nat.{ℕ, _+_, _-_, _≤_}
-use mathlib.Core.Bool.{Bool, true, cond}
+use mathlib.Core.Bool.{true, cond}
 use mathlib.Core.List.{List, [], _++_}
 use mathlib.Core.Path.{_≡_}
 use lib.ListN.{length, take, drop}
 use lib.Seq.{slice}
-use Rattle.solar.specs.declared.Sun.{Sun}
 use Rattle.solar.specs.Posts.{Shining}
+use Rattle.site.specs.declared.Due.{Due}
 use Rattle.site.specs.declared.Step.{Step}
-use Rattle.site.specs.Site.{count}
+use Rattle.site.specs.Site.{Site, count}
 use Rattle.parts.specs.Header.{past}
 use Rattle.fields.specs.declared.State.{State}
 use Rattle.stick.specs.declared.Reached.{Reached}
-use Rattle.stick.specs.Site.{siteOf, roofsOf, stepsFrom, sunFrom}
+use Rattle.stick.specs.Site.{siteOf, roofsOf, plantOf, stepsFrom, dueFrom}
 use Rattle.stick.specs.Posts.{Accepted}
-use Rattle.roofs.specs.Roofs.{allOff}
-use Rattle.fleet.specs.Step.{Standing, standing, atFirst}
+use Rattle.roofs.specs.Posts.{VarsHeld}
+use Rattle.fleet.specs.Step.{Stands}
 use Rattle.fleet.specs.Posts.{Held}
 use Rattle.stretch.specs.Posts.{StepsThere}
-use Rattle.stretch.specs.Stretch.{standsAfter, onsAfter, recordsFrom}
+use Rattle.stretch.specs.Stretch.{standsFirst, standsAfter, recordsFrom}
 use Rattle.kept.specs.declared.Mark.{Mark}
 use Rattle.kept.specs.Kept.{Kept, begun}
-use Rattle.kept.specs.Layout.{stateSize, sitePlace, siteMost, filled, markIn, keptIn, stateIn, storeAt, requestAt, flagAt, upTo, topOf, standsOf}
+use Rattle.kept.specs.Layout.{stateSize, sitePlace, siteMost, filled, markIn, keptIn, stateIn, standsIn, allVars, topOf, standsOf}
 use Rattle.taking.specs.Chunk.{goneBy, siteAfter, absorbed, resultsBy, withTail}
 use Rattle.taking.specs.Posts.{Leads}
 use Rattle.kept.specs.Formed.{isOpen}
@@ -61,60 +61,52 @@ pub record Grown (s grown bytes : List ℕ) (next : State) (site : ℕ) : Type 0
 
 -- ---- the run over whole fields, by a mark and a state's bytes with the site part that they lead to
 
--- what stands of so many units
-abbrev pub standingIn : List ℕ → ℕ → Standing
-standingIn s n = standing (upTo n (storeAt s)) (upTo n (requestAt s))
-
 -- what stands before them
-unfoldable pub firstBy : Mark → List ℕ → List ℕ → Standing
-unfolding upTo storeAt requestAt atFirst siteOf
-firstBy m s site = cond (begun (m .state)) (standingIn s (count (siteOf site))) (atFirst (siteOf site .units))
-
-unfoldable pub flagsBy : Mark → List ℕ → List ℕ → List Bool
-unfolding upTo flagAt roofsOf
-flagsBy m s site = cond (begun (m .state)) (upTo (length (roofsOf site)) (flagAt s)) (allOff (roofsOf site))
+unfoldable pub firstBy : Mark → List ℕ → List ℕ → Stands
+unfolding standsIn standsFirst plantOf siteOf roofsOf
+firstBy m s site = cond (begun (m .state)) (standsIn s (count (siteOf site)) (length (roofsOf site))) (standsFirst (plantOf site))
 
 -- what stands after them, from a place on
-unfoldable pub standsBy : Mark → List ℕ → List ℕ → List ℕ → ℕ → Standing
-unfolding standsAfter firstBy stepsFrom siteOf
-standsBy m s site bytes head = standsAfter (siteOf site) (firstBy m s site) (stepsFrom bytes (m .sun) head)
-
-unfoldable pub onBy : Mark → List ℕ → List ℕ → List ℕ → ℕ → List Bool
-unfolding onsAfter flagsBy stepsFrom roofsOf
-onBy m s site bytes head = onsAfter (roofsOf site) (flagsBy m s site) (stepsFrom bytes (m .sun) head)
+unfoldable pub standsOver : Mark → List ℕ → List ℕ → List ℕ → ℕ → Stands
+unfolding standsAfter firstBy stepsFrom plantOf
+standsOver m s site bytes head = standsAfter (plantOf site) (firstBy m s site) (stepsFrom bytes (m .due) head)
 
 -- their steps, by the course that they take
 abbrev pub stepsOn : Course → List ℕ → List Step
-stepsOn c bytes = stepsFrom bytes (c .mark .sun) (c .head)
+stepsOn c bytes = stepsFrom bytes (c .mark .due) (c .head)
 
 -- their records
 unfoldable pub recordsOver : Mark → List ℕ → List ℕ → List ℕ → ℕ → List ℕ
-unfolding recordsFrom firstBy flagsBy stepsFrom siteOf roofsOf
-recordsOver m s site bytes head =
-    recordsFrom (siteOf site) (roofsOf site) (m .state .steps) (firstBy m s site) (flagsBy m s site) (stepsFrom bytes (m .sun) head)
+unfolding recordsFrom firstBy stepsFrom plantOf
+recordsOver m s site bytes head = recordsFrom (plantOf site) (m .state .steps) (firstBy m s site) (stepsFrom bytes (m .due) head)
 
 -- the mark after them, without a tail
-abbrev pub markAfter : Mark → State → ℕ → Sun → ℕ → Mark
-markAfter m next site s bytes = record { place = m .place - m .tail + bytes; state = next; site = site; tail = 0; sun = s }
+abbrev pub markAfter : Mark → State → ℕ → Due → ℕ → Mark
+markAfter m next site d bytes = record { place = m .place - m .tail + bytes; state = next; site = site; tail = 0; due = d }
 
 -- what the run over whole fields leaves of a state's bytes
 unfoldable pub leftBy : Mark → List ℕ → ℕ → List ℕ → ℕ → State → List ℕ
-unfolding topOf standsOf standsBy onBy sunFrom
+unfolding topOf standsOf standsOver dueFrom
 leftBy m s n bytes head next =
-    let site = slice sitePlace (sitePlace + n) s in
-    let st = standsBy m s site bytes head in
-    topOf (markAfter m next n (sunFrom bytes (m .sun) head) (length bytes)) [] ++ standsOf (st .stored) (st .requests) (onBy m s site bytes head) ++ drop sitePlace s
+    let st = standsOver m s (slice sitePlace (sitePlace + n) s) bytes head in
+    topOf (markAfter m next n (dueFrom bytes (m .due) head) (length bytes)) [] ++ standsOf (st .units .stored) (st .units .requests) (allVars st) (st .on) ++ drop sitePlace s
+
+-- what stands of a site with so many inverters, within its bounds
+pub record Stood (site : Site) (roofs : ℕ) (st : Stands) : Type 0 where
+  pub units : Held site (st .units .stored) (st .units .requests) (st .units .vars)
+  pub flags : length (st .on) ≡ roofs
+  pub vars : VarsHeld roofs (st .vars)
 
 -- what the run over whole fields may count on
 pub record Ahead (s : List ℕ) (m : Mark) (n : ℕ) (bytes : List ℕ) (head : ℕ) (next : State) : Type 0 where
   pub long : length s ≡ stateSize
   pub fits : n ≤ siteMost
   pub accepted : Accepted (slice sitePlace (sitePlace + n) s)
-  pub held : Held (siteOf (slice sitePlace (sitePlace + n) s)) (firstBy m s (slice sitePlace (sitePlace + n) s) .stored) (firstBy m s (slice sitePlace (sitePlace + n) s) .requests)
+  pub stood : Stood (siteOf (slice sitePlace (sitePlace + n) s)) (length (roofsOf (slice sitePlace (sitePlace + n) s))) (firstBy m s (slice sitePlace (sitePlace + n) s))
   pub upto : head ≤ length bytes
   pub there : StepsThere bytes head
-  pub shines : Shining (m .sun)
-  pub counted : m .state .steps + length (stepsFrom bytes (m .sun) head) ≡ next .steps
+  pub shines : Shining (m .due .sun)
+  pub counted : m .state .steps + length (stepsFrom bytes (m .due) head) ≡ next .steps
   pub few : next .steps ≤ 65535
   pub place-there : m .tail ≤ m .place
   pub place-fits : m .place + length bytes ≤ 18446744073709551615

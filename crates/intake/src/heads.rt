@@ -8,7 +8,7 @@ use fields::HEADER;
 fn of_steps(tag: u8) -> bool
     ensures { λ r. ⌜ r ≡ ofSteps tag ⌝ }
 {
-    (tag == 4) | (tag == 5) | (tag == 9) | (tag == 8) | (tag == 127)
+    (tag == 4) | (tag == 5) | (tag == 9) | (tag == 8) | (tag == 12) | (tag == 127)
 }
 
 // Where the fields before the steps end, in whole fields.

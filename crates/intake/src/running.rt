@@ -1,30 +1,26 @@
 ghost use mathlib.Core.Path.{_≡_};
-ghost use mathlib.Core.Bool.{false, cond};
 ghost use mathlib.Core.List.{[], _++_};
 ghost use Prim.Native.Nat.{_+_, _*_, _≤_};
-ghost use lib.ListN.{length, drop, replicate};
+ghost use lib.ListN.{length, drop};
 ghost use lib.Seq.{slice};
 ghost use Rattle.octets.specs.BigEndian.{laid};
 ghost use Rattle.rows.specs.Rows.{unitsBy};
 ghost use Rattle.storage.specs.Posts.{Rested};
 ghost use Rattle.solar.specs.Posts.{Shining};
 ghost use Rattle.site.specs.Site.{count};
-ghost use Rattle.stick.specs.Site.{siteOf, roofsOf, sunFrom};
+ghost use Rattle.stick.specs.Site.{siteOf, roofsOf, plantOf, dueFrom};
 ghost use Rattle.stick.specs.Posts.{Accepted};
-ghost use Rattle.fleet.specs.Step.{standing, atFirst};
-ghost use Rattle.fleet.specs.Posts.{Held};
-ghost use Rattle.stretch.specs.Stretch.{allBytes, standsAfter, onsAfter, recordsFrom};
-ghost use Rattle.stretch.specs.Posts.{StepsThere};
-ghost use Rattle.kept.specs.Kept.{begun};
-ghost use Rattle.kept.specs.Layout.{stateSize, heldPlace, sitePlace, siteMost, flagAt, upTo, topOf, standsOf};
-ghost use Rattle.intake.specs.Posts.{standingIn, stepsOn, recordsOver, markAfter, leftBy, Ahead};
+ghost use Rattle.stretch.specs.Stretch.{allBytes, standsAfter, recordsFrom};
+ghost use Rattle.stretch.specs.Posts.{StepsThere, Holding, standsBy};
+ghost use Rattle.kept.specs.Layout.{stateSize, heldPlace, sitePlace, siteMost, topOf, standsOf};
+ghost use Rattle.intake.specs.Posts.{firstBy, stepsOn, recordsOver, markAfter, leftBy, Ahead};
 use super::Course;
 use fields::State;
 use kept::Mark;
 use kept::SITE;
 use records::RECORD_BYTES;
 use records::ROOF_RECORD_BYTES;
-use solar::Sun;
+use site::Due;
 use stretch::Track;
 use stretch::Way;
 
@@ -36,42 +32,47 @@ fn over(
     c: Course,
     stored: &mut [u64],
     requests: &mut [i32],
+    vars: &mut [i32],
     on: &mut [bool],
     room: &mut [u8],
 ) -> Way
     requires { ⌜ Accepted (now site) ⌝ }
     requires { ⌜ unitsBy (now rows) ≡ siteOf (now site) .units ⌝ }
     requires { ⌜ Rested (now rows) ⌝ }
-    requires { ⌜ Held (siteOf (now site)) (now stored) (now requests) ⌝ }
+    requires { ⌜ Holding (siteOf (now site)) (now stored) (now requests) (now vars) (now on) ⌝ }
     requires { ⌜ length (now on) ≡ length (roofsOf (now site)) ⌝ }
     requires { ⌜ c .head ≤ length (now bytes) ⌝ }
     requires { ⌜ StepsThere (now bytes) (c .head) ⌝ }
-    requires { ⌜ Shining (c .mark .sun) ⌝ }
+    requires { ⌜ Shining (c .mark .due .sun) ⌝ }
     requires { ⌜ c .mark .state .steps + length (stepsOn c (now bytes)) ≤ 65535 ⌝ }
-    requires { ⌜ c .out + allBytes (siteOf (now site)) (roofsOf (now site)) * length (stepsOn c (now bytes)) ≤ length (now room) ⌝ }
+    requires { ⌜ c .out + allBytes (plantOf (now site)) * length (stepsOn c (now bytes)) ≤ length (now room) ⌝ }
     ensures { λ r. ⌜ r .step ≡ c .mark .state .steps + length (stepsOn c (now (bytes .entry))) ⌝ }
-    ensures { λ r. ⌜ r .sun ≡ sunFrom (now (bytes .entry)) (c .mark .sun) (c .head) ⌝ }
-    ensures { λ _. ⌜ standing (now (stored .exit)) (now (requests .exit)) ≡
-        standsAfter (siteOf (now (site .entry))) (standing (now (stored .entry)) (now (requests .entry))) (stepsOn c (now (bytes .entry))) ⌝ }
-    ensures { λ _. ⌜ now (on .exit) ≡ onsAfter (roofsOf (now (site .entry))) (now (on .entry)) (stepsOn c (now (bytes .entry))) ⌝ }
+    ensures { λ r. ⌜ r .due ≡ dueFrom (now (bytes .entry)) (c .mark .due) (c .head) ⌝ }
+    ensures { λ _. ⌜ standsBy (now (stored .exit)) (now (requests .exit)) (now (vars .exit)) (now (on .exit)) ≡
+        standsAfter (plantOf (now (site .entry))) (standsBy (now (stored .entry)) (now (requests .entry)) (now (vars .entry)) (now (on .entry))) (stepsOn c (now (bytes .entry))) ⌝ }
     ensures { λ _. ⌜ now (room .exit) ≡ laid (now (room .entry)) (c .out)
-        (recordsFrom (siteOf (now (site .entry))) (roofsOf (now (site .entry))) (c .mark .state .steps)
-        (standing (now (stored .entry)) (now (requests .entry))) (now (on .entry)) (stepsOn c (now (bytes .entry)))) ⌝ }
+        (recordsFrom (plantOf (now (site .entry))) (c .mark .state .steps)
+        (standsBy (now (stored .entry)) (now (requests .entry)) (now (vars .entry)) (now (on .entry))) (stepsOn c (now (bytes .entry)))) ⌝ }
 {
-    let f = fleet::framed(stick::head(site), rows);
+    let frame = fleet::framed(stick::head(site), rows);
     let first = stick::roofs_place(site);
-    let sun = c.mark.sun;
+    let function = stick::function_place(site);
+    let led = stick::is_guided(site, function);
+    let due = c.mark.due;
     let way = Way {
         step: c.mark.state.steps,
-        sun,
+        due,
     };
     let t = Track {
+        frame,
         first,
+        led,
+        function,
         at: c.head,
         out: c.out,
         way,
     };
-    stretch::along(site, f, rows, bytes, t, stored, requests, on, room)
+    stretch::along(site, rows, bytes, t, stored, requests, vars, on, room)
 }
 
 // What stands before whole fields: what is kept or, where the steps are only to begin, what stands at
@@ -79,55 +80,68 @@ fn over(
 fn stand(
     s: &[u8],
     m: Mark,
+    n: usize,
     rows: &[[u64; 18]],
     stored: &mut [u64],
     requests: &mut [i32],
+    vars: &mut [i32],
     on: &mut [bool],
 )
     requires { ⌜ length (now s) ≡ stateSize ⌝ }
-    requires { ⌜ length (now rows) ≤ 64 ⌝ }
+    requires { ⌜ n ≤ siteMost ⌝ }
+    requires { ⌜ Accepted (slice sitePlace (sitePlace + n) (now s)) ⌝ }
+    requires { ⌜ unitsBy (now rows) ≡ siteOf (slice sitePlace (sitePlace + n) (now s)) .units ⌝ }
     requires { ⌜ length (now stored) ≡ length (now rows) ⌝ }
     requires { ⌜ length (now requests) ≡ length (now rows) ⌝ }
-    requires { ⌜ length (now on) ≤ 64 ⌝ }
-    ensures { λ _. ⌜ standing (now (stored .exit)) (now (requests .exit)) ≡
-        cond (begun (m .state)) (standingIn (now (s .entry)) (length (now (rows .entry)))) (atFirst (unitsBy (now (rows .entry)))) ⌝ }
-    ensures { λ _. ⌜ now (on .exit) ≡ cond (begun (m .state)) (upTo (length (now (on .entry))) (flagAt (now (s .entry)))) (replicate (length (now (on .entry))) false) ⌝ }
+    requires { ⌜ length (now on) ≡ length (roofsOf (slice sitePlace (sitePlace + n) (now s))) ⌝ }
+    requires { ⌜ length (now vars) ≡ length (now rows) + length (now on) ⌝ }
+    ensures { λ _. ⌜ standsBy (now (stored .exit)) (now (requests .exit)) (now (vars .exit)) (now (on .exit)) ≡ firstBy m (now (s .entry)) (slice sitePlace (sitePlace + n) (now (s .entry))) ⌝ }
 {
     if kept::begun_at(m.state.stage) {
         kept::load(s, stored, requests);
         kept::load_on(s, on);
+        kept::load_vars(s, vars);
         return;
     }
-    fleet::start(rows, stored, requests);
-    roofs::turn_off(on);
+    let first = stick::roofs_place(&s[SITE..SITE + n]);
+    stretch::begin(&s[SITE..SITE + n], first, rows, stored, requests, vars, on);
 }
 
 // The mark after whole fields.
-fn mark_after(m: Mark, next: State, site: usize, sun: Sun, bytes: usize) -> Mark
+fn mark_after(m: Mark, next: State, site: usize, due: Due, bytes: usize) -> Mark
     requires { ⌜ m .tail ≤ m .place ⌝ }
     requires { ⌜ m .place + bytes ≤ 18446744073709551615 ⌝ }
-    ensures { λ r. ⌜ r ≡ markAfter m next site sun bytes ⌝ }
+    ensures { λ r. ⌜ r ≡ markAfter m next site due bytes ⌝ }
 {
     Mark {
         place: m.place - (m.tail as u64) + (bytes as u64),
         state: next,
         site,
         tail: 0,
-        sun,
+        due,
     }
 }
 
 // What is kept after whole fields: a mark without a tail, and what stands.
-fn keep(s: &mut [u8], k: Mark, bytes: &[u8], stored: &[u64], requests: &[i32], on: &[bool])
+fn keep(
+    s: &mut [u8],
+    k: Mark,
+    bytes: &[u8],
+    stored: &[u64],
+    requests: &[i32],
+    vars: &[i32],
+    on: &[bool],
+)
     requires { ⌜ length (now s) ≡ stateSize ⌝ }
     requires { ⌜ k .site ≤ siteMost ⌝ }
     requires { ⌜ k .tail ≡ 0 ⌝ }
     requires { ⌜ length (now stored) ≤ 64 ⌝ }
     requires { ⌜ length (now requests) ≡ length (now stored) ⌝ }
+    requires { ⌜ length (now vars) ≤ 128 ⌝ }
     requires { ⌜ length (now on) ≤ 64 ⌝ }
-    ensures { λ _. ⌜ now (s .exit) ≡ topOf k [] ++ standsOf (now (stored .entry)) (now (requests .entry)) (now (on .entry)) ++ drop sitePlace (now (s .entry)) ⌝ }
+    ensures { λ _. ⌜ now (s .exit) ≡ topOf k [] ++ standsOf (now (stored .entry)) (now (requests .entry)) (now (vars .entry)) (now (on .entry)) ++ drop sitePlace (now (s .entry)) ⌝ }
 {
-    kept::put_stands(s, stored, requests, on);
+    kept::put_stands(s, stored, requests, vars, on);
     kept::put_top(s, k, bytes, 0, 0);
 }
 
@@ -139,6 +153,7 @@ fn run_with(
     rows: &mut [[u64; 18]],
     stored: &mut [u64],
     requests: &mut [i32],
+    vars: &mut [i32],
     on: &mut [bool],
     room: &mut [u8],
 )
@@ -147,6 +162,7 @@ fn run_with(
     requires { ⌜ length (now stored) ≡ length (now rows) ⌝ }
     requires { ⌜ length (now requests) ≡ length (now rows) ⌝ }
     requires { ⌜ length (now on) ≡ length (roofsOf (slice sitePlace (sitePlace + c .site) (now s))) ⌝ }
+    requires { ⌜ length (now vars) ≡ length (now rows) + length (now on) ⌝ }
     requires { ⌜ c .out + length (recordsOver (c .mark) (now s) (slice sitePlace (sitePlace + c .site) (now s)) (now bytes) (c .head)) ≤ length (now room) ⌝ }
     ensures { λ _. ⌜ now (s .exit) ≡ leftBy (c .mark) (now (s .entry)) (c .site) (now (bytes .entry)) (c .head) (c .next) ⌝ }
     ensures { λ _. ⌜ now (room .exit) ≡ laid (now (room .entry)) (c .out)
@@ -156,7 +172,7 @@ fn run_with(
     let m = c.mark;
     let next = c.next;
     stick::load(&s[SITE..SITE + n], rows);
-    stand(s, m, rows, stored, requests, on);
+    stand(s, m, n, rows, stored, requests, vars, on);
     let w = over(
         &s[SITE..SITE + n],
         rows,
@@ -164,18 +180,19 @@ fn run_with(
         c,
         stored,
         requests,
+        vars,
         on,
         room,
     );
-    let k = mark_after(m, next, n, w.sun, bytes.len());
-    keep(s, k, bytes, stored, requests, on);
+    let k = mark_after(m, next, n, w.due, bytes.len());
+    keep(s, k, bytes, stored, requests, vars, on);
 }
 
 // The bytes of the records of so many steps of a site.
 fn bytes_of(site: &[u8], steps: u32) -> usize
     requires { ⌜ Accepted (now site) ⌝ }
     requires { ⌜ steps ≤ 65535 ⌝ }
-    ensures { λ r. ⌜ r ≡ allBytes (siteOf (now (site .entry))) (roofsOf (now (site .entry))) * steps ⌝ }
+    ensures { λ r. ⌜ r ≡ allBytes (plantOf (now (site .entry))) * steps ⌝ }
 {
     let size = RECORD_BYTES * stick::units(site) + ROOF_RECORD_BYTES * stick::roofs(site);
     size * (steps as usize)
@@ -205,6 +222,7 @@ pub fn run(
     let mut rows = [[0u64; 18]; 64];
     let mut stored = [0u64; 64];
     let mut requests = [0i32; 64];
+    let mut vars = [0i32; 128];
     let mut on = [false; 64];
     let c = Course {
         mark: m,
@@ -220,6 +238,7 @@ pub fn run(
         &mut rows[0..units],
         &mut stored[0..units],
         &mut requests[0..units],
+        &mut vars[0..units + roofs],
         &mut on[0..roofs],
         room,
     );
@@ -229,12 +248,13 @@ pub fn run(
 // Nothing stands yet.
 pub fn clear_stands(s: &mut [u8])
     requires { ⌜ length (now s) ≡ stateSize ⌝ }
-    ensures { λ _. ⌜ now (s .exit) ≡ laid (now (s .entry)) heldPlace (standsOf [] [] []) ⌝ }
+    ensures { λ _. ⌜ now (s .exit) ≡ laid (now (s .entry)) heldPlace (standsOf [] [] [] []) ⌝ }
 {
     let stored = [0u64; 1];
     let requests = [0i32; 1];
+    let vars = [0i32; 1];
     let on = [false; 1];
-    kept::put_stands(s, &stored[0..0], &requests[0..0], &on[0..0]);
+    kept::put_stands(s, &stored[0..0], &requests[0..0], &vars[0..0], &on[0..0]);
 }
 
 // Where the steps have not begun: nothing stands yet.
@@ -243,8 +263,8 @@ pub fn wait(s: &mut [u8], m: Mark, n: usize, bytes: &[u8], next: State)
     requires { ⌜ n ≤ siteMost ⌝ }
     requires { ⌜ m .tail ≤ m .place ⌝ }
     requires { ⌜ m .place + length (now bytes) ≤ 18446744073709551615 ⌝ }
-    ensures { λ _. ⌜ now (s .exit) ≡ topOf (markAfter m next n (m .sun) (length (now (bytes .entry)))) [] ++ standsOf [] [] [] ++ drop sitePlace (now (s .entry)) ⌝ }
+    ensures { λ _. ⌜ now (s .exit) ≡ topOf (markAfter m next n (m .due) (length (now (bytes .entry)))) [] ++ standsOf [] [] [] [] ++ drop sitePlace (now (s .entry)) ⌝ }
 {
     clear_stands(s);
-    kept::put_top(s, mark_after(m, next, n, m.sun, bytes.len()), bytes, 0, 0);
+    kept::put_top(s, mark_after(m, next, n, m.due, bytes.len()), bytes, 0, 0);
 }

@@ -1,31 +1,57 @@
 -- What the test of a state's bytes says of what they keep. Assumes nothing.
-use mathlib.Core.Path.{_≡_, refl, sym, ap, ap₂, _∙_}
-use mathlib.Core.Bool.{Bool, true, false, not, cond, _&&_, _||_}
-use mathlib.Core.List.{List, []}
-use Prim.Native.Nat.{ℕ, _+_, _-_, _≤_}
+use mathlib.Core.Path.{_≡_, refl, sym, ap, ap₂, _∙_, subst, subst⁻¹}
+use mathlib.Core.Bool.{Bool, true, false, cond, _&&_}
+use mathlib.Core.List.{List}
+use Prim.Native.Nat.{ℕ, _+_, _-_, _≤_, _<_}
 use native.Mathlib.Omega.{arith}
 use lib.Dec.{leb, eqb}
-use lib.ListN.{length}
+use lib.IntN.{ℤ, pos, natAbs}
+use lib.ListN.{length, getD}
 use lib.Seq.{length-slice}
-use borrow.Author.Tests.{leb-true, eqb-true, eq-eqb, le-leb}
+use borrow.Author.Tests.{leb-true, eqb-true, eq-eqb}
 use Rattle.whole.specs.Over.{allOf}
-use Rattle.whole.proofs.OverLaws.{and-parts}
+use Rattle.whole.proofs.OverLaws.{and-parts, all-at}
 use Rattle.octets.specs.BigEndian.{be}
+use Rattle.lead.specs.Lead.{voltageIn}
+use Rattle.lead.specs.declared.Voltage.{Voltage}
+use Rattle.lead.specs.declared.Voltage.the-variants.{Unsaid, Said}
 use Rattle.site.specs.Site.{count}
-use Rattle.fields.specs.declared.State.{State}
-use Rattle.fields.specs.Fields.{goneTo}
+use Rattle.fields.specs.Fields.{atVoltage}
 use Rattle.stick.specs.declared.Reached.{Reached}
 use Rattle.stick.specs.Check.{reached, reachOf, start}
 use Rattle.stick.specs.Site.{siteOf, roofsOf}
 use Rattle.chunks.proofs.ReachChunks.{far-all}
-use Rattle.fleet.specs.Step.{Standing, standing}
-use Rattle.kept.specs.Kept.{Kept, begunAt, begun, noStanding}
-use Rattle.kept.specs.Layout.{tailMost, siteMost}
-use Rattle.kept.specs.Layout.{stateSize, sitePlace, tailPlace, numberIn, placeIn, stepsKept, stageIn, siteBytes, tailBytes, sitePart, tailPart, sunKept, stateIn, knownBy, storeAt, requestAt, flagAt, upTo, unitsKept, roofsKept, keptIn}
-use Rattle.kept.specs.Formed.{siteFits, placeFits, sunFits, tailFits, heldFits, flagFits, listsFit, standsFit, markFits, restClear, going, stopped, wellFormed}
+use Rattle.kept.specs.Kept.{begunAt, begun, noStanding}
+use Rattle.kept.specs.Layout.{tailMost, siteMost, voltsOf, allVars}
+use Rattle.kept.specs.Layout.{stateSize, sitePlace, tailPlace, numberIn, placeIn, stepsKept, stageIn, siteBytes, tailBytes, sitePart, tailPart, sunKept, dueKept, stateIn, knownBy}
+use Rattle.kept.specs.Layout.{storeAt, requestAt, flagAt, varAt, upTo, unitsKept, roofsKept, standsIn, keptIn}
+use Rattle.kept.specs.Formed.{siteFits, placeFits, sunFits, voltFits, tailFits, heldFits, flagFits, varFits, listsFit, standsFit, markFits, restClear, going, stopped, wellFormed}
 use Rattle.kept.specs.Posts.{Sized, WellKept}
 use Rattle.kept.proofs.StandLaws.{upTo-length}
+use Rattle.kept.proofs.ReadLaws.{upTo-at, upTo-both}
 
+-- ---- a voltage as it is kept, and what its number says of it
+abbrev voltage : Bool → ℕ → Voltage
+voltage b x = cond b (Said x) Unsaid
+
+kept-volts : (stage x : ℕ) → voltFits stage x ≡ true → voltFits stage (voltsOf (voltage (eqb stage atVoltage) x)) ≡ true
+unfolding voltFits
+kept-volts stage x = go (eqb stage atVoltage)
+  where
+    go : (b : Bool) → cond b (voltageIn x) (eqb x 0) ≡ true → cond b (voltageIn (voltsOf (voltage b x))) (eqb (voltsOf (voltage b x)) 0) ≡ true
+    go true e = e
+    go false e = refl
+
+kept-said : (b : Bool) (x : ℕ) → voltage b x ≡ voltage b (voltsOf (voltage b x))
+kept-said true x = refl
+kept-said false x = refl
+
+-- ---- the vars that are kept, of the units and behind them of the inverters
+pub vars-kept : (s : List ℕ) → allVars (keptIn s .stands) ≡ upTo (unitsKept s + roofsKept s) (varAt s)
+unfolding keptIn standsIn
+vars-kept s = upTo-both (unitsKept s) (roofsKept s) (varAt s)
+
+-- ---- a state, and what one of a run that goes on keeps
 module _ (s : List ℕ) (formed : wellFormed s ≡ true) where
   pub state-long : length s ≡ stateSize
   unfolding wellFormed
@@ -64,7 +90,10 @@ module _ (s : List ℕ) (formed : wellFormed s ≡ true) where
     c₂ = sunFits (stageIn s) (sunKept s)
 
     abbrev c₃ : Bool
-    c₃ = tailFits (stateIn s) (tailPart s)
+    c₃ = voltFits (stageIn s) (be 2 s 25)
+
+    abbrev c₄ : Bool
+    c₄ = tailFits (stateIn s) (tailPart s)
 
     abbrev d₁ : Bool
     d₁ = standsFit s
@@ -113,32 +142,52 @@ module _ (s : List ℕ) (formed : wellFormed s ≡ true) where
     by-stage : (b : Bool) → begunAt (stageIn s) ≡ b → cond b (eqb (R .state .stage) 0) (eqb (R .state .stage) (stageIn s) && eqb (stepsKept s) 0) ≡ true
     by-stage b e = sym (ap (λ (t : Bool). cond t (eqb (R .state .stage) 0) (eqb (R .state .stage) (stageIn s) && eqb (stepsKept s) 0)) e) ∙ site-tests .1
 
-    mark-tests : ((placeFits (placeIn s) (stageIn s) (stepsKept s) (siteBytes s) (tailBytes s) ≡ true) × (sunFits (stageIn s) (sunKept s) ≡ true)) × (tailFits (stateIn s) (tailPart s) ≡ true)
+    mark-tests : ((c₁ ≡ true) × (c₂ ≡ true)) × ((c₃ ≡ true) × (c₄ ≡ true))
     unfolding markFits
-    mark-tests = let b = and-parts (c₁ && c₂) c₃ (groups .1 .0) in (and-parts c₁ c₂ (b .0), b .1)
+    mark-tests =
+        let b = and-parts (c₁ && c₂ && c₃) c₄ (groups .1 .0) in
+        let a = and-parts (c₁ && c₂) c₃ (b .0) in
+        (and-parts c₁ c₂ (a .0), (a .1, b .1))
 
-    stand-tests : (heldFits (siteOf (sitePart s)) (upTo (unitsKept s) (storeAt s)) (upTo (unitsKept s) (requestAt s)) ≡ true) × (allOf (roofsKept s) (flagFits s) ≡ true)
+    abbrev e₁ : Bool
+    e₁ = heldFits (siteOf (sitePart s)) (upTo (unitsKept s) (storeAt s)) (upTo (unitsKept s) (requestAt s))
+
+    abbrev e₂ : Bool
+    e₂ = allOf (roofsKept s) (flagFits s)
+
+    abbrev e₃ : Bool
+    e₃ = allOf (unitsKept s + roofsKept s) (varFits s)
+
+    stand-tests : ((e₁ ≡ true) × (e₂ ≡ true)) × (e₃ ≡ true)
     unfolding standsFit listsFit
-    stand-tests =
-        and-parts (heldFits (siteOf (sitePart s)) (upTo (unitsKept s) (storeAt s)) (upTo (unitsKept s) (requestAt s))) (allOf (roofsKept s) (flagFits s))
-        (and-parts d₁ d₂ (groups .1 .1) .0)
+    stand-tests = let b = and-parts (e₁ && e₂) e₃ (and-parts d₁ d₂ (groups .1 .1) .0) in (and-parts e₁ e₂ (b .0), b .1)
 
     pub rest-clear : restClear s (unitsKept s) (roofsKept s) ≡ true
     rest-clear = and-parts d₁ d₂ (groups .1 .1) .1
 
     pub flags-fit : allOf (roofsKept s) (flagFits s) ≡ true
-    flags-fit = stand-tests .1
+    flags-fit = stand-tests .0 .1
+
+    pub vars-fit : (i : ℕ) → i < unitsKept s + roofsKept s → natAbs (varAt s i) ≤ 100000000
+    unfolding varFits
+    vars-fit i l = leb-true (natAbs (varAt s i)) 100000000 (all-at (unitsKept s + roofsKept s) (varFits s) (stand-tests .1) i l)
+
+    vars-small : (i : ℕ) → i < length (allVars (keptIn s .stands)) → natAbs (getD (allVars (keptIn s .stands)) i (pos 0)) ≤ 100000000
+    vars-small i h =
+        let n = unitsKept s + roofsKept s in
+        let l : i < n = subst (λ (m : ℕ). i < m) (ap length (vars-kept s) ∙ upTo-length n (varAt s)) h in
+        subst⁻¹ (λ (z : ℤ). natAbs z ≤ 100000000) (ap (λ (l : List ℤ). getD l i (pos 0)) (vars-kept s) ∙ upTo-at n (varAt s) (pos 0) i l) (vars-fit i l)
 
     counted : (b : Bool) → begun (stateIn s) ≡ b → (unitsKept s ≡ cond b (count (siteOf (sitePart s))) 0) × (roofsKept s ≡ cond b (length (roofsOf (sitePart s))) 0)
     unfolding unitsKept roofsKept
     counted b e = (ap (λ (t : Bool). cond t (count (siteOf (sitePart s))) 0) e, ap (λ (t : Bool). cond t (length (roofsOf (sitePart s))) 0) e)
 
-    none : {A : Type 0} (n : ℕ) (f : ℕ → A) → n ≡ 0 → upTo n f ≡ []
-    unfolding upTo
-    none n f e = ap (λ (k : ℕ). upTo k f) e
+    none-stand : (n m : ℕ) → n ≡ 0 → m ≡ 0 → standsIn s n m ≡ noStanding
+    unfolding standsIn upTo
+    none-stand n m e f = ap₂ (standsIn s) e f
 
     pub kept-well : WellKept (keptIn s)
-    unfolding keptIn stateIn knownBy
+    unfolding keptIn stateIn knownBy dueKept standsIn
     kept-well = record {
       known = site-known;
       no-steps = site-tests .0 .1;
@@ -150,14 +199,16 @@ module _ (s : List ℕ) (formed : wellFormed s ≡ true) where
       placed =
           ap₂ (placeFits (placeIn s) (stageIn s) (stepsKept s)) site-long tail-long ∙ mark-tests .0 .0;
       sunny = mark-tests .0 .1;
-      tailed = mark-tests .1;
+      volted = kept-volts (stageIn s) (be 2 s 25) (mark-tests .1 .0);
+      said = kept-said (eqb (stageIn s) atVoltage) (be 2 s 25);
+      tailed = mark-tests .1 .1;
       tail-short = let l = tail-long in let n = numbers .0 .1 in omega arith;
       stores = λ e. upTo-length (unitsKept s) (storeAt s) ∙ counted true e .0;
       asks = upTo-length (unitsKept s) (requestAt s) ∙ sym (upTo-length (unitsKept s) (storeAt s));
-      held = stand-tests .0;
+      leads = upTo-length (unitsKept s) (varAt s) ∙ sym (upTo-length (unitsKept s) (storeAt s));
+      held = stand-tests .0 .0;
       flags = λ e. upTo-length (roofsKept s) (flagAt s) ∙ counted true e .1;
-      none-stands = λ e. (
-        ap₂ standing (none (unitsKept s) (storeAt s) (counted false e .0)) (none (unitsKept s) (requestAt s) (counted false e .0)),
-        none (roofsKept s) (flagAt s) (counted false e .1),
-      );
+      shines = upTo-length (roofsKept s) (λ (i : ℕ). varAt s (unitsKept s + i)) ∙ sym (upTo-length (roofsKept s) (flagAt s));
+      small = vars-small;
+      none-stands = λ e. none-stand (unitsKept s) (roofsKept s) (counted false e .0) (counted false e .1);
     }

@@ -9,7 +9,7 @@ use native.Mathlib.Nat.{le-refl, le-step, le-trans, lt-of-le-of-lt}
 use native.Mathlib.Omega.{arith}
 use lib.Dec.{leb, eqb, lit<}
 use lib.IntN.{ℤ, pos, natAbs}
-use lib.ListN.{length, getD, replicate, length-replicate, getD-replicate, List·getD-append}
+use lib.ListN.{length, getD, replicate, length-append, length-replicate, getD-replicate, List·getD-append}
 use lib.Seq.{slice, slice-empty, getD-append-add}
 use borrow.Author.Tests.{leb-true, eqb-true, le-leb, eq-eqb}
 use mir.Syntax.{w32}
@@ -23,12 +23,13 @@ use Rattle.octets.proofs.ByteLaws.{be-one, bytes-length}
 use Rattle.members.specs.Ranges.{someAbove, someBelow}
 use Rattle.records.proofs.LayLaws.{both, longer}
 use Rattle.solar.specs.declared.Sun.{Sun}
+use Rattle.lead.specs.Lead.{voltageIn}
 use Rattle.unit.proofs.RangeLaws.{Bounds, bounds}
 use Rattle.site.specs.Site.{count, unitOf}
 use Rattle.site.proofs.RangeLaws.{unit-ranged}
 use Rattle.parts.specs.Header.{header, tagAt}
 use Rattle.fields.specs.declared.State.{State}
-use Rattle.fields.specs.Fields.{atEnd, atReading, isReading, stateAfter, roofAfter}
+use Rattle.fields.specs.Fields.{atEnd, atReading, atVoltage, isReading, stateAfter, roofAfter}
 use Rattle.stick.specs.declared.Reached.{Reached}
 use Rattle.stick.specs.Check.{reachOf, start}
 use Rattle.stick.specs.Site.{siteOf}
@@ -36,21 +37,20 @@ use Rattle.stick.specs.Posts.{Accepted}
 use Rattle.stick.proofs.SiteProved.{sited}
 use Rattle.chunks.proofs.ReachChunks.{Went, there, passing, far-gone}
 use Rattle.chunks.proofs.HeadChunks.{accepted-field}
-use Rattle.fleet.specs.Step.{Standing}
+use Rattle.fleet.specs.Step.{Stands}
 use Rattle.kept.specs.Kept.{Kept, begunAt, begun}
 use Rattle.kept.specs.Layout.{tailMost, siteMost, restSize, placeMost}
-use Rattle.kept.specs.Layout.{tailPlace, heldPlace, flagPlace, sitePlace, stateSize, filled, numbersOf, heldOf, flagsOf, topOf, standsOf, markOf, bytesFor, stoppedBytes, numberIn, placeIn}
-use Rattle.kept.specs.Layout.{stepsKept, stageIn, siteBytes, tailBytes, sitePart, tailPart, sunKept, knownBy, stateIn, storeAt, requestAt, flagAt, upTo, unitsKept, roofsKept, keptIn}
-use Rattle.kept.specs.Formed.{clear, siteFits, beside, placeFits, sunFits, tailFits, unitFits, heldFits, flagFits, listsFit, standsFit, restClear, markFits, wellFormed}
+use Rattle.kept.specs.Layout.{tailPlace, heldPlace, flagPlace, varsPlace, sitePlace, stateSize, filled, voltsOf, allVars, numbersOf, heldOf, flagsOf, varsOf, topOf, standsOf, markOf, bytesFor, stoppedBytes, numberIn, placeIn}
+use Rattle.kept.specs.Layout.{stepsKept, stageIn, siteBytes, tailBytes, sitePart, tailPart, sunKept, dueKept, knownBy, stateIn, storeAt, requestAt, flagAt, upTo, unitsKept, roofsKept, standsIn, keptIn}
+use Rattle.kept.specs.Formed.{clear, siteFits, beside, placeFits, sunFits, voltFits, tailFits, unitFits, heldFits, flagFits, varFits, listsFit, standsFit, restClear, markFits, wellFormed}
 use Rattle.kept.specs.Posts.{WellKept}
-use Rattle.kept.proofs.StandLaws.{upTo-length, held-length, flags-length}
+use Rattle.kept.proofs.StandLaws.{upTo-length, held-length, flags-length, vars-length}
 use Rattle.kept.proofs.NumberLaws.{numbers-length}
-use Rattle.kept.proofs.PieceLaws.{filled-long}
 use Rattle.kept.proofs.ListLaws.{part-accepted, few-units, few-roofs}
 use Rattle.kept.proofs.WellLaws.{small, fits-as-read, going-on, well-going, well-stopped}
 use Rattle.kept.proofs.FitLaws.{stopped-is}
 use Rattle.kept.proofs.ReadLaws.{flags-flag}
-use Rattle.kept.proofs.BackLaws.{Room, Keepable, number-back, top-length, held-room, before-site, size, site-bytes-back, tail-bytes-back, site-back, tail-back, flags-back, state-back, back}
+use Rattle.kept.proofs.BackLaws.{Room, Keepable, number-back, top-length, before-flags, before-vars, before-site, size, site-bytes-back, tail-bytes-back, site-back, tail-back, flags-back, state-back, var-back, volts-back, back}
 use Rattle.kept.proofs.BackLaws.{stopped-size, stopped-number, stopped-place, stopped-steps}
 
 -- ---- a test that passes for each
@@ -73,50 +73,55 @@ clear-in a b n from to l e s is =
     ∙ getD-replicate n i 0 0 (omega arith)))
 
 -- ---- a stage is a small number
-after-small : (st : State) (tag : ℕ) (file : List ℕ) (at : ℕ) → stateAfter st tag file at .stage ≤ 9
+after-small : (st : State) (tag : ℕ) (file : List ℕ) (at : ℕ) → stateAfter st tag file at .stage ≤ 12
 unfolding stateAfter roofAfter
 after-small st tag file at =
-    let P : State → Type 0 = λ (s : State). s .stage ≤ 9 in
+    let P : State → Type 0 = λ (s : State). s .stage ≤ 12 in
+    let Q : ℕ → Type 0 = λ (n : ℕ). n ≤ 12 in
     by-test P (eqb tag 1) _ _ (λ t. omega arith)
     (λ t. by-test P (eqb tag 2) _ _ (λ t. by-test P (leb (st .left) 1) _ _ (λ u. omega arith) (λ u. omega arith))
     (λ t. by-test P (eqb tag 3) _ _ (λ t. omega arith)
     (λ t. by-test P (isReading tag) _ _ (λ t. omega arith)
     (λ t. by-test P (eqb tag 6) _ _ (λ t. omega arith)
-    (λ t. by-test P (eqb tag 7) _ _ (λ t. by-test (λ (n : ℕ). n ≤ 9) (eqb (st .stage) 6) 7 5 (λ u. omega arith) (λ u. omega arith))
+    (λ t. by-test P (eqb tag 7) _ _
+    (λ t. by-test Q (eqb (st .stage) 6) 7 _ (λ u. omega arith) (λ u. by-test Q (eqb (st .stage) 7) 5 12 (λ v. omega arith) (λ v. omega arith)))
     (λ t. by-test P (eqb tag 8) _ _ (λ t. omega arith)
-    (λ t. by-test P (eqb tag 10) _ _ (λ t. omega arith) (λ t. omega arith))))))))
+    (λ t. by-test P (eqb tag 10) _ _ (λ t. omega arith)
+    (λ t. by-test P (eqb tag 11) _ _ (λ t. omega arith)
+    (λ t. by-test P (eqb tag 12) _ _ (λ t. omega arith) (λ t. omega arith))))))))))
 
-went-small : (file : List ℕ) {s st : State} {j i : ℕ} → Went file s j st i → st .stage ≤ 9 → s .stage ≤ 9
-went-small file (there e f) h = subst (λ (s : State). s .stage ≤ 9) e h
+went-small : (file : List ℕ) {s st : State} {j i : ℕ} → Went file s j st i → st .stage ≤ 12 → s .stage ≤ 12
+went-small file (there e f) h = subst (λ (s : State). s .stage ≤ 12) e h
 went-small file {s} {st} {j} {i} (passing m l e f w more) h =
-    went-small file more (subst (λ (s : State). s .stage ≤ 9) (accepted-field file st m i (omega arith) f .is) (after-small st (tagAt file i) file (i + header)))
+    went-small file more (subst (λ (s : State). s .stage ≤ 12) (accepted-field file st m i (omega arith) f .is) (after-small st (tagAt file i) file (i + header)))
 
-known-small : (site : List ℕ) → knownBy site .stage ≤ 9
+known-small : (site : List ℕ) → knownBy site .stage ≤ 12
 unfolding knownBy
 known-small site = went-small site (far-gone site start 0 (omega arith) .went) (omega arith)
 
-begun-small : (n : ℕ) → begunAt n ≡ true → n ≤ 9
-begun-small n = go (eqb n 0) (eqb n 4) (eqb n 8) refl refl refl
+begun-small : (n : ℕ) → begunAt n ≡ true → n ≤ 12
+begun-small n = go (eqb n 0) (eqb n 4) (eqb n 8) (eqb n 11) refl refl refl refl
   where
-    go : (x y z : Bool) → eqb n 0 ≡ x → eqb n 4 ≡ y → eqb n 8 ≡ z → (x || y || z) ≡ true → n ≤ 9
-    go true y z ex ey ez c = let e = eqb-true n 0 ex in omega arith
-    go false true z ex ey ez c = let e = eqb-true n 4 ey in omega arith
-    go false false true ex ey ez c = let e = eqb-true n 8 ez in omega arith
-    go false false false ex ey ez c = absurd (passed-failed c refl)
+    go : (x y z v : Bool) → eqb n 0 ≡ x → eqb n 4 ≡ y → eqb n 8 ≡ z → eqb n 11 ≡ v → (x || y || z || v) ≡ true → n ≤ 12
+    go true y z v ex ey ez ev c = let e = eqb-true n 0 ex in omega arith
+    go false true z v ex ey ez ev c = let e = eqb-true n 4 ey in omega arith
+    go false false true v ex ey ez ev c = let e = eqb-true n 8 ez in omega arith
+    go false false false true ex ey ez ev c = let e = eqb-true n 11 ev in omega arith
+    go false false false false ex ey ez ev c = absurd (passed-failed c refl)
 
--- ---- a place and a sun that fit
+-- ---- a place, a sun and a voltage that fit
 place-few : (place stage steps site tail : ℕ) → placeFits place stage steps site tail ≡ true → site ≤ siteMost → steps ≤ 65535 → tail ≤ tailMost → place ≤ 4000000
 unfolding placeFits beside
 place-few place stage steps site tail t a b d =
     let n = beside stage site tail in
-    let hi = leb-true place (n + 46 * steps) (and-parts (leb (n + 3 * steps) place) (leb place (n + 46 * steps)) t .1) in
-    let x : _≤_ (cond (eqb stage atReading) 19 0) 19 = by-test (λ (n : ℕ). n ≤ 19) (eqb stage atReading) 19 0 (λ u. omega arith) (λ u. omega arith) in
-    let y : _≤_ (cond (eqb stage atEnd) 7 0) 7 = by-test (λ (n : ℕ). n ≤ 7) (eqb stage atEnd) 7 0 (λ u. omega arith) (λ u. omega arith) in
-    omega arith
+    let top = n + 51 * steps + cond (eqb stage atVoltage) 19 0 in
+    let hi = leb-true place top (and-parts (leb (n + 3 * steps) place) (leb place top) t .1) in
+    let upto : (b : Bool) (x : ℕ) → cond b x 0 ≤ x = λ b x. by-test (λ (n : ℕ). n ≤ x) b x 0 (λ u. omega arith) (λ u. omega arith) in
+    omega (arith, upto (eqb stage atReading) 19, upto (eqb stage atVoltage) 5, upto (eqb stage atVoltage) 19, upto (eqb stage atEnd) 7)
 
 sun-few : (stage : ℕ) (s : Sun) → sunFits stage s ≡ true → (s .irradiance ≤ 100000000) × (natAbs (s .temperature) ≤ 100000000)
 unfolding sunFits
-sun-few stage s t = go (eqb stage atReading) t
+sun-few stage s t = go (eqb stage atReading || eqb stage atVoltage) t
   where
     go : (b : Bool) → cond b (leb (s .irradiance) 100000000 && leb (natAbs (s .temperature)) 100000000) (eqb (s .irradiance) 0 && eqb (natAbs (s .temperature)) 0) ≡ true
         → (s .irradiance ≤ 100000000) × (natAbs (s .temperature) ≤ 100000000)
@@ -129,16 +134,30 @@ sun-few stage s t = go (eqb stage atReading) t
         let b = eqb-true (natAbs (s .temperature)) 0 (p .1) in
         (omega arith, omega arith)
 
+volts-few : (stage volts : ℕ) → voltFits stage volts ≡ true → volts ≤ 20000
+unfolding voltFits
+volts-few stage volts t = go (eqb stage atVoltage) t
+  where
+    go : (b : Bool) → cond b (voltageIn volts) (eqb volts 0) ≡ true → volts ≤ 20000
+    go true e = leb-true volts 20000 e
+    go false e = let z = eqb-true volts 0 e in omega arith
+
 -- ---- what is well kept has room in its bytes
 module _ (k : Kept) (well : WellKept k) where
   abbrev K : State
   K = knownBy (k .site)
 
   abbrev stored : List ℕ
-  stored = k .stands .stored
+  stored = k .stands .units .stored
 
   abbrev rs : List ℤ
-  rs = k .stands .requests
+  rs = k .stands .units .requests
+
+  abbrev on : List Bool
+  on = k .stands .on
+
+  abbrev vs : List ℤ
+  vs = allVars (k .stands)
 
   site-test : siteFits (reachOf (length (k .site)) start (k .site) 0) (k .state .stage) (k .state .steps) ≡ true
   unfolding siteFits
@@ -152,12 +171,12 @@ module _ (k : Kept) (well : WellKept k) where
           ap (λ (b : Bool). cond b (eqb (K .stage) 0) (eqb (K .stage) (k .state .stage) && eqb (k .state .steps) 0)) e
           ∙ ap₂ _&&_ (eq-eqb (K .stage) (k .state .stage) (well .waiting e .0)) (eq-eqb (k .state .steps) 0 (well .waiting e .1))
 
-  pub stage-small : k .state .stage ≤ 9
+  pub stage-small : k .state .stage ≤ 12
   stage-small = go (begun (k .state)) refl
     where
-      go : (b : Bool) → begun (k .state) ≡ b → k .state .stage ≤ 9
+      go : (b : Bool) → begun (k .state) ≡ b → k .state .stage ≤ 12
       go true e = begun-small (k .state .stage) e
-      go false e = subst (λ (n : ℕ). n ≤ 9) (well .waiting e .0) (known-small (k .site))
+      go false e = subst (λ (n : ℕ). n ≤ 12) (well .waiting e .0) (known-small (k .site))
 
   pub place-small : k .place ≤ 4000000
   place-small =
@@ -182,7 +201,7 @@ module _ (k : Kept) (well : WellKept k) where
       (leb-true (getD stored i 0) (unitOf site i .rated) (p .0), leb-true (natAbs (getD rs i (pos 0))) (unitOf site i .rating) (p .1))
 
   none-stored : begun (k .state) ≡ false → length stored ≡ 0
-  none-stored e = ap (λ (s : Standing). length (s .stored)) (well .none-stands e .0)
+  none-stored e = ap (λ (s : Stands). length (s .units .stored)) (well .none-stands e)
 
   held-few : (i : ℕ) → i < length stored → (getD stored i 0 ≤ 10000000000000) × (natAbs (getD rs i (pos 0)) ≤ 100000000)
   held-few i l = go (begun (k .state)) refl
@@ -195,34 +214,53 @@ module _ (k : Kept) (well : WellKept k) where
           (le-trans (h .0) (u .rated-most), le-trans (h .1) (u .rating-most))
       go false e = let n = none-stored e in absurd (omega arith)
 
-  kept-room : Room k
-  kept-room = record { tail-room = well .tail-short; stored-room = stores (begun (k .state)) refl; on-room = ons (begun (k .state)) refl; site-room = well .site-short }
+  stores-most : length stored ≤ 64
+  stores-most = go (begun (k .state)) refl
     where
-      stores : (b : Bool) → begun (k .state) ≡ b → length stored ≤ 64
-      stores true e = let n = well .stores e in let m = few-units (k .site) (site-accepted e) in omega arith
-      stores false e = let n = none-stored e in omega arith
+      go : (b : Bool) → begun (k .state) ≡ b → length stored ≤ 64
+      go true e = let n = well .stores e in let m = few-units (k .site) (site-accepted e) in omega arith
+      go false e = let n = none-stored e in omega arith
 
-      ons : (b : Bool) → begun (k .state) ≡ b → length (k .on) ≤ 64
-      ons true e = let n = well .flags e in let m = few-roofs (k .site) (site-accepted e) in omega arith
-      ons false e = let n : length (k .on) ≡ 0 = ap length (well .none-stands e .1) in omega arith
+  on-most : length on ≤ 64
+  on-most = go (begun (k .state)) refl
+    where
+      go : (b : Bool) → begun (k .state) ≡ b → length on ≤ 64
+      go true e = let n = well .flags e in let m = few-roofs (k .site) (site-accepted e) in omega arith
+      go false e = let n : length on ≡ 0 = ap (λ (s : Stands). length (s .on)) (well .none-stands e) in omega arith
+
+  -- as many vars as units and inverters
+  vars-are : length vs ≡ length stored + length on
+  vars-are = length-append (k .stands .units .vars) (k .stands .vars) ∙ ap₂ _+_ (well .leads) (well .shines)
+
+  kept-room : Room k
+  kept-room = record {
+    tail-room = well .tail-short;
+    stored-room = stores-most;
+    on-room = on-most;
+    vars-room = omega (arith, vars-are, stores-most, on-most);
+    site-room = well .site-short;
+  }
 
   pub keepable : Keepable k
   keepable =
-      let sun = sun-few (k .state .stage) (k .sun) (well .sunny) in
+      let sun = sun-few (k .state .stage) (k .due .sun) (well .sunny) in
       record {
         room = kept-room;
         place-fits = lt-of-le-of-lt place-small (lit< tt);
         steps-fit = lt-of-le-of-lt (well .few) (lit< tt);
         stage-fits = lt-of-le-of-lt stage-small (lit< tt);
         light-fits = lt-of-le-of-lt (sun .0) (lit< tt);
-        warm-fits = size-fits w32 (k .sun .temperature) (lt-of-le-of-lt (sun .1) (lit< tt));
+        warm-fits = size-fits w32 (k .due .sun .temperature) (lt-of-le-of-lt (sun .1) (lit< tt));
+        volts-fit = lt-of-le-of-lt (volts-few (k .state .stage) (voltsOf (k .due .voltage)) (well .volted)) (lit< tt);
+        said = well .said;
         stores-fit = λ i l. lt-of-le-of-lt (held-few i l .0) (lit< tt);
         requests-fit = λ i l. let n = well .asks in size-fits w32 (getD rs i (pos 0)) (lt-of-le-of-lt (held-few i (omega arith) .1) (lit< tt));
+        vars-fit = λ i l. size-fits w32 (getD vs i (pos 0)) (lt-of-le-of-lt (well .small i l) (lit< tt));
         asked = well .asks;
+        led = well .leads;
+        shone = well .shines;
         once-begun = λ e. (well .stores e, well .flags e);
-        not-begun = λ e.
-            let s = well .none-stands e .0 in
-            (ap (λ (s : Standing). s .stored) s, (ap (λ (s : Standing). s .requests) s, well .none-stands e .1));
+        not-begun = well .none-stands;
         state-is = well .state-is;
       }
 
@@ -249,26 +287,26 @@ module _ (k : Kept) (well : WellKept k) where
   unfolding keptIn
   place-is = ap (λ (x : Kept). x .place) kept-back
 
-  sun-is : sunKept S ≡ k .sun
-  unfolding keptIn
-  sun-is = ap (λ (x : Kept). x .sun) kept-back
+  sun-is : sunKept S ≡ k .due .sun
+  unfolding keptIn dueKept
+  sun-is = ap (λ (x : Kept). x .due .sun) kept-back
 
   stored-is : upTo (unitsKept S) (storeAt S) ≡ stored
-  unfolding keptIn
-  stored-is = ap (λ (x : Kept). x .stands .stored) kept-back
+  unfolding keptIn standsIn
+  stored-is = ap (λ (x : Kept). x .stands .units .stored) kept-back
 
   requests-are : upTo (unitsKept S) (requestAt S) ≡ rs
-  unfolding keptIn
-  requests-are = ap (λ (x : Kept). x .stands .requests) kept-back
+  unfolding keptIn standsIn
+  requests-are = ap (λ (x : Kept). x .stands .units .requests) kept-back
 
-  on-is : upTo (roofsKept S) (flagAt S) ≡ k .on
-  unfolding keptIn
-  on-is = ap (λ (x : Kept). x .on) kept-back
+  on-is : upTo (roofsKept S) (flagAt S) ≡ on
+  unfolding keptIn standsIn
+  on-is = ap (λ (x : Kept). x .stands .on) kept-back
 
   units-are : unitsKept S ≡ length stored
   units-are = sym (upTo-length (unitsKept S) (storeAt S)) ∙ ap length stored-is
 
-  roofs-are : roofsKept S ≡ length (k .on)
+  roofs-are : roofsKept S ≡ length on
   roofs-are = sym (upTo-length (roofsKept S) (flagAt S)) ∙ ap length on-is
 
   small-so : small S ≡ true
@@ -295,10 +333,12 @@ module _ (k : Kept) (well : WellKept k) where
   mark-so =
       ap₂ _&&_
       (ap₂ _&&_
+      (ap₂ _&&_
       (place-so (placeIn S) (k .place) (stageIn S) (k .state .stage) (stepsKept S) (k .state .steps) (siteBytes S) (length (k .site)) (tailBytes S) (length (k .tail))
       place-is stage-is steps-is (site-bytes-back k kept-room) (tail-bytes-back k kept-room)
       ∙ well .placed)
       (ap₂ sunFits stage-is sun-is ∙ well .sunny))
+      (ap₂ voltFits stage-is (volts-back k keepable) ∙ well .volted))
       (ap₂ tailFits (state-back k keepable) (tail-back k kept-room) ∙ well .tailed)
 
   flag-most : (b : Bool) → leb (cond b 1 0) 1 ≡ true
@@ -309,18 +349,26 @@ module _ (k : Kept) (well : WellKept k) where
   unfolding flagFits
   flag-so i l =
       let n = roofs-are in
-      let m = flags-length (length (k .on)) (k .on) in
-      ap (λ (v : ℕ). leb v 1) (flags-back k kept-room i (omega arith) ∙ flags-flag (k .on) (length (k .on)) i (omega arith))
-      ∙ flag-most (getD (k .on) i false)
+      let m = flags-length (length on) on in
+      ap (λ (v : ℕ). leb v 1) (flags-back k kept-room i (omega arith) ∙ flags-flag on (length on) i (omega arith))
+      ∙ flag-most (getD on i false)
+
+  var-so : (i : ℕ) → i < unitsKept S + roofsKept S → varFits S i ≡ true
+  unfolding varFits
+  var-so i l =
+      let m : i < length vs = omega (arith, vars-are, units-are, roofs-are) in
+      ap (λ (z : ℤ). leb (natAbs z) 100000000) (var-back k keepable i m) ∙ le-leb (natAbs (getD vs i (pos 0))) 100000000 (well .small i m)
 
   lists-so : standsFit S ≡ true
   unfolding standsFit listsFit
   lists-so =
       ap₂ _&&_
+      (ap₂ _&&_
       (ap (λ (p : List ℕ). heldFits (siteOf p) (upTo (unitsKept S) (storeAt S)) (upTo (unitsKept S) (requestAt S))) (site-back k kept-room)
       ∙ ap₂ (heldFits (siteOf (k .site))) stored-is requests-are
       ∙ well .held)
-      (all-so (roofsKept S) (flagFits S) flag-so)
+      (all-so (roofsKept S) (flagFits S) flag-so))
+      (all-so (unitsKept S + roofsKept S) (varFits S) var-so)
 
   -- ---- what is not in use is 0
   abbrev top : List ℕ
@@ -330,10 +378,16 @@ module _ (k : Kept) (well : WellKept k) where
   held = heldOf (length stored) stored rs
 
   abbrev flags : List ℕ
-  flags = flagsOf (length (k .on)) (k .on)
+  flags = flagsOf (length on) on
+
+  abbrev vars : List ℕ
+  vars = varsOf (length vs) vs
 
   abbrev stands : List ℕ
-  stands = standsOf stored rs (k .on)
+  stands = standsOf stored rs vs on
+
+  abbrev site : List ℕ
+  site = filled siteMost (k .site)
 
   abbrev zeros : ℕ → List ℕ
   zeros n = replicate n 0
@@ -341,11 +395,14 @@ module _ (k : Kept) (well : WellKept k) where
   tail-grouped : (n t z s p : List ℕ) → n ++ (t ++ z) ++ s ++ p ≡ (n ++ t) ++ (z ++ (s ++ p))
   tail-grouped n t z s p = simp append-assoc
 
-  held-grouped : (a h z f p : List ℕ) → a ++ (h ++ z ++ f) ++ p ≡ (a ++ h) ++ (z ++ (f ++ p))
-  held-grouped a h z f p = simp append-assoc
+  held-grouped : (a h z f v p : List ℕ) → a ++ (h ++ z ++ f ++ v) ++ p ≡ (a ++ h) ++ (z ++ (f ++ (v ++ p)))
+  held-grouped a h z f v p = simp append-assoc
 
-  flags-grouped : (a h f z p : List ℕ) → a ++ (h ++ (f ++ z)) ++ p ≡ (a ++ h ++ f) ++ (z ++ p)
-  flags-grouped a h f z p = simp append-assoc
+  flags-grouped : (a h f z v p : List ℕ) → a ++ (h ++ (f ++ z) ++ v) ++ p ≡ (a ++ h ++ f) ++ (z ++ (v ++ p))
+  flags-grouped a h f z v p = simp append-assoc
+
+  vars-grouped : (a h f v z p : List ℕ) → a ++ (h ++ f ++ (v ++ z)) ++ p ≡ (a ++ (h ++ f) ++ v) ++ (z ++ p)
+  vars-grouped a h f v z p = simp append-assoc
 
   site-grouped : (a p z : List ℕ) → a ++ (p ++ z) ≡ (a ++ p) ++ (z ++ [])
   site-grouped a p z = sym (append-assoc a p z) ∙ ap (λ (l : List ℕ). (a ++ p) ++ l) (sym (append-nil z))
@@ -356,9 +413,9 @@ module _ (k : Kept) (well : WellKept k) where
       let t = length (k .tail) in
       let few = well .tail-short in
       ap (λ (n : ℕ). clear S (tailPlace + n) heldPlace) (tail-bytes-back k kept-room)
-      ∙ clear-in (numbersOf (markOf k) ++ k .tail) (stands ++ filled siteMost (k .site)) (tailMost - t) (tailPlace + t) heldPlace
-      (both (numbersOf (markOf k)) (k .tail) 25 t (numbers-length (markOf k)) refl) (omega arith) S
-      (tail-grouped (numbersOf (markOf k)) (k .tail) (zeros (tailMost - t)) stands (filled siteMost (k .site)))
+      ∙ clear-in (numbersOf (markOf k) ++ k .tail) (stands ++ site) (tailMost - t) (tailPlace + t) heldPlace
+      (both (numbersOf (markOf k)) (k .tail) 27 t (numbers-length (markOf k)) refl) (omega arith) S
+      (tail-grouped (numbersOf (markOf k)) (k .tail) (zeros (tailMost - t)) stands site)
 
   held-clear : clear S (heldPlace + 12 * unitsKept S) flagPlace ≡ true
   unfolding bytesFor standsOf filled
@@ -367,21 +424,31 @@ module _ (k : Kept) (well : WellKept k) where
       let l : length held ≡ 12 * n = held-length n stored rs in
       let few : n ≤ 64 = kept-room .stored-room in
       ap (λ (m : ℕ). clear S (heldPlace + 12 * m) flagPlace) units-are
-      ∙ clear-in (top ++ held) (filled 64 flags ++ filled siteMost (k .site)) (768 - length held) (heldPlace + 12 * n) flagPlace
+      ∙ clear-in (top ++ held) (filled 64 flags ++ (filled 512 vars ++ site)) (768 - length held) (heldPlace + 12 * n) flagPlace
       (both top held heldPlace (12 * n) (top-length k kept-room) l) (omega arith) S
-      (held-grouped top held (zeros (768 - length held)) (filled 64 flags) (filled siteMost (k .site)))
+      (held-grouped top held (zeros (768 - length held)) (filled 64 flags) (filled 512 vars) site)
 
-  flags-clear : clear S (flagPlace + roofsKept S) sitePlace ≡ true
+  flags-clear : clear S (flagPlace + roofsKept S) varsPlace ≡ true
   unfolding bytesFor standsOf filled
   flags-clear =
-      let n = length (k .on) in
-      let l : length flags ≡ n = flags-length n (k .on) in
+      let n = length on in
+      let l : length flags ≡ n = flags-length n on in
       let few : n ≤ 64 = kept-room .on-room in
-      let before : length (top ++ filled 768 held) ≡ flagPlace = both top (filled 768 held) heldPlace 768 (top-length k kept-room) (filled-long 768 held (held-room k kept-room)) in
-      ap (λ (m : ℕ). clear S (flagPlace + m) sitePlace) roofs-are
-      ∙ clear-in (top ++ filled 768 held ++ flags) (filled siteMost (k .site)) (64 - length flags) (flagPlace + n) sitePlace
-      (both (top ++ filled 768 held) flags flagPlace n before l) (omega arith) S
-      (flags-grouped top (filled 768 held) flags (zeros (64 - length flags)) (filled siteMost (k .site)))
+      ap (λ (m : ℕ). clear S (flagPlace + m) varsPlace) roofs-are
+      ∙ clear-in (top ++ filled 768 held ++ flags) (filled 512 vars ++ site) (64 - length flags) (flagPlace + n) varsPlace
+      (both (top ++ filled 768 held) flags flagPlace n (before-flags k kept-room) l) (omega arith) S
+      (flags-grouped top (filled 768 held) flags (zeros (64 - length flags)) (filled 512 vars) site)
+
+  vars-clear : clear S (varsPlace + 4 * (unitsKept S + roofsKept S)) sitePlace ≡ true
+  unfolding bytesFor standsOf filled
+  vars-clear =
+      let n = length vs in
+      let l : length vars ≡ 4 * n = vars-length n vs in
+      let few : n ≤ 128 = kept-room .vars-room in
+      ap (λ (m : ℕ). clear S (varsPlace + 4 * m) sitePlace) (ap₂ _+_ units-are roofs-are ∙ sym vars-are)
+      ∙ clear-in (top ++ (filled 768 held ++ filled 64 flags) ++ vars) site (512 - length vars) (varsPlace + 4 * n) sitePlace
+      (both (top ++ (filled 768 held ++ filled 64 flags)) vars varsPlace (4 * n) (before-vars k kept-room) l) (omega arith) S
+      (vars-grouped top (filled 768 held) (filled 64 flags) vars (zeros (512 - length vars)) site)
 
   site-clear : clear S (sitePlace + siteBytes S) stateSize ≡ true
   unfolding bytesFor filled
@@ -395,7 +462,7 @@ module _ (k : Kept) (well : WellKept k) where
 
   rest-so : restClear S (unitsKept S) (roofsKept S) ≡ true
   unfolding restClear
-  rest-so = ap₂ _&&_ (ap₂ _&&_ (ap₂ _&&_ tail-clear held-clear) flags-clear) site-clear
+  rest-so = ap₂ _&&_ (ap₂ _&&_ (ap₂ _&&_ (ap₂ _&&_ tail-clear held-clear) flags-clear) vars-clear) site-clear
 
   pub kept-formed : wellFormed (bytesFor k) ≡ true
   kept-formed =
@@ -425,7 +492,7 @@ module _ (number place steps : ℕ) where
       be-one s 16 ∙ eqb-true (getD s 16 0) 0 (all-at (stateSize - 13) (λ (i : ℕ). eqb (getD s (13 + i) 0) 0) stopped-clear 3 (lit< tt)) in
       ap (λ (n : ℕ). slice tailPlace (tailPlace + n) s) none ∙ slice-empty tailPlace s
 
-  module _ (r : Refusal number) (few : steps ≤ 65535) (near : place ≤ placeMost + 46 * steps) where
+  module _ (r : Refusal number) (few : steps ≤ 65535) (near : place ≤ placeMost + 51 * steps) where
     number-few : number < 256
     number-few = go r
       where
@@ -469,5 +536,5 @@ module _ (number place steps : ℕ) where
         let n = stopped-number-back in
         sym
         (well-stopped s true (stopped-size number place steps) (λ z. refusal-some (sym n ∙ z))
-        (sym (ap₂ _&&_ (ap₂ _&&_ (ap₂ _&&_ number-so (le-leb steps 65535 few)) (le-leb place (placeMost + 46 * steps) near)) refl)
+        (sym (ap₂ _&&_ (ap₂ _&&_ (ap₂ _&&_ number-so (le-leb steps 65535 few)) (le-leb place (placeMost + 51 * steps) near)) refl)
         ∙ stopped-is s number place steps true (sym n) (sym stopped-place-back) (sym stopped-steps-back) (sym stopped-clear)))

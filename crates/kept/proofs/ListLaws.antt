@@ -8,6 +8,7 @@ use native.Mathlib.Omega.{arith}
 use lib.Dec.{eqb}
 use lib.ListN.{length, take, drop}
 use lib.Seq.{slice, length-slice}
+use Rattle.octets.specs.BigEndian.{be}
 use borrow.Author.Tests.{le-ltb}
 use Rattle.whole.specs.Over.{allOf, someOf}
 use Rattle.whole.proofs.OverLaws.{and-parts}
@@ -23,8 +24,8 @@ use Rattle.stick.proofs.ReachLaws.{walk-reach}
 use Rattle.stick.proofs.SiteProved.{sited, roofed}
 use Rattle.kept.specs.Kept.{begunAt}
 use Rattle.kept.specs.declared.Mark.{Mark}
-use Rattle.kept.specs.Layout.{tailPlace, sitePlace, stateSize, siteMost, stageIn, siteBytes, tailBytes, sitePart, tailPart, stateIn, markIn, storeAt, requestAt, upTo, unitsKept, roofsKept}
-use Rattle.kept.specs.Formed.{siteFits, placeFits, sunFits, tailFits, heldFits, flagFits, listsFit, standsFit, restClear, markFits}
+use Rattle.kept.specs.Layout.{tailPlace, sitePlace, stateSize, siteMost, stageIn, siteBytes, tailBytes, sitePart, tailPart, dueKept, stateIn, markIn, storeAt, requestAt, upTo, unitsKept, roofsKept}
+use Rattle.kept.specs.Formed.{siteFits, placeFits, sunFits, voltFits, tailFits, heldFits, flagFits, varFits, listsFit, standsFit, restClear, markFits}
 use Rattle.kept.specs.Posts.{Sized}
 use Rattle.kept.proofs.NumberLaws.{part-is}
 
@@ -92,10 +93,11 @@ lists-begun s units roofs f r b p q e h =
     ap₂ _&&_ e h ∙ ap₂ (λ (n m : ℕ). listsFit s n m && restClear s n m) (p ∙ sym u) (q ∙ sym v)
 
 -- ---- what was read into lists fits as the bytes do
-pub loaded-is : (s : List ℕ) (n : ℕ) (part : List ℕ) (roofs : ℕ) (h f : Bool) → part ≡ sitePart s
-    → h ≡ heldFits (siteOf part) (upTo n (storeAt s)) (upTo n (requestAt s)) → f ≡ allOf roofs (flagFits s) → (h && f) ≡ listsFit s n roofs
+pub loaded-is : (s : List ℕ) (n : ℕ) (part : List ℕ) (roofs : ℕ) (h f v : Bool) → part ≡ sitePart s
+    → h ≡ heldFits (siteOf part) (upTo n (storeAt s)) (upTo n (requestAt s)) → f ≡ allOf roofs (flagFits s)
+    → v ≡ allOf (n + roofs) (varFits s) → (h && f && v) ≡ listsFit s n roofs
 unfolding listsFit
-loaded-is s n part roofs h f p e g = ap₂ _&&_ (e ∙ ap (λ (t : List ℕ). heldFits (siteOf t) (upTo n (storeAt s)) (upTo n (requestAt s))) p) g
+loaded-is s n part roofs h f v p e g i = ap₂ _&&_ (ap₂ _&&_ (e ∙ ap (λ (t : List ℕ). heldFits (siteOf t) (upTo n (storeAt s)) (upTo n (requestAt s))) p) g) i
 
 -- ---- the numbers of the mark
 pub mark-site : (s : List ℕ) (m : Mark) → m ≡ markIn s → m .site ≡ siteBytes s
@@ -107,10 +109,13 @@ unfolding markIn
 mark-tail s m e = ap (λ (x : Mark). x .tail) e
 
 abbrev marks-fit : List ℕ → Mark → Bool
-marks-fit s m = placeFits (m .place) (m .state .stage) (m .state .steps) (m .site) (m .tail) && sunFits (m .state .stage) (m .sun) && tailFits (m .state) (slice tailPlace (tailPlace + m .tail) s)
+marks-fit s m =
+    placeFits (m .place) (m .state .stage) (m .state .steps) (m .site) (m .tail) && sunFits (m .state .stage) (m .due .sun) && voltFits (m .state .stage) (be 2 s 25)
+    && tailFits (m .state) (slice tailPlace (tailPlace + m .tail) s)
 
-pub mark-fits-is : (s : List ℕ) (m : Mark) (a b d : Bool) → m ≡ markIn s → a ≡ placeFits (m .place) (m .state .stage) (m .state .steps) (m .site) (m .tail)
-    → b ≡ sunFits (m .state .stage) (m .sun) → d ≡ tailFits (m .state) (take (tailPlace + m .tail - tailPlace) (drop tailPlace s)) → (a && b && d) ≡ markFits s
-unfolding markFits markIn stateIn tailPart
-mark-fits-is s m a b d e p q r =
-    ap₂ _&&_ (ap₂ _&&_ p q) (r ∙ ap (tailFits (m .state)) (part-is tailPlace (m .tail) s)) ∙ ap (marks-fit s) e
+pub mark-fits-is : (s : List ℕ) (m : Mark) (volts : ℕ) (a b v d : Bool) → m ≡ markIn s → volts ≡ be 2 s 25 → a ≡ placeFits (m .place) (m .state .stage) (m .state .steps) (m .site) (m .tail)
+    → b ≡ sunFits (m .state .stage) (m .due .sun) → v ≡ voltFits (m .state .stage) volts
+    → d ≡ tailFits (m .state) (take (tailPlace + m .tail - tailPlace) (drop tailPlace s)) → (a && b && v && d) ≡ markFits s
+unfolding markFits markIn stateIn dueKept tailPart
+mark-fits-is s m volts a b v d e f p q g r =
+    ap₂ _&&_ (ap₂ _&&_ (ap₂ _&&_ p q) (g ∙ ap (voltFits (m .state .stage)) f)) (r ∙ ap (tailFits (m .state)) (part-is tailPlace (m .tail) s)) ∙ ap (marks-fit s) e

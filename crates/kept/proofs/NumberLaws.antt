@@ -1,24 +1,30 @@
 -- The numbers of a state: a part of lent bytes is the part that a definition names, and what is read one by one is the whole mark. Assumes nothing.
 use mathlib.Core.Path.{_≡_, refl, sym, ap, _∙_}
+use mathlib.Core.Bool.{Bool, true, false, cond}
 use mathlib.Core.List.{List, [], _∷_}
 use Prim.Native.Nat.{ℕ, zero, suc, _+_, _-_, _≤_}
 use native.Mathlib.Nat.{zero-add, suc-add}
 use native.Mathlib.Omega.{arith}
+use lib.Dec.{eqb}
 use lib.IntN.{ℤ}
 use lib.ListN.{length, take, drop, replicate}
 use lib.Seq.{slice, take-nil}
+use borrow.Author.Tests.{eq-eqb, ne-eqb}
 use mir.Syntax.{w32}
 use mir.Val.{toZ}
 use Rattle.octets.specs.BigEndian.{be, bytesOf, laid}
 use Rattle.octets.proofs.LaidLaws.{laid-length}
 use Rattle.records.proofs.LayLaws.{behind, both}
+use Rattle.lead.specs.declared.Voltage.{Voltage}
+use Rattle.lead.specs.declared.Voltage.the-variants.{Unsaid, Said}
+use Rattle.site.specs.declared.Due.{Due}
 use Rattle.fields.specs.declared.State.{State}
-use Rattle.fields.specs.Fields.{goneTo}
+use Rattle.fields.specs.Fields.{atVoltage, goneTo}
 use Rattle.stick.specs.declared.Reached.{Reached}
 use Rattle.stick.specs.Check.{reachOf, start}
 use Rattle.kept.specs.declared.Mark.{Mark}
 use Rattle.kept.specs.Layout.{tailMost}
-use Rattle.kept.specs.Layout.{placeIn, stepsKept, stageIn, siteBytes, tailBytes, sitePart, sunKept, knownBy, stateIn, markIn, tailPlace, heldPlace, stateSize, filled, progressOf, partsOf, numbersOf, topOf}
+use Rattle.kept.specs.Layout.{placeIn, stepsKept, stageIn, siteBytes, tailBytes, sitePart, sunKept, dueKept, knownBy, stateIn, markIn, tailPlace, heldPlace, stateSize, filled, progressOf, partsOf, numbersOf, topOf}
 use Rattle.kept.proofs.PieceLaws.{laid-filled}
 
 -- so many bytes from a place on are those up to its end
@@ -45,34 +51,49 @@ state-is s r st stage steps a b d e =
     ∙ ap (λ (n : ℕ). goneTo k n (k .left) steps) b
     ∙ ap (λ (n : ℕ). goneTo k (stageIn s) (k .left) n) d
 
+-- the voltage that is read, behind a voltage field and else; and with the sun all that the step under way has
+voltage-by : (s : List ℕ) (b : Bool) → eqb (stageIn s) atVoltage ≡ b → dueKept s .voltage ≡ cond b (Said (be 2 s 25)) Unsaid
+unfolding dueKept
+voltage-by s b e = ap (λ (c : Bool). cond {A = Voltage} c (Said (be 2 s 25)) Unsaid) e
+
+pub voltage-said : (s : List ℕ) (stage n : ℕ) → stage ≡ stageIn s → stage ≡ atVoltage → n ≡ be 2 s 25 → Said n ≡ dueKept s .voltage
+voltage-said s stage n a b e = ap Said e ∙ sym (voltage-by s true (eq-eqb (stageIn s) atVoltage (sym a ∙ b)))
+
+pub voltage-unsaid : (s : List ℕ) (stage : ℕ) → stage ≡ stageIn s → (stage ≡ atVoltage → ⊥) → Unsaid ≡ dueKept s .voltage
+voltage-unsaid s stage a b = sym (voltage-by s false (ne-eqb (stageIn s) atVoltage (λ e. b (a ∙ e))))
+
+pub due-is : (s : List ℕ) (light : ℕ) (warm : ℤ) (v : Voltage) → light ≡ be 4 s 17 → warm ≡ toZ w32 (be 4 s 21) → v ≡ dueKept s .voltage
+    → _≡_ {A = Due} (record { sun = record { irradiance = light; temperature = warm }; voltage = v }) (dueKept s)
+unfolding dueKept sunKept
+due-is s light warm v a b d = rw (a, b, d)
+
 -- what is read one by one is the whole mark
-pub mark-is : (s : List ℕ) (r : Reached) (st : State) (place stage steps site tail light : ℕ) (warm : ℤ)
+pub mark-is : (s : List ℕ) (r : Reached) (st : State) (place stage steps site tail : ℕ) (due : Due)
     → r ≡ reachOf (length (sitePart s)) start (sitePart s) 0 → stage ≡ stageIn s → steps ≡ stepsKept s
     → st ≡ goneTo (r .state) stage (r .state .left) steps → place ≡ placeIn s → site ≡ siteBytes s → tail ≡ tailBytes s
-    → light ≡ be 4 s 17 → warm ≡ toZ w32 (be 4 s 21)
-    → _≡_ {A = Mark} (record { place = place; state = st; site = site; tail = tail; sun = record { irradiance = light; temperature = warm } }) (markIn s)
-unfolding markIn sunKept
-mark-is s r st place stage steps site tail light warm a b d e f g h i j = rw (state-is s r st stage steps a b d e, f, g, h, i, j)
+    → due ≡ dueKept s → _≡_ {A = Mark} (record { place = place; state = st; site = site; tail = tail; due = due }) (markIn s)
+unfolding markIn
+mark-is s r st place stage steps site tail due a b d e f g h i = rw (state-is s r st stage steps a b d e, f, g, h, i)
 
 -- ---- the numbers and a tail, with 0 behind it, are laid whole
 pub progress-length : (m : Mark) → length (progressOf m) ≡ 14
 unfolding progressOf bytesOf
 progress-length m = refl
 
-pub parts-length : (m : Mark) → length (partsOf m) ≡ 11
+pub parts-length : (m : Mark) → length (partsOf m) ≡ 13
 unfolding partsOf bytesOf
 parts-length m = refl
 
-pub numbers-length : (m : Mark) → length (numbersOf m) ≡ 25
+pub numbers-length : (m : Mark) → length (numbersOf m) ≡ 27
 unfolding numbersOf
-numbers-length m = both (progressOf m) (partsOf m) 14 11 (progress-length m) (parts-length m)
+numbers-length m = both (progressOf m) (partsOf m) 14 13 (progress-length m) (parts-length m)
 
 pub top-laid : (s : List ℕ) (m : Mark) (tail : List ℕ) → length s ≡ stateSize → length tail ≡ m .tail → m .tail ≤ tailMost → (t u v : List ℕ)
     → t ≡ laid s 0 (numbersOf m) → u ≡ laid t tailPlace tail → v ≡ laid u (tailPlace + m .tail) (replicate (heldPlace - (tailPlace + m .tail)) 0)
     → v ≡ laid s 0 (topOf m tail)
 unfolding topOf
 top-laid s m tail long l few t u v a b d =
-    let n : length (numbersOf m) ≡ 25 = numbers-length m in
+    let n : length (numbersOf m) ≡ 27 = numbers-length m in
     let o : length t ≡ length s = ap length a ∙ laid-length s 0 (numbersOf m) (omega arith) in
     let second : v ≡ laid t tailPlace (filled tailMost tail) = laid-filled t tailPlace (omega arith) tailMost (m .tail) (heldPlace - (tailPlace + m .tail)) tail l (omega arith) u v b d in
-    behind s 0 (omega arith) (numbersOf m) (filled tailMost tail) 25 n t v a second
+    behind s 0 (omega arith) (numbersOf m) (filled tailMost tail) 27 n t v a second

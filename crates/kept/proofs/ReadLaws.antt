@@ -1,10 +1,10 @@
 -- Numbers and parts read back from bytes that were put behind one another. Assumes nothing.
 use mathlib.Core.Path.{_≡_, refl, sym, ap, _∙_, subst}
 use mathlib.Core.Bool.{Bool, true, false, cond}
-use mathlib.Core.List.{List, [], _∷_, _++_, append-assoc}
+use mathlib.Core.List.{List, [], _∷_, _++_, append-assoc, append-nil}
 use mathlib.Core.Logic.{_⊎_, inl, inr}
 use Prim.Native.Nat.{ℕ, zero, suc, _+_, _-_, _*_, _^_, _≤_, _<_}
-use native.Mathlib.Nat.{add-zero, add-assoc, mod-eq-of-lt, not-suc-le-zero, le-of-suc-le-suc, eq-or-lt-of-le}
+use native.Mathlib.Nat.{add-zero, add-suc, add-assoc, mod-eq-of-lt, not-suc-le-zero, le-of-suc-le-suc, eq-or-lt-of-le}
 use native.Mathlib.Omega.{arith}
 use lib.Dec.{eqb, lit<}
 use lib.IntN.{ℤ, pos}
@@ -17,9 +17,9 @@ use mir.ValLaws.{ofZ-fits}
 use Rattle.whole.proofs.OverLaws.{all-at}
 use Rattle.octets.specs.BigEndian.{be, bytesOf}
 use Rattle.octets.proofs.ByteLaws.{be-same, be-bytes, bytes-length}
-use Rattle.kept.specs.Layout.{upTo, heldOf, flagsOf}
+use Rattle.kept.specs.Layout.{upTo, heldOf, flagsOf, varsOf}
 use Rattle.kept.specs.Formed.{clear}
-use Rattle.kept.proofs.StandLaws.{upTo-length, held-length, flags-length}
+use Rattle.kept.proofs.StandLaws.{upTo-length, held-length, flags-length, vars-length}
 
 -- ---- a number in the first or in the second of two pieces
 pub read-left : (n : ℕ) (a b : List ℕ) (at : ℕ) → at + n ≤ length a → be n (a ++ b) at ≡ be n a at
@@ -81,7 +81,7 @@ clear-zero s from to l e =
     ∙ sym (getD-replicate (to - from) i 0 0 k))
 
 -- ---- a list by its elements
-upTo-at : {A : Type 0} (n : ℕ) (g : ℕ → A) (d : A) (i : ℕ) → i < n → getD (upTo n g) i d ≡ g i
+pub upTo-at : {A : Type 0} (n : ℕ) (g : ℕ → A) (d : A) (i : ℕ) → i < n → getD (upTo n g) i d ≡ g i
 unfolding upTo
 upTo-at zero g d i h = absurd (not-suc-le-zero h)
 upTo-at {A} (suc n) g d i h = go (eq-or-lt-of-le (le-of-suc-le-suc h)) (λ l. upTo-at n g d i l)
@@ -98,7 +98,16 @@ upTo-is {A} n g d l e h =
     let m : i < n = subst (λ (j : ℕ). i < j) (upTo-length n g) k in
     upTo-at n g d i m ∙ h i (subst (λ (j : ℕ). i < j) e m))
 
--- ---- what units hold and are asked, and flags
+-- the first n, and the next m behind them
+pub upTo-both : {A : Type 0} (n m : ℕ) (g : ℕ → A) → upTo n g ++ upTo m (λ (i : ℕ). g (n + i)) ≡ upTo (n + m) g
+unfolding upTo
+upTo-both n zero g = append-nil (upTo n g) ∙ ap (λ (k : ℕ). upTo k g) (sym (add-zero n))
+upTo-both {A} n (suc m) g =
+    sym (append-assoc (upTo n g) (upTo m (λ (i : ℕ). g (n + i))) (g (n + m) ∷ []))
+    ∙ ap (λ (l : List A). l ++ (g (n + m) ∷ [])) (upTo-both n m g)
+    ∙ ap (λ (k : ℕ). upTo k g) (sym (add-suc n m))
+
+-- ---- what units hold and are asked, flags and vars
 module _ (stored : List ℕ) (rs : List ℤ) where
   abbrev store : ℕ → List ℕ
   store n = bytesOf 8 (getD stored n 0)
@@ -156,3 +165,21 @@ flags-flag on (suc n) i h = go (eq-or-lt-of-le (le-of-suc-le-suc h)) (λ l. flag
 pub flag-back : (b : Bool) → eqb (cond b 1 0) 1 ≡ b
 flag-back true = refl
 flag-back false = refl
+
+module _ (vs : List ℤ) where
+  abbrev var : ℕ → List ℕ
+  var n = bytesOf 4 (ofZ w32 (getD vs n (pos 0)))
+
+  pub vars-var : (n i : ℕ) → i < n → SFits w32 (getD vs i (pos 0)) → be 4 (varsOf n vs) (4 * i) ≡ ofZ w32 (getD vs i (pos 0))
+  unfolding varsOf
+  vars-var zero i h f = absurd (not-suc-le-zero h)
+  vars-var (suc n) i h f = go (eq-or-lt-of-le (le-of-suc-le-suc h)) (λ l. vars-var n i l f)
+    where
+      go : (i ≡ n) ⊎ (i < n) → (i < n → be 4 (varsOf n vs) (4 * i) ≡ ofZ w32 (getD vs i (pos 0))) → be 4 (varsOf n vs ++ var n) (4 * i) ≡ ofZ w32 (getD vs i (pos 0))
+      go (inl p) rest =
+          ap (λ (j : ℕ). be 4 (varsOf n vs ++ var n) (4 * j)) p
+          ∙ ap (be 4 (varsOf n vs ++ var n)) (sym (add-zero (4 * n)))
+          ∙ read-right 4 (varsOf n vs) (var n) (4 * n) 0 (vars-length n vs)
+          ∙ ap (λ (j : ℕ). be 4 (var j) 0) (sym p)
+          ∙ read-here 4 (ofZ w32 (getD vs i (pos 0))) (ofZ-fits w32 (getD vs i (pos 0)) f .fits)
+      go (inr l) rest = read-left 4 (varsOf n vs) (var n) (4 * i) (omega (arith, vars-length n vs)) ∙ rest l

@@ -1,4 +1,4 @@
--- What stands, read into lists and laid in bytes: what a loop over units or inverters has reached, and how long the parts are. Assumes nothing.
+-- What stands, read into lists and laid in bytes: what a loop over units, inverters or vars has reached, and how long the parts are. Assumes nothing.
 use mathlib.Core.Path.{_≡_, refl, sym, ap, ap₂, _∙_}
 use mathlib.Core.Bool.{Bool, true, false, cond}
 use mathlib.Core.List.{List, [], _∷_, _++_, append-assoc, append-nil}
@@ -15,7 +15,7 @@ use Rattle.octets.specs.BigEndian.{bytesOf, laid}
 use Rattle.octets.proofs.ByteLaws.{bytes-length}
 use Rattle.octets.proofs.LaidLaws.{laid-length}
 use Rattle.records.proofs.LayLaws.{nothing, behind, both, longer}
-use Rattle.kept.specs.Layout.{heldPlace, flagPlace, sitePlace, stateSize, filled, upTo, heldOf, flagsOf, standsOf}
+use Rattle.kept.specs.Layout.{heldPlace, flagPlace, varsPlace, sitePlace, stateSize, filled, upTo, heldOf, flagsOf, varsOf, standsOf}
 use Rattle.kept.proofs.PieceLaws.{laid-filled, filled-long}
 
 -- ---- a list filled from its beginning by the place alone
@@ -152,22 +152,70 @@ flag-on b e = sym (ap (λ (x : Bool). cond {A = ℕ} x 1 0) e)
 pub flag-off : (b : Bool) → b ≡ false → _≡_ {A = ℕ} 0 (cond b 1 0)
 flag-off b e = sym (ap (λ (x : Bool). cond {A = ℕ} x 1 0) e)
 
+-- ---- the vars last requested, in bytes
+pub vars-length : (n : ℕ) (vs : List ℤ) → length (varsOf n vs) ≡ 4 * n
+unfolding varsOf
+vars-length zero vs = refl
+vars-length (suc n) vs =
+    let l : length (varsOf n vs ++ bytesOf 4 (ofZ w32 (getD vs n (pos 0)))) ≡ 4 * n + 4 = longer (varsOf n vs) (4 * n) 4 (ofZ w32 (getD vs n (pos 0))) (vars-length n vs) in
+    omega arith
+
+pub vars-next : (n : ℕ) (vs : List ℤ) → varsOf (n + 1) vs ≡ varsOf n vs ++ bytesOf 4 (ofZ w32 (getD vs n (pos 0)))
+unfolding varsOf
+vars-next n vs = ap (λ (k : ℕ). varsOf k vs) (add-one n)
+
+pub record Varying (s now : List ℕ) (vs : List ℤ) (i : ℕ) : Type 0 where
+  pub upto : i ≤ length vs
+  pub is : now ≡ laid s varsPlace (varsOf i vs)
+
+module _ (s : List ℕ) (vs : List ℤ) where
+  pub varying-none : Varying s s vs 0
+  unfolding varsOf
+  varying-none = record { upto = omega arith; is = nothing s varsPlace }
+
+  module _ (h : varsPlace + 4 * length vs ≤ length s) (now : List ℕ) (i : ℕ) (w : Varying s now vs i) where
+    pub varying-length : length now ≡ length s
+    varying-length =
+        let u : i ≤ length vs = w .upto in
+        let l : length (varsOf i vs) ≡ 4 * i = vars-length i vs in
+        ap length (w .is) ∙ laid-length s varsPlace (varsOf i vs) (omega arith)
+
+    pub varying-more : i < length vs → (t : List ℕ) → t ≡ laid now (varsPlace + 4 * i) (bytesOf 4 (ofZ w32 (getD vs i (pos 0)))) → Varying s t vs (i + 1)
+    varying-more l t e =
+        let at : varsPlace ≤ length s = omega arith in
+        let b = bytesOf 4 (ofZ w32 (getD vs i (pos 0))) in
+        record { upto = omega arith; is = behind s varsPlace at (varsOf i vs) b (4 * i) (vars-length i vs) now t (w .is) e ∙ ap (laid s varsPlace) (sym (vars-next i vs)) }
+
+    pub varying-all : i ≡ length vs → now ≡ laid s varsPlace (varsOf (length vs) vs)
+    varying-all e = w .is ∙ ap (λ (k : ℕ). laid s varsPlace (varsOf k vs)) e
+
 -- ---- all that stands, with 0 behind each part, is laid whole
-pub stands-laid : (s stored : List ℕ) (rs : List ℤ) (on : List Bool) → length s ≡ stateSize → length stored ≤ 64 → length on ≤ 64 → (t u v w : List ℕ)
+pub stands-laid : (s stored : List ℕ) (rs vs : List ℤ) (on : List Bool) → length s ≡ stateSize → length stored ≤ 64 → length vs ≤ 128 → length on ≤ 64
+    → (t u v w x y : List ℕ)
     → t ≡ laid s heldPlace (heldOf (length stored) stored rs)
     → u ≡ laid t (heldPlace + 12 * length stored) (replicate (flagPlace - (heldPlace + 12 * length stored)) 0)
     → v ≡ laid u flagPlace (flagsOf (length on) on)
-    → w ≡ laid v (flagPlace + length on) (replicate (sitePlace - (flagPlace + length on)) 0)
-    → w ≡ laid s heldPlace (standsOf stored rs on)
+    → w ≡ laid v (flagPlace + length on) (replicate (varsPlace - (flagPlace + length on)) 0)
+    → x ≡ laid w varsPlace (varsOf (length vs) vs)
+    → y ≡ laid x (varsPlace + 4 * length vs) (replicate (sitePlace - (varsPlace + 4 * length vs)) 0)
+    → y ≡ laid s heldPlace (standsOf stored rs vs on)
 unfolding standsOf
-stands-laid s stored rs on long few fewer t u v w a b d e =
+stands-laid s stored rs vs on long few small fewer t u v w x y a b d e f g =
     let n = length stored in
-    let held = heldOf n stored rs in
-    let flags = flagsOf (length on) on in
-    let l : length held ≡ 12 * n = held-length n stored rs in
-    let k : length flags ≡ length on = flags-length (length on) on in
-    let first : u ≡ laid s heldPlace (filled 768 held) = laid-filled s heldPlace (omega arith) 768 (12 * n) (flagPlace - (heldPlace + 12 * n)) held l (omega arith) t u a b in
-    let m : length (filled 768 held) ≡ 768 = filled-long 768 held (omega arith) in
-    let o : length u ≡ length s = ap length first ∙ laid-length s heldPlace (filled 768 held) (omega arith) in
-    let second : w ≡ laid u flagPlace (filled 64 flags) = laid-filled u flagPlace (omega arith) 64 (length on) (sitePlace - (flagPlace + length on)) flags k (omega arith) v w d e in
-    behind s heldPlace (omega arith) (filled 768 held) (filled 64 flags) 768 m u w first second
+    let k = length vs in
+    let held = filled 768 (heldOf n stored rs) in
+    let flags = filled 64 (flagsOf (length on) on) in
+    let vars = filled 512 (varsOf k vs) in
+    let hl : length (heldOf n stored rs) ≡ 12 * n = held-length n stored rs in
+    let fl : length (flagsOf (length on) on) ≡ length on = flags-length (length on) on in
+    let vl : length (varsOf k vs) ≡ 4 * k = vars-length k vs in
+    let hm : length held ≡ 768 = filled-long 768 (heldOf n stored rs) (omega arith) in
+    let fm : length flags ≡ 64 = filled-long 64 (flagsOf (length on) on) (omega arith) in
+    let first : u ≡ laid s heldPlace held = laid-filled s heldPlace (omega arith) 768 (12 * n) (flagPlace - (heldPlace + 12 * n)) (heldOf n stored rs) hl (omega arith) t u a b in
+    let ul : length u ≡ length s = ap length first ∙ laid-length s heldPlace held (omega arith) in
+    let second : w ≡ laid u flagPlace flags =
+    laid-filled u flagPlace (omega arith) 64 (length on) (varsPlace - (flagPlace + length on)) (flagsOf (length on) on) fl (omega arith) v w d e in
+    let wl : length w ≡ length u = ap length second ∙ laid-length u flagPlace flags (omega arith) in
+    let third : y ≡ laid w varsPlace vars = laid-filled w varsPlace (omega arith) 512 (4 * k) (sitePlace - (varsPlace + 4 * k)) (varsOf k vs) vl (omega arith) x y f g in
+    let two : w ≡ laid s heldPlace (held ++ flags) = behind s heldPlace (omega arith) held flags 768 hm u w first second in
+    behind s heldPlace (omega arith) (held ++ flags) vars 832 (both held flags 768 64 hm fm) w y two third

@@ -12,37 +12,41 @@ pub use numbers::put_top;
 pub use numbers::stop;
 pub use pieces::copy;
 pub use pieces::zero;
-use solar::Sun;
+use site::Due;
 pub use stands::load;
 pub use stands::load_on;
+pub use stands::load_vars;
 pub use stands::put_stands;
 pub use tests::begun_at;
 pub use tests::well;
 
-// The bytes of a state, and where its tail, what stands, the flags and the site part begin.
-pub const SIZE: usize = 23421;
+// The bytes of a state, and where its tail, what stands, the flags, the
+// vars last requested and the site part begin.
+pub const SIZE: usize = 24071;
 
-pub const TAIL: usize = 25;
+pub const TAIL: usize = 27;
 
-pub const HELD: usize = 219;
+pub const HELD: usize = 221;
 
-pub const FLAGS: usize = 987;
+pub const FLAGS: usize = 989;
 
-pub const SITE: usize = 1051;
+pub const VARS: usize = 1053;
+
+pub const SITE: usize = 1565;
 
 // The bytes of a tail and of a site part at most, and how far a run has come at most beside its steps.
 const TAIL_MOST: u8 = 194;
 
-const SITE_MOST: u16 = 22370;
+const SITE_MOST: u16 = 22506;
 
-const PLACE_MOST: u64 = 22382;
+const PLACE_MOST: u64 = 22523;
 
 // What is kept beside lists: the place, the state between fields, the bytes of the site part and of
-// the tail, and the sun of the step under way.
+// the tail, and what the step under way has so far.
 pub struct Mark {
     pub place: u64,
     pub state: State,
     pub site: usize,
     pub tail: usize,
-    pub sun: Sun,
+    pub due: Due,
 }

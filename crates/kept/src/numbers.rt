@@ -4,7 +4,7 @@ ghost use lib.ListN.{length};
 ghost use lib.Seq.{slice};
 ghost use Rattle.octets.specs.BigEndian.{laid};
 ghost use Rattle.stick.specs.Check.{reachOf, start};
-ghost use Rattle.kept.specs.Layout.{stateSize, tailMost, siteMost, sitePart, markIn, progressOf, partsOf, numbersOf, topOf, stoppedBytes};
+ghost use Rattle.kept.specs.Layout.{stateSize, tailMost, siteMost, sitePart, dueKept, voltsOf, markIn, progressOf, partsOf, numbersOf, topOf, stoppedBytes};
 ghost use Rattle.kept.specs.Posts.{Sized};
 use super::HELD;
 use super::Mark;
@@ -12,6 +12,9 @@ use super::SITE;
 use super::SIZE;
 use super::TAIL;
 use super::pieces;
+use fields::AT_VOLTAGE;
+use lead::Voltage;
+use site::Due;
 use solar::Sun;
 use stick::Reached;
 
@@ -36,15 +39,48 @@ pub fn marked(s: &[u8]) -> Mark
         r.state.left,
         octets::u32_at(s, 9),
     );
+    let due = due_at(s);
     Mark {
         place: octets::u64_at(s, 1),
         state,
         site: octets::u16_at(s, 14) as usize,
         tail: octets::u8_at(s, 16) as usize,
+        due,
+    }
+}
+
+// The voltage that is kept, behind a voltage field alone.
+fn voltage(s: &[u8]) -> Voltage
+    requires { ⌜ length (now s) ≡ stateSize ⌝ }
+    ensures { λ r. ⌜ r ≡ dueKept (now (s .entry)) .voltage ⌝ }
+{
+    if octets::u8_at(s, 13) == AT_VOLTAGE {
+        return Voltage::Said(octets::u16_at(s, 25));
+    }
+    Voltage::Unsaid
+}
+
+// What the step under way has so far.
+fn due_at(s: &[u8]) -> Due
+    requires { ⌜ length (now s) ≡ stateSize ⌝ }
+    ensures { λ r. ⌜ r ≡ dueKept (now (s .entry)) ⌝ }
+{
+    Due {
         sun: Sun {
             irradiance: octets::u32_at(s, 17),
             temperature: octets::i32_at(s, 21),
         },
+        voltage: voltage(s),
+    }
+}
+
+// The number of a voltage, 0 where there is none.
+fn volts(v: Voltage) -> u16
+    ensures { λ r. ⌜ r ≡ voltsOf v ⌝ }
+{
+    match v {
+        Voltage::Unsaid => 0,
+        Voltage::Said(x) => x,
     }
 }
 
@@ -59,7 +95,7 @@ fn put_progress(s: &mut [u8], m: Mark)
     octets::put_u8(s, 13, m.state.stage);
 }
 
-// Lays how long its site part and its tail are, and its sun.
+// Lays how long its site part and its tail are, its sun and its voltage.
 fn put_parts(s: &mut [u8], m: Mark)
     requires { ⌜ length (now s) ≡ stateSize ⌝ }
     requires { ⌜ m .site ≤ siteMost ⌝ }
@@ -68,8 +104,11 @@ fn put_parts(s: &mut [u8], m: Mark)
 {
     octets::put_u16(s, 14, m.site as u16);
     octets::put_u8(s, 16, m.tail as u8);
-    octets::put_u32(s, 17, m.sun.irradiance);
-    octets::put_i32(s, 21, m.sun.temperature);
+    let due = m.due;
+    octets::put_u32(s, 17, due.sun.irradiance);
+    octets::put_i32(s, 21, due.sun.temperature);
+    let voltage = due.voltage;
+    octets::put_u16(s, 25, volts(voltage));
 }
 
 // Lays the numbers of a run that goes on.

@@ -2,10 +2,11 @@ ghost use mathlib.Core.Path.{_≡_};
 ghost use Prim.Native.Nat.{_≤_};
 ghost use lib.ListN.{length};
 ghost use Rattle.octets.specs.BigEndian.{laid};
-ghost use Rattle.kept.specs.Layout.{stateSize, heldPlace, flagPlace, storeAt, requestAt, flagAt, upTo, heldOf, flagsOf, standsOf};
+ghost use Rattle.kept.specs.Layout.{stateSize, heldPlace, flagPlace, varsPlace, storeAt, requestAt, flagAt, varAt, upTo, heldOf, flagsOf, varsOf, standsOf};
 use super::FLAGS;
 use super::HELD;
 use super::SITE;
+use super::VARS;
 use super::pieces;
 
 // Fills lists with what the first units hold and are asked.
@@ -33,6 +34,19 @@ pub fn load_on(s: &[u8], on: &mut [bool])
     let mut i = 0;
     while i < on.len() {
         on[i] = octets::u8_at(s, FLAGS + i) == 1;
+        i += 1;
+    }
+}
+
+// Fills a list with the first vars last requested.
+pub fn load_vars(s: &[u8], vars: &mut [i32])
+    requires { ⌜ length (now s) ≡ stateSize ⌝ }
+    requires { ⌜ length (now vars) ≤ 128 ⌝ }
+    ensures { λ _. ⌜ now (vars .exit) ≡ upTo (length (now (vars .entry))) (varAt (now (s .entry))) ⌝ }
+{
+    let mut i = 0;
+    while i < vars.len() {
+        vars[i] = octets::i32_at(s, VARS + 4 * i);
         i += 1;
     }
 }
@@ -65,18 +79,35 @@ fn put_flags(s: &mut [u8], on: &[bool])
     }
 }
 
+// Lays the vars last requested.
+fn put_vars(s: &mut [u8], vars: &[i32])
+    requires { ⌜ length (now s) ≡ stateSize ⌝ }
+    requires { ⌜ length (now vars) ≤ 128 ⌝ }
+    ensures { λ _. ⌜ now (s .exit) ≡ laid (now (s .entry)) varsPlace (varsOf (length (now (vars .entry))) (now (vars .entry))) ⌝ }
+{
+    let mut i = 0;
+    while i < vars.len() {
+        octets::put_i32(s, VARS + 4 * i, vars[i]);
+        i += 1;
+    }
+}
+
 // Lays all that stands, and 0 behind it.
-pub fn put_stands(s: &mut [u8], stored: &[u64], requests: &[i32], on: &[bool])
+pub fn put_stands(s: &mut [u8], stored: &[u64], requests: &[i32], vars: &[i32], on: &[bool])
     requires { ⌜ length (now s) ≡ stateSize ⌝ }
     requires { ⌜ length (now stored) ≤ 64 ⌝ }
     requires { ⌜ length (now requests) ≡ length (now stored) ⌝ }
+    requires { ⌜ length (now vars) ≤ 128 ⌝ }
     requires { ⌜ length (now on) ≤ 64 ⌝ }
-    ensures { λ _. ⌜ now (s .exit) ≡ laid (now (s .entry)) heldPlace (standsOf (now (stored .entry)) (now (requests .entry)) (now (on .entry))) ⌝ }
+    ensures { λ _. ⌜ now (s .exit) ≡ laid (now (s .entry)) heldPlace (standsOf (now (stored .entry)) (now (requests .entry)) (now (vars .entry)) (now (on .entry))) ⌝ }
 {
     let held = HELD + 12 * stored.len();
     let flags = FLAGS + on.len();
+    let ends = VARS + 4 * vars.len();
     put_held(s, stored, requests);
     pieces::zero(s, held, FLAGS);
     put_flags(s, on);
-    pieces::zero(s, flags, SITE);
+    pieces::zero(s, flags, VARS);
+    put_vars(s, vars);
+    pieces::zero(s, ends, SITE);
 }

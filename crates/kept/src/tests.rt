@@ -9,7 +9,7 @@ ghost use Rattle.stick.specs.Site.{siteOf, roofsOf};
 ghost use Rattle.stick.specs.Posts.{Accepted};
 ghost use Rattle.kept.specs.Kept.{begunAt};
 ghost use Rattle.kept.specs.Layout.{stateSize, tailMost, siteMost, stepsKept, stageIn, siteBytes, sitePart, markIn, unitsKept, roofsKept};
-ghost use Rattle.kept.specs.Formed.{siteFits, placeFits, sunFits, tailFits, unitFits, heldFits, flagFits, listsFit, standsFit, restClear, markFits, going, stopped, wellFormed};
+ghost use Rattle.kept.specs.Formed.{siteFits, placeFits, sunFits, voltFits, tailFits, unitFits, heldFits, flagFits, varFits, listsFit, standsFit, restClear, markFits, going, stopped, wellFormed};
 ghost use Rattle.kept.specs.Posts.{Sized};
 use super::FLAGS;
 use super::HELD;
@@ -20,12 +20,14 @@ use super::SITE_MOST;
 use super::SIZE;
 use super::TAIL;
 use super::TAIL_MOST;
+use super::VARS;
 use super::numbers;
 use super::pieces;
 use super::stands;
 use fields::AT_END;
 use fields::AT_READING;
 use fields::AT_STEPS;
+use fields::AT_VOLTAGE;
 use fields::State;
 use solar::Sun;
 use stick::Reached;
@@ -34,7 +36,7 @@ use stick::Reached;
 pub fn begun_at(stage: u8) -> bool
     ensures { λ r. ⌜ r ≡ begunAt stage ⌝ }
 {
-    (stage == AT_END) | (stage == AT_STEPS) | (stage == AT_READING)
+    (stage == AT_END) | (stage == AT_STEPS) | (stage == AT_READING) | (stage == AT_VOLTAGE)
 }
 
 // The site part: accepted fields alone and no steps, at the stage that is kept, or closed.
@@ -59,21 +61,34 @@ fn place_fits(place: u64, stage: u8, steps: u32, site: usize, tail: usize) -> bo
     let close = if begun_at(stage) { 7 } else { 0 };
     let head = if close <= site { site - close } else { 0 };
     let weather = if stage == AT_READING { 19 } else { 0 };
+    let voltage = if stage == AT_VOLTAGE { 5 } else { 0 };
     let end = if stage == AT_END { 7 } else { 0 };
-    let beside = (head + weather + end + tail) as u64;
+    let beside = (head + weather + voltage + end + tail) as u64;
+    let before = if stage == AT_VOLTAGE { 19 } else { 0 };
     let n = steps as u64;
-    (beside + 3 * n <= place) & (place <= beside + 46 * n)
+    (beside + 3 * n <= place) & (place <= beside + 51 * n + before)
 }
 
-// A sun is kept where a weather has come.
+// A sun is kept where a weather may have come.
 fn sun_fits(stage: u8, s: Sun) -> bool
     ensures { λ r. ⌜ r ≡ sunFits stage s ⌝ }
 {
     let size = whole::size32(s.temperature);
-    if stage == AT_READING {
+    if (stage == AT_READING) | (stage == AT_VOLTAGE) {
         (s.irradiance <= 100000000) & (size <= 100000000)
     } else {
         (s.irradiance == 0) & (size == 0)
+    }
+}
+
+// A voltage is kept where one has come.
+fn volt_fits(stage: u8, volts: u16) -> bool
+    ensures { λ r. ⌜ r ≡ voltFits stage volts ⌝ }
+{
+    if stage == AT_VOLTAGE {
+        volts <= 20000
+    } else {
+        volts == 0
     }
 }
 
@@ -134,6 +149,21 @@ fn flags_fit(s: &[u8], n: usize) -> bool
     ok
 }
 
+// The first n vars last requested are in their bounds.
+fn vars_fit(s: &[u8], n: usize) -> bool
+    requires { ⌜ length (now s) ≡ stateSize ⌝ }
+    requires { ⌜ n ≤ 128 ⌝ }
+    ensures { λ r. ⌜ r ≡ allOf n (varFits (now (s .entry))) ⌝ }
+{
+    let mut ok = true;
+    let mut i = 0;
+    while i < n {
+        ok = ok & (whole::size32(octets::i32_at(s, VARS + 4 * i)) <= 100000000);
+        i += 1;
+    }
+    ok
+}
+
 // What stands in a state whose steps have begun is in its ranges, with lists lent to read it into.
 fn loaded_fit(s: &[u8], n: usize, stored: &mut [u64], requests: &mut [i32], roofs: usize) -> bool
     requires { ⌜ Sized (now s) ⌝ }
@@ -145,7 +175,9 @@ fn loaded_fit(s: &[u8], n: usize, stored: &mut [u64], requests: &mut [i32], roof
     ensures { λ r. ⌜ r ≡ listsFit (now (s .entry)) (length (now (stored .entry))) roofs ⌝ }
 {
     stands::load(s, stored, requests);
-    held_fits(&s[SITE..SITE + n], stored, requests) & flags_fit(s, roofs)
+    held_fits(&s[SITE..SITE + n], stored, requests)
+        & flags_fit(s, roofs)
+        & vars_fit(s, stored.len() + roofs)
 }
 
 // The same, with lists of its own.
@@ -173,7 +205,8 @@ fn rest_clear(s: &[u8], units: usize, roofs: usize) -> bool
     let t = octets::u8_at(s, 16) as usize;
     pieces::is_clear(s, TAIL + t, HELD)
         & pieces::is_clear(s, HELD + 12 * units, FLAGS)
-        & pieces::is_clear(s, FLAGS + roofs, SITE)
+        & pieces::is_clear(s, FLAGS + roofs, VARS)
+        & pieces::is_clear(s, VARS + 4 * (units + roofs), SITE)
         & pieces::is_clear(s, SITE + n, SIZE)
 }
 
@@ -193,7 +226,7 @@ fn lists_fit(s: &[u8], stage: u8) -> bool
     stands_fit(s, n, units, roofs) & rest_clear(s, units, roofs)
 }
 
-// Place, sun and tail of a state.
+// Place, sun, voltage and tail of a state.
 fn mark_fits(s: &[u8], m: Mark) -> bool
     requires { ⌜ Sized (now s) ⌝ }
     requires { ⌜ m ≡ markIn (now s) ⌝ }
@@ -201,8 +234,10 @@ fn mark_fits(s: &[u8], m: Mark) -> bool
 {
     let st = m.state;
     let t = m.tail;
+    let due = m.due;
     place_fits(m.place, st.stage, st.steps, m.site, t)
-        & sun_fits(st.stage, m.sun)
+        & sun_fits(st.stage, due.sun)
+        & volt_fits(st.stage, octets::u16_at(s, 25))
         & tail_fits(st, &s[TAIL..TAIL + t])
 }
 
@@ -231,7 +266,7 @@ fn stopped_there(s: &[u8]) -> bool
     let steps = octets::u32_at(s, 9);
     (((1 <= n) & (n <= 9)) | (n == 12))
         & (steps <= 65535)
-        & (octets::u64_at(s, 1) <= PLACE_MOST + 46 * (steps as u64))
+        & (octets::u64_at(s, 1) <= PLACE_MOST + 51 * (steps as u64))
         & pieces::is_clear(s, 13, SIZE)
 }
 

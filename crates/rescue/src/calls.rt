@@ -17,8 +17,10 @@ use super::writing;
 use fields::AT_CONNECTIONS;
 use fields::AT_END;
 use fields::AT_INVERTERS;
+use fields::AT_LED;
 use fields::AT_READING;
 use fields::AT_STEPS;
+use fields::AT_VOLTAGE;
 use fields::State;
 use stick::Answer;
 
@@ -30,9 +32,11 @@ fn is_due(st: State, tag: u8) -> bool
     ensures { λ r. ⌜ r ≡ due st tag ⌝ }
 {
     let stage = st.stage;
-    let roofs = (stage == AT_INVERTERS) | ((stage == AT_CONNECTIONS) & !st.current);
-    let may = (stage == AT_STEPS) | roofs | (stage == AT_READING);
-    !((stage == AT_END) | may) | (roofs & ((tag == 6) | (tag == 7) | (tag == 10)))
+    let opens = (stage == AT_INVERTERS) | ((stage == AT_CONNECTIONS) & !st.current);
+    let begins = (stage == AT_STEPS) | opens | (stage == AT_LED);
+    let closes = begins | (stage == AT_READING) | (stage == AT_VOLTAGE);
+    let before = (tag == 6) | (tag == 7) | (tag == 10) | (tag == 11);
+    !((stage == AT_END) | closes) | ((opens | (stage == AT_LED)) & before)
 }
 
 // The tag at a place, 0 past the end.

@@ -15,7 +15,7 @@ use Rattle.octets.proofs.ByteLaws.{be-bytes}
 use Rattle.parts.specs.Header.{tagAt, past}
 use Rattle.fields.specs.declared.State.{State}
 use Rattle.fields.specs.declared.Taken.the-variants.{Next, Stop}
-use Rattle.fields.specs.Fields.{atEnd, opens, begins, goneTo}
+use Rattle.fields.specs.Fields.{atEnd, atReading, atVoltage, atLed, only, opens, begins, goneTo}
 use Rattle.fields.specs.Fields.{kinds, sizeIn, sizeOf, standsIn, allowed, headOf, valueOf, refusedBy, roofAfter, stateAfter, takenBy}
 use Rattle.stick.specs.declared.Answer.{Answer}
 use Rattle.stick.specs.Check.{answer, fieldAt, start, checkOf}
@@ -25,7 +25,7 @@ use Rattle.stick.proofs.ReachLaws.{walk-reach}
 use Rattle.chunks.proofs.ReachChunks.{there, passing}
 use Rattle.taking.specs.Posts.{Leads}
 use Rattle.taking.proofs.LedLaws.{leads-so, leads-append}
-use Rattle.rescue.specs.Saved.{Saved, savedOf, ofRoofs, due}
+use Rattle.rescue.specs.Saved.{Saved, waits, savedOf, beforeSteps, due}
 use Rattle.rescue.specs.Answers.{endField, outputBy, outputOf, savedAnswer, rescueOf}
 use Rattle.rescued.proofs.KeptLaws.{kept-leads, no-reading-waited, kept-few}
 
@@ -75,7 +75,7 @@ module _ (st : State) (b : begins st ≡ true) (few : st .steps ≤ 65535) where
     where
       go : (z : Bool) → eqb (st .stage) 0 ≡ z → z ≡ false
       go false e = refl
-      go true e = absurd (passed-failed b (ap (λ (n : ℕ). eqb n 4 || (eqb n 5 || (eqb n 9 && not (st .current)))) (eqb-true (st .stage) 0 e)))
+      go true e = absurd (passed-failed b (ap (λ (n : ℕ). eqb n 4 || (eqb n 5 || (eqb n 9 && not (st .current))) || eqb n 12) (eqb-true (st .stage) 0 e)))
 
   pub end-leads : Leads st (endField steps) closed
   end-leads =
@@ -110,15 +110,16 @@ rescued file =
     }
 
 -- where no field is due, the file has ended or its end may stand, but for a reading that is waited for
-not-due : (st : State) (tag : ℕ) → due st tag ≡ false → eqb (st .stage) 0 ≡ false → eqb (st .stage) 8 ≡ false → begins st ≡ true
+not-due : (st : State) (tag : ℕ) → due st tag ≡ false → eqb (st .stage) 0 ≡ false → waits st ≡ false → begins st ≡ true
 unfolding due
-not-due st tag d z r = go (eqb (st .stage) 0) (begins st) (eqb (st .stage) 8) (opens st && ofRoofs tag) d z r
+not-due st tag d z w = go (eqb (st .stage) 0) (begins st) (only atReading st) (only atVoltage st) ((opens st || only atLed st) && beforeSteps tag) d z w
   where
-    go : (z b r i : Bool) → (not (z || (b || r)) || i) ≡ false → z ≡ false → r ≡ false → b ≡ true
-    go z true r i d ez er = refl
-    go true false r i d ez er = absurd (passed-failed refl ez)
-    go false false true i d ez er = absurd (passed-failed refl er)
-    go false false false i d ez er = absurd (passed-failed refl d)
+    go : (z b r v i : Bool) → (not (z || (b || r || v)) || i) ≡ false → z ≡ false → (r || v) ≡ false → b ≡ true
+    go z true r v i d ez ew = refl
+    go true false r v i d ez ew = absurd (passed-failed refl ez)
+    go false false true v i d ez ew = absurd (passed-failed refl ew)
+    go false false false true i d ez ew = absurd (passed-failed refl ew)
+    go false false false false i d ez ew = absurd (passed-failed refl d)
 
 -- ---- so the check accepts the output
 pub output-accepted : (file : List ℕ) → rescueOf file .number ≡ 0 → checkOf (outputOf file) .number ≡ 0
@@ -131,16 +132,12 @@ output-accepted file z = go (eqb (s .state .stage) 0) refl (known .small)
     known : Rescued file
     known = rescued file z
 
-    waits : (b : Bool) → eqb (s .state .stage) 8 ≡ b → b ≡ false
-    waits false e = refl
-    waits true e = absurd (no-reading-waited file (eqb-true (s .state .stage) 8 e))
-
     go : (b : Bool) → eqb (s .state .stage) 0 ≡ b → length (s .kept ++ cond b [] (endField (s .state .steps))) ≤ 2097152
         → checkOf (s .kept ++ cond b [] (endField (s .state .steps))) .number ≡ 0
     go true e few =
         leads-accepted (s .kept ++ []) (s .state) (subst⁻¹ (λ (l : List ℕ). Leads start l (s .state)) (append-nil (s .kept)) (kept-leads file)) e few
     go false e few =
         let b : begins (s .state) ≡ true =
-        not-due (s .state) (tagAt file (s .at)) (known .no-field-due) e (waits (eqb (s .state .stage) 8) refl) in
+        not-due (s .state) (tagAt file (s .at)) (known .no-field-due) e (no-reading-waited file) in
         leads-accepted (s .kept ++ endField (s .state .steps)) (closed (s .state) b (kept-few file))
         (leads-append (s .kept) (endField (s .state .steps)) (kept-leads file) (end-leads (s .state) b (kept-few file))) refl few

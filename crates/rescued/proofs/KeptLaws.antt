@@ -1,5 +1,6 @@
 -- What a rescue keeps of a file is whole fields by themselves, which lead to the state where its walk ends: what is read at a place depends on the bytes
--- there alone, and a missing reading may stand wherever a reading may. No weather is left there without its reading. Assumes nothing.
+-- there alone, and a missing reading may stand wherever a reading may. No weather and no voltage is left there without its
+-- reading. Assumes nothing.
 use mathlib.Core.Path.{_≡_, refl, sym, ap, ap₂, _∙_, subst}
 use mathlib.Core.Bool.{Bool, true, false, not, cond}
 use mathlib.Core.List.{List}
@@ -8,7 +9,6 @@ use native.Mathlib.Omega.{arith}
 use lib.Dec.{leb, eqb}
 use lib.ListN.{length, take, drop, take-append-drop}
 use lib.Seq.{slice, length-take-le, length-slice}
-use borrow.Author.Tests.{eqb-false}
 use Rattle.octets.specs.BigEndian.{be}
 use Rattle.parts.specs.Header.{past}
 use Rattle.fields.specs.declared.State.{State}
@@ -21,8 +21,9 @@ use Rattle.chunks.proofs.ReachChunks.{reach-over, reach-fuel, reach-shift, Went
 use Rattle.chunks.proofs.StepChunks.{reach-most}
 use Rattle.taking.specs.Posts.{Leads}
 use Rattle.taking.proofs.LedLaws.{leads-so, leads-none, leads-append}
-use Rattle.rescue.specs.Saved.{Saved, missingField, closedStep, bytesAt, savedOf}
+use Rattle.rescue.specs.Saved.{Saved, missingField, closedStep, bytesAt, waits, savedOf}
 use Rattle.rescue.proofs.SaveLaws.{Saving, over, ended, refused, lost, passed, waiting, saves}
+use Rattle.rescue.proofs.GroupLaws.{never-waits}
 
 -- ---- the fields of a part, by themselves
 unmoved : (r : Reached) (i j : ℕ) (m : State) → moved i r ≡ reached 0 j m → r ≡ reached 0 (j - i) m
@@ -85,15 +86,6 @@ keeps-lead file {st} {at} (passed {s = s} m l e f w n more) h =
     leads-append (bytesAt file at) (s .kept) (leads-part file (passing m l e f w (there refl refl)) h) (keeps-lead file more w)
 keeps-lead file {st} (waiting m l e f w n more) h = leads-none st
 
--- and a reading is waited for there only if it was at first
-pub reading-waited : (file : List ℕ) {st : State} {at : ℕ} {s : Saved} → Saving file st at s → s .state .stage ≡ 8 → st .stage ≡ 8
-reading-waited file (over e) z = z
-reading-waited file (ended l e) z = z
-reading-waited file (refused n l e f u) z = z
-reading-waited file (lost l e f u more) z = let four : _≡_ {A = ℕ} 4 8 = reading-waited file more z in absurd (omega arith)
-reading-waited file (passed {s = s} m l e f w n more) z = absurd (eqb-false (s .state .stage) 8 n z)
-reading-waited file (waiting m l e f w n more) z = z
-
 -- ---- from the start
 module _ (file : List ℕ) where
   pub saving : Saving file start 0 (savedOf file)
@@ -103,8 +95,8 @@ module _ (file : List ℕ) where
   pub kept-leads : Leads start (savedOf file .kept) (savedOf file .state)
   kept-leads = keeps-lead file saving (omega arith)
 
-  pub no-reading-waited : savedOf file .state .stage ≡ 8 → ⊥
-  no-reading-waited z = let one : _≡_ {A = ℕ} 1 8 = reading-waited file saving z in omega arith
+  pub no-reading-waited : waits (savedOf file .state) ≡ false
+  no-reading-waited = never-waits saving refl
 
   -- no more than 65,535 steps
   pub kept-few : savedOf file .state .steps ≤ 65535

@@ -1,5 +1,5 @@
--- A rescue refuses by the check's own walk: up to the first reading made missing and the first weather that waits, the two are one, and from there on the
--- steps have begun, where nothing is due. Assumes nothing.
+-- A rescue refuses by the check's own walk: up to the first reading made missing and the first weather or voltage that waits, the two are one, and from there
+-- on the steps have begun, where nothing is due. Assumes nothing.
 use mathlib.Core.Path.{_≡_, refl, sym, ap, ap₂, _∙_}
 use mathlib.Core.Logic.{_⊎_, inl, inr}
 use mathlib.Core.Bool.{Bool, true, false, not, cond, _&&_, _||_}
@@ -13,7 +13,7 @@ use Rattle.whole.proofs.Choice.{passed-failed}
 use Rattle.parts.specs.Header.{tagAt, past}
 use Rattle.fields.specs.declared.State.{State}
 use Rattle.fields.specs.declared.Taken.the-variants.{Next, Stop}
-use Rattle.fields.specs.Fields.{opens, closes}
+use Rattle.fields.specs.Fields.{atLed, only, opens, closes}
 use Rattle.stick.specs.declared.Answer.{Answer}
 use Rattle.stick.specs.declared.Reached.{Reached}
 use Rattle.stick.specs.Check.{answer, fieldAt, reached, reachOf, ends, start, checkOf}
@@ -21,11 +21,12 @@ use Rattle.stick.specs.Site.{ofSteps}
 use Rattle.stick.proofs.WalkLaws.{not-too-large}
 use Rattle.stick.proofs.ReachLaws.{walk-reach}
 use Rattle.chunks.proofs.ReachChunks.{reach-over, reach-step, gone}
-use Rattle.kept.specs.Kept.{begunAt, begun}
+use Rattle.kept.specs.Kept.{begun}
 use Rattle.taking.proofs.StageLaws.{HeadTook, StepTook, sort, along}
-use Rattle.rescue.specs.Saved.{Saved, keeping, bytesAt, savedOf, ofRoofs, due}
+use Rattle.rescue.specs.Saved.{Saved, keeping, bytesAt, waits, savedOf, beforeSteps, due}
 use Rattle.rescue.specs.Answers.{outputBy, outputOf, savedAnswer, rescueOf}
 use Rattle.rescue.proofs.SaveLaws.{by-measure, Saving, over, ended, refused as fault, lost, passed, waiting}
+use Rattle.rescue.proofs.GroupLaws.{never-waits}
 use Rattle.rescued.specs.Holds.{dueFirst}
 use Rattle.rescued.proofs.BytesLaws.{saved-file}
 
@@ -34,35 +35,49 @@ abbrev opensBy : ℕ → Bool → Bool
 opensBy stage current = eqb stage 5 || (eqb stage 9 && not current)
 
 abbrev dueBy : ℕ → Bool → ℕ → Bool
-dueBy stage current tag = not (eqb stage 0 || ((eqb stage 4 || opensBy stage current) || eqb stage 8)) || (opensBy stage current && ofRoofs tag)
+dueBy stage current tag =
+    not (eqb stage 0 || (eqb stage 4 || opensBy stage current || eqb stage 12 || eqb stage 8 || eqb stage 11)) || ((opensBy stage current || eqb stage 12) && beforeSteps tag)
 
 due-at : (st : State) (tag stage : ℕ) → eqb (st .stage) stage ≡ true → dueBy stage (st .current) tag ≡ false → due st tag ≡ false
 unfolding due
 due-at st tag stage e d = ap (λ (n : ℕ). dueBy n (st .current) tag) (eqb-true (st .stage) stage e) ∙ d
 
 begun-free : (st : State) (tag : ℕ) → begun st ≡ true → due st tag ≡ false
-begun-free st tag b = go (eqb (st .stage) 0) (eqb (st .stage) 4) (eqb (st .stage) 8) refl refl refl b
+begun-free st tag b = go (eqb (st .stage) 0) (eqb (st .stage) 4) (eqb (st .stage) 8) (eqb (st .stage) 11) refl refl refl refl b
   where
-    go : (x y z : Bool) → eqb (st .stage) 0 ≡ x → eqb (st .stage) 4 ≡ y → eqb (st .stage) 8 ≡ z → (x || y || z) ≡ true → due st tag ≡ false
-    go true y z ex ey ez c = due-at st tag 0 ex refl
-    go false true z ex ey ez c = due-at st tag 4 ey refl
-    go false false true ex ey ez c = due-at st tag 8 ez refl
-    go false false false ex ey ez c = absurd (passed-failed c refl)
+    go : (x y z v : Bool) → eqb (st .stage) 0 ≡ x → eqb (st .stage) 4 ≡ y → eqb (st .stage) 8 ≡ z → eqb (st .stage) 11 ≡ v → (x || y || z || v) ≡ true → due st tag ≡ false
+    go true y z v ex ey ez ev c = due-at st tag 0 ex refl
+    go false true z v ex ey ez ev c = due-at st tag 4 ey refl
+    go false false true v ex ey ez ev c = due-at st tag 8 ez refl
+    go false false false true ex ey ez ev c = due-at st tag 11 ev refl
+    go false false false false ex ey ez ev c = absurd (passed-failed c refl)
 
--- no field of a step is one of the roofs, nor the connections
-no-roof : (tag : ℕ) → ofSteps tag ≡ true → ofRoofs tag ≡ false
-no-roof tag o = go (eqb tag 6) (eqb tag 7) (eqb tag 10) refl refl refl
+-- where a reading is waited for, they have
+waits-begun : (st : State) → waits st ≡ true → begun st ≡ true
+waits-begun st = go (eqb (st .stage) 0 || eqb (st .stage) 4) (eqb (st .stage) 8) (eqb (st .stage) 11)
   where
-    go : (a b c : Bool) → eqb tag 6 ≡ a → eqb tag 7 ≡ b → eqb tag 10 ≡ c → (a || b || c) ≡ false
-    go true b c ea eb ec = absurd (passed-failed o (ap ofSteps (eqb-true tag 6 ea)))
-    go false true c ea eb ec = absurd (passed-failed o (ap ofSteps (eqb-true tag 7 eb)))
-    go false false true ea eb ec = absurd (passed-failed o (ap ofSteps (eqb-true tag 10 ec)))
-    go false false false ea eb ec = refl
+    go : (x r v : Bool) → (r || v) ≡ true → (x || r || v) ≡ true
+    go true r v e = refl
+    go false r v e = e
+
+-- no field of a step is one before the steps
+no-head : (tag : ℕ) → ofSteps tag ≡ true → beforeSteps tag ≡ false
+no-head tag o = go (eqb tag 6) (eqb tag 7) (eqb tag 10) (eqb tag 11) refl refl refl refl
+  where
+    not-this : (k : ℕ) → eqb tag k ≡ true → ofSteps k ≡ false → ⊥
+    not-this k e f = passed-failed o (ap ofSteps (eqb-true tag k e) ∙ f)
+
+    go : (a b c d : Bool) → eqb tag 6 ≡ a → eqb tag 7 ≡ b → eqb tag 10 ≡ c → eqb tag 11 ≡ d → (a || b || c || d) ≡ false
+    go true b c d ea eb ec ed = absurd (not-this 6 ea refl)
+    go false true c d ea eb ec ed = absurd (not-this 7 eb refl)
+    go false false true d ea eb ec ed = absurd (not-this 10 ec refl)
+    go false false false true ea eb ec ed = absurd (not-this 11 ed refl)
+    go false false false false ea eb ec ed = refl
 
 step-free : (st : State) (tag : ℕ) → closes st ≡ true → ofSteps tag ≡ true → due st tag ≡ false
 unfolding due
 step-free st tag c o =
-    ap₂ (λ (a b : Bool). not (eqb (st .stage) 0 || a) || (opens st && b)) c (no-roof tag o) ∙ go (eqb (st .stage) 0) (opens st)
+    ap₂ (λ (a b : Bool). not (eqb (st .stage) 0 || a) || ((opens st || only atLed st) && b)) c (no-head tag o) ∙ go (eqb (st .stage) 0) (opens st || only atLed st)
   where
     go : (a b : Bool) → (not (a || true) || (b && false)) ≡ false
     go true true = refl
@@ -92,14 +107,13 @@ module _ (file : List ℕ) where
       go (inr k) further = further (k .behind)
   begun-stays (waiting m l e f w g more) b = b
 
-  -- ---- it ends where a reading is waited for only where that was so before, since any field that leads there is left out
-  waits : {st : State} {at : ℕ} {s : Saved} → Saving file st at s → eqb (s .state .stage) 8 ≡ true → eqb (st .stage) 8 ≡ true
-  waits (over e) h = h
-  waits (ended l e) h = h
-  waits (fault n l e f u) h = h
-  waits (lost l e f u more) h = absurd (passed-failed (waits more h) refl)
-  waits (passed m l e f w g more) h = absurd (passed-failed h g)
-  waits (waiting m l e f w g more) h = h
+  -- ---- it ends where a reading is waited for only where that was so before
+  waits-still : {st : State} {at : ℕ} {s : Saved} → Saving file st at s → waits (s .state) ≡ true → waits st ≡ true
+  waits-still {st} x h = go (waits st) refl
+    where
+      go : (b : Bool) → waits st ≡ b → b ≡ true
+      go true e = refl
+      go false e = absurd (passed-failed h (never-waits x e))
 
   -- ---- beside the check's walk
   pub data Met (s : Saved) (r : Reached) : Type 0 where
@@ -119,11 +133,11 @@ module _ (file : List ℕ) where
       let g = gone file (length file) st at (omega arith) h in
       begun-free (far st at .state) (tagAt file (far st at .at)) (along file (g .went) b .begun-next)
 
-  -- ---- a weather that waits: a step may begin there
-  module _ {st m : State} {at : ℕ} (l : at < length file) (f : eqb (m .stage) 8 ≡ true) where
-    weather-took : HeadTook file st at m ⊎ StepTook file st at m → StepTook file st at m
-    weather-took (inl k) = absurd (passed-failed (ap begunAt (eqb-true (m .stage) 8 f)) (k .behind))
-    weather-took (inr k) = k
+  -- ---- a weather or a voltage that waits: a step may be closed there
+  module _ {st m : State} {at : ℕ} (f : waits m ≡ true) where
+    waiting-took : HeadTook file st at m ⊎ StepTook file st at m → StepTook file st at m
+    waiting-took (inl k) = absurd (passed-failed (waits-begun m f) (k .behind))
+    waiting-took (inr k) = k
 
   pub met : {st : State} {at : ℕ} {s : Saved} → Saving file st at s → Met s (far st at)
   met {st} {at} (over e) = ends-so (reach-over file (length file) st at (omega arith)) refl refl refl
@@ -143,7 +157,7 @@ module _ (file : List ℕ) where
       go (free a b) = free a (ap (λ (r : Reached). due (r .state) (tagAt file (r .at))) on ∙ b)
   met {st} {at} (waiting m l e f w g more) =
       let on : far st at ≡ far m (past file at) = reach-step file (length file) st at false (Next m) (omega arith) l e f in
-      let k = weather-took {st = st} l (waits more g) (sort file st at m (omega arith) f) in
+      let k = waiting-took {st = st} (waits-still more g) (sort file st at m (omega arith) f) in
       free (step-free st (tagAt file at) (k .may) (k .tagged))
       (ap (λ (r : Reached). due (r .state) (tagAt file (r .at))) on ∙ far-free m (past file at) w (k .behind))
 

@@ -19,7 +19,7 @@ use Rattle.stick.specs.Posts.{answered}
 use Rattle.stick.proofs.WalkLaws.{too-large, not-too-large}
 use Rattle.stick.proofs.ReachLaws.{walk-reach}
 use Rattle.chunks.proofs.ReachChunks.{Went, there, passing, far, far-gone, far-all}
-use Rattle.rescue.specs.Saved.{Saved, saved, endsAt, keeping, bytesAt, kept, ofRoofs, due, saveFrom, savedOf}
+use Rattle.rescue.specs.Saved.{Saved, saved, endsAt, keeping, bytesAt, kept, beforeSteps, due, saveFrom, savedOf}
 use Rattle.rescue.specs.Answers.{change, endField, outputBy, outputOf, lastBy, changesBy, changesOf, savedAnswer, rescueOf}
 use Rattle.rescue.proofs.SaveLaws.{save-over, save-step}
 use Rattle.rescued.proofs.AcceptedLaws.{output-accepted}
@@ -44,7 +44,7 @@ module _ (file : List ℕ) (m : State) (ended : m .stage ≡ 0) where
   whole-kept {st} {i} {j} (passing s l e f w more) a h k enough =
       save-step file k st i false (Next s) enough l e f
       ∙ ap (kept st i (bytesAt file i)) (whole-kept more a w (length file) (omega arith))
-      ∙ ap (λ (n : ℕ). cond (eqb n 8) (endsAt 0 i st) (keeping (bytesAt file i) [] (saved 0 (length file) m (drop (past file i) file) []))) ended
+      ∙ ap (λ (n : ℕ). cond (eqb n 8 || eqb n 11) (endsAt 0 i st) (keeping (bytesAt file i) [] (saved 0 (length file) m (drop (past file i) file) []))) ended
       ∙ ap (λ (l : List ℕ). saved 0 (length file) m l []) (with-rest file i (past file i) (omega arith) w)
 
 -- ---- behind the end field at the end of the bytes nothing is dropped and no field is due
@@ -57,7 +57,7 @@ ended-not-due : (st : State) (tag : ℕ) → st .stage ≡ 0 → due st tag ≡ 
 unfolding due
 ended-not-due st tag e =
     let opening : ℕ → Bool = λ n. eqb n 5 || (eqb n 9 && not (st .current)) in
-    ap (λ (n : ℕ). not (eqb n 0 || ((eqb n 4 || opening n) || eqb n 8)) || (opening n && ofRoofs tag)) e
+    ap (λ (n : ℕ). not (eqb n 0 || (eqb n 4 || opening n || eqb n 12 || eqb n 8 || eqb n 11)) || ((opening n || eqb n 12) && beforeSteps tag)) e
 
 answers-zero : (s : Saved) (tag n : ℕ) → due (s .state) tag ≡ false → length (outputBy s) ≤ 2097152 → savedAnswer s tag n .number ≡ 0
 unfolding savedAnswer

@@ -1,5 +1,5 @@
 -- The steps of a rescue's output are the file's, in order: what is kept are whole fields, each field that is kept says there what it says in the file, a
--- reading made missing closes the step with the sun it had, and the end field closes none. Assumes nothing.
+-- reading made missing closes the step with the sun and the voltage it had, and the end field closes none. Assumes nothing.
 use mathlib.Core.Path.{_≡_, refl, sym, ap, ap₂, _∙_, subst, subst⁻¹}
 use mathlib.Core.Logic.{inl, inr}
 use mathlib.Core.Bool.{Bool, true, false, cond}
@@ -10,37 +10,43 @@ use native.Mathlib.Omega.{arith}
 use lib.Dec.{ltb, eqb, lit≤}
 use lib.ListN.{length, getD, take}
 use lib.Seq.{getD-take, getD-drop, length-slice}
-use borrow.Author.Tests.{eqb-true, eqb-false}
+use borrow.Author.Tests.{eqb-false}
 use Rattle.octets.specs.BigEndian.{be, bytesOf}
 use Rattle.parts.specs.Header.{header, tagAt, lengthAt, past}
 use Rattle.reading.specs.declared.Reading.the-variants.{Missing}
 use Rattle.site.specs.declared.Step.{Step}
-use Rattle.site.specs.Site.{stepWith}
-use Rattle.solar.specs.declared.Sun.{Sun}
-use Rattle.solar.specs.Weather.{dark}
+use Rattle.site.specs.declared.Due.{Due}
+use Rattle.site.specs.Site.{due, noneYet, stepWith}
 use Rattle.fields.specs.declared.State.{State}
 use Rattle.fields.specs.declared.Taken.the-variants.{Next}
 use Rattle.fields.specs.Fields.{isReading, kinds, sizeIn, sizeOf}
 use Rattle.fields.proofs.FieldLaws.{after-reading}
 use Rattle.stick.specs.declared.Answer.{Answer}
 use Rattle.stick.specs.Check.{answer, fieldAt, start}
-use Rattle.stick.specs.Site.{placesFrom, readingAt, sunAt, stepsIn, sunIn, stepsFrom, sunFrom, stepsOf}
+use Rattle.stick.specs.Site.{placesFrom, readingAt, sunAt, voltageAt, dueAfter, stepsIn, dueIn, stepsFrom, dueFrom, stepsOf}
 use Rattle.stick.proofs.StepLaws.{no-other}
-use Rattle.chunks.proofs.SameLaws.{Same, same-less, tag-same, length-same, reading-same, sun-same}
-use Rattle.chunks.proofs.PlaceChunks.{FieldThere, Whole, whole-end, whole-field, whole-append, accepted-there, steps-over, sun-over, steps-field, sun-field, steps-append}
+use Rattle.chunks.proofs.SameLaws.{Same, same-less, tag-same, length-same, reading-same, due-same}
+use Rattle.chunks.proofs.PlaceChunks.{FieldThere, Whole, whole-end, whole-field, whole-append, accepted-there, steps-over, due-over, steps-field, due-field, steps-append}
 use Rattle.chunks.proofs.HeadChunks.{FieldTaken, accepted-field}
 use Rattle.chunks.proofs.HeadFile.{steps-kept}
-use Rattle.rescue.specs.Saved.{Saved, endsAt, keeping, missingField, closedStep, bytesAt, savedOf, due}
+use Rattle.rescue.specs.Saved.{Saved, endsAt, keeping, missingField, closedStep, bytesAt, savedOf, due as dueHere}
 use Rattle.rescue.specs.Answers.{endField, outputBy, outputOf, savedAnswer, rescueOf}
 use Rattle.rescue.proofs.SaveLaws.{by-measure, Unread, Saving, over, ended, refused, lost, passed, waiting}
 use Rattle.rescued.specs.Holds.{Likes, none, next}
 use Rattle.rescued.proofs.BytesLaws.{saved-file}
 
--- ---- the steps from a field on, by whether it is a reading and whether it is a weather
-abbrev stepsBy : List ℕ → ℕ → Bool → Bool → Sun → List Step
-stepsBy file at r l s =
-    let next = past file at in
-    cond r (stepWith (readingAt file at) s ∷ stepsFrom file dark next) (cond l (stepsFrom file (sunAt file at) next) (stepsFrom file s next))
+-- ---- the steps from a field on, by whether it is a reading, with what the step under way has
+abbrev stepsBy : List ℕ → ℕ → Bool → Due → List Step
+stepsBy file at r d =
+    let more = stepsFrom file (dueAfter file d at) (past file at) in
+    cond r (stepWith (readingAt file at) d ∷ more) more
+
+-- a reading leaves nothing to the next one
+closed-due : (file : List ℕ) (at : ℕ) (d : Due) → isReading (tagAt file at) ≡ true → dueAfter file d at ≡ noneYet
+unfolding dueAfter
+closed-due file at d r =
+    let tag = tagAt file at in
+    ap (λ (b : Bool). cond b noneYet (cond (eqb tag 8) (due (sunAt file at) (d .voltage)) (cond (eqb tag 12) (due (d .sun) (voltageAt file at)) d))) r
 
 -- ---- a field's bytes, by themselves and before others
 module _ (file : List ℕ) (at : ℕ) (f : FieldThere file at) where
@@ -86,75 +92,57 @@ module _ (file : List ℕ) (at : ℕ) (f : FieldThere file at) where
       reading-same cut file 0 at (cut-upto 1 (omega arith))
       (λ k z e. let l = sized k (sym cut-tag ∙ e) in cut-upto 27 (omega arith))
 
-  cut-sun : tagAt file at ≡ 8 → sunAt cut 0 ≡ sunAt file at
+  cut-due : (d : Due) → dueAfter cut d 0 ≡ dueAfter file d at
   unfolding sizeOf kinds sizeIn
-  cut-sun e = let l : 16 ≤ lengthAt file at = sized 8 e in sun-same cut file 0 at (cut-upto 19 (omega arith))
+  cut-due =
+      due-same cut file 0 at (cut-upto 1 (omega arith))
+      (λ e. let l : 16 ≤ lengthAt file at = sized 8 (sym cut-tag ∙ e) in cut-upto 19 (omega arith))
+      (λ e. let l : 2 ≤ lengthAt file at = sized 12 (sym cut-tag ∙ e) in cut-upto 5 (omega arith))
 
   -- the steps from it on, by its tag, where others are kept behind it
   module _ (kept : List ℕ) where
-    abbrev pub after : Bool → Bool → Sun → List Step
-    after r l s = cond r (stepWith (readingAt file at) s ∷ stepsFrom kept dark 0) (cond l (stepsFrom kept (sunAt file at) 0) (stepsFrom kept s 0))
+    abbrev pub after : Bool → Due → List Step
+    after r d = let more = stepsFrom kept (dueAfter file d at) 0 in cond r (stepWith (readingAt file at) d ∷ more) more
 
-    pub cut-steps : (s : Sun) → stepsFrom (cut ++ kept) s 0 ≡ after (isReading (tagAt file at)) (eqb (tagAt file at) 8) s
-    cut-steps s = steps-append cut kept cut-whole s ∙ ap₂ (λ (l : List Step) (u : Sun). l ++ stepsFrom kept u 0) one sun ∙ go (isReading (tagAt file at)) (eqb (tagAt file at) 8)
+    pub cut-steps : (d : Due) → stepsFrom (cut ++ kept) d 0 ≡ after (isReading (tagAt file at)) d
+    cut-steps d = steps-append cut kept cut-whole d ∙ ap₂ (λ (l : List Step) (u : Due). l ++ stepsFrom kept u 0) one left ∙ go (isReading (tagAt file at))
       where
-        none-behind : (u : Sun) → stepsFrom cut u (past cut 0) ≡ []
-        none-behind u = steps-over cut u (past cut 0) (let p = cut-past in omega arith)
-
-        sun-behind : (u : Sun) → sunFrom cut u (past cut 0) ≡ u
-        sun-behind u = sun-over cut u (past cut 0) (let p = cut-past in omega arith)
+        none-behind : stepsFrom cut (dueAfter cut d 0) (past cut 0) ≡ []
+        none-behind = steps-over cut (dueAfter cut d 0) (past cut 0) (let p = cut-past in omega arith)
 
         first : 0 < length cut
         first = let long = cut-long in omega arith
 
-        one : stepsFrom cut s 0 ≡ cond (isReading (tagAt file at)) (stepWith (readingAt file at) s ∷ []) []
-        one =
-            steps-field cut s 0 first
-            ∙ ap (λ (t : ℕ). stepsBy cut 0 (isReading t) (eqb t 8) s) cut-tag
-            ∙ by (isReading (tagAt file at)) (eqb (tagAt file at) 8)
-          where
-            by : (r l : Bool) → stepsBy cut 0 r l s ≡ cond r (stepWith (readingAt file at) s ∷ []) []
-            by true l = ap₂ (λ r (ss : List Step). stepWith r s ∷ ss) cut-reading (none-behind dark)
-            by false true = none-behind (sunAt cut 0)
-            by false false = none-behind s
+        one : stepsFrom cut d 0 ≡ cond (isReading (tagAt file at)) (stepWith (readingAt file at) d ∷ []) []
+        one = steps-field cut d 0 first ∙ (λ j. cond (isReading (cut-tag j)) (stepWith (cut-reading j) d ∷ none-behind j) (none-behind j))
 
-        sun : sunFrom cut s 0 ≡ cond (isReading (tagAt file at)) dark (cond (eqb (tagAt file at) 8) (sunAt file at) s)
-        sun =
-            sun-field cut s 0 first
-            ∙ ap (λ (t : ℕ). cond (isReading t) (sunFrom cut dark (past cut 0)) (cond (eqb t 8) (sunFrom cut (sunAt cut 0) (past cut 0)) (sunFrom cut s (past cut 0)))) cut-tag
-            ∙ by (isReading (tagAt file at)) (eqb (tagAt file at) 8) refl
-          where
-            by : (r l : Bool) → eqb (tagAt file at) 8 ≡ l
-                → cond r (sunFrom cut dark (past cut 0)) (cond l (sunFrom cut (sunAt cut 0) (past cut 0)) (sunFrom cut s (past cut 0))) ≡ cond r dark (cond l (sunAt file at) s)
-            by true l e = sun-behind dark
-            by false true e = sun-behind (sunAt cut 0) ∙ cut-sun (eqb-true (tagAt file at) 8 e)
-            by false false e = sun-behind s
+        left : dueFrom cut d 0 ≡ dueAfter file d at
+        left = due-field cut d 0 first ∙ due-over cut (dueAfter cut d 0) (past cut 0) (let p = cut-past in omega arith) ∙ cut-due d
 
-        go : (r l : Bool) → cond r (stepWith (readingAt file at) s ∷ []) [] ++ stepsFrom kept (cond r dark (cond l (sunAt file at) s)) 0 ≡ after r l s
-        go true l = refl
-        go false true = refl
-        go false false = refl
+        go : (r : Bool) → cond r (stepWith (readingAt file at) d ∷ []) [] ++ stepsFrom kept (dueAfter file d at) 0 ≡ after r d
+        go true = refl
+        go false = refl
 
--- ---- the field of a missing reading: a step with the sun that it had, and no sun for the next
+-- ---- the field of a missing reading: a step with what it had before it, and nothing for the next
 pub missing-whole : Whole missingField 0
 unfolding be sizeOf kinds sizeIn
 missing-whole = whole-field (record { size = lit≤ tt; all = lit≤ tt }) (whole-end refl)
 
-missing-one : (s : Sun) → stepsFrom missingField s 0 ≡ stepWith Missing s ∷ []
+missing-one : (d : Due) → stepsFrom missingField d 0 ≡ stepWith Missing d ∷ []
 unfolding stepsFrom stepsIn placesFrom readingAt be
-missing-one s = refl
+missing-one d = refl
 
-missing-sun : (s : Sun) → sunFrom missingField s 0 ≡ dark
-unfolding sunFrom sunIn placesFrom be
-missing-sun s = refl
+missing-due : (d : Due) → dueFrom missingField d 0 ≡ noneYet
+unfolding dueFrom dueIn dueAfter placesFrom be
+missing-due d = refl
 
-pub missing-steps : (kept : List ℕ) (s : Sun) → stepsFrom (missingField ++ kept) s 0 ≡ stepWith Missing s ∷ stepsFrom kept dark 0
-missing-steps kept s = steps-append missingField kept missing-whole s ∙ ap₂ (λ (l : List Step) (u : Sun). l ++ stepsFrom kept u 0) (missing-one s) (missing-sun s)
+pub missing-steps : (kept : List ℕ) (d : Due) → stepsFrom (missingField ++ kept) d 0 ≡ stepWith Missing d ∷ stepsFrom kept noneYet 0
+missing-steps kept d = steps-append missingField kept missing-whole d ∙ ap₂ (λ (l : List Step) (u : Due). l ++ stepsFrom kept u 0) (missing-one d) (missing-due d)
 
 -- ---- the end field closes no step
-pub end-steps : (steps : ℕ) (s : Sun) → stepsFrom (endField steps) s 0 ≡ []
+pub end-steps : (steps : ℕ) (d : Due) → stepsFrom (endField steps) d 0 ≡ []
 unfolding stepsFrom stepsIn placesFrom endField bytesOf be
-end-steps steps s = refl
+end-steps steps d = refl
 
 -- ---- a field that is taken counts its step
 counts : (file : List ℕ) (st m : State) (at : ℕ) → FieldTaken file st m at → (b : Bool) → isReading (tagAt file at) ≡ b → m .steps ≡ st .steps + cond b 1 0
@@ -169,8 +157,8 @@ counts file st m at t false r =
 -- ---- all that is kept from a place on: whole fields, with the file's steps, which the state counts
 pub record Held (file : List ℕ) (st : State) (at : ℕ) (s : Saved) : Type 0 where
   pub whole : Whole (s .kept) 0
-  pub likes : (sun : Sun) → Likes (stepsFrom (s .kept) sun 0) (stepsFrom file sun at)
-  pub counted : (sun : Sun) → s .state .steps ≡ st .steps + length (stepsFrom (s .kept) sun 0)
+  pub likes : (d : Due) → Likes (stepsFrom (s .kept) d 0) (stepsFrom file d at)
+  pub counted : (d : Due) → s .state .steps ≡ st .steps + length (stepsFrom (s .kept) d 0)
 
 likes-so : {xs us ys vs : List Step} → xs ≡ us → ys ≡ vs → Likes us vs → Likes xs ys
 likes-so {xs} {us} {ys} {vs} e f l = subst⁻¹ (λ (x : List Step). Likes x ys) e (subst⁻¹ (Likes us) f l)
@@ -180,8 +168,8 @@ module _ (file : List ℕ) where
   held-none : (st : State) (at : ℕ) (n : ℕ) → Held file st at (endsAt n at st)
   held-none st at n = record {
     whole = whole-end refl;
-    likes = λ sun. likes-so (steps-over [] sun 0 (omega arith)) refl none;
-    counted = λ sun. let z = ap length (steps-over [] sun 0 (omega arith)) in omega arith;
+    likes = λ d. likes-so (steps-over [] d 0 (omega arith)) refl none;
+    counted = λ d. let z = ap length (steps-over [] d 0 (omega arith)) in omega arith;
   }
 
   module _ {st : State} {at : ℕ} {s : Saved} (l : at < length file) where
@@ -189,21 +177,24 @@ module _ (file : List ℕ) where
     held-lost : Unread st file at → Held file (closedStep st) (past file at) s → Held file st at (keeping missingField (at ∷ []) s)
     held-lost u h = record {
       whole = whole-append missingField (s .kept) missing-whole (h .whole);
-      likes = λ sun. likes-so (missing-steps (s .kept) sun) (here sun) (next (record { sun = refl; reading = inr refl }) (h .likes dark));
-      counted = λ sun. let c = h .counted dark in let n = ap length (missing-steps (s .kept) sun) in omega arith;
+      likes = λ d. likes-so (missing-steps (s .kept) d) (here d) (next (record { sun = refl; voltage = refl; reading = inr refl }) (h .likes noneYet));
+      counted = λ d. let c = h .counted noneYet in let n = ap length (missing-steps (s .kept) d) in omega arith;
     }
       where
-        here : (sun : Sun) → stepsFrom file sun at ≡ stepWith (readingAt file at) sun ∷ stepsFrom file dark (past file at)
-        here sun =
-            steps-field file sun at l
-            ∙ by-measure (λ (t : ℕ). stepsBy file at (isReading t) (eqb t 8) sun ≡ stepsBy file at true false sun) (u .tag) refl refl
+        closes-it : isReading (tagAt file at) ≡ true
+        closes-it = by-measure (λ (t : ℕ). isReading t ≡ true) (u .tag) refl refl
+
+        here : (d : Due) → stepsFrom file d at ≡ stepWith (readingAt file at) d ∷ stepsFrom file noneYet (past file at)
+        here d =
+            steps-field file d at l ∙ ap (λ (r : Bool). stepsBy file at r d) closes-it
+            ∙ ap (λ (u : Due). stepWith (readingAt file at) d ∷ stepsFrom file u (past file at)) (closed-due file at d closes-it)
 
     -- a field that is kept
     held-passed : (m : State) → fieldAt st file at ≡ Next m → Held file m (past file at) s → Held file st at (keeping (bytesAt file at) [] s)
     held-passed m f h = record {
       whole = whole-append (bytesAt file at) (s .kept) (cut-whole file at there) (h .whole);
-      likes = λ sun. likes-so (cut-steps file at there (s .kept) sun) (steps-field file sun at l) (alike (isReading (tagAt file at)) (eqb (tagAt file at) 8) sun);
-      counted = λ sun. count (isReading (tagAt file at)) (eqb (tagAt file at) 8) sun one (ap length (cut-steps file at there (s .kept) sun));
+      likes = λ d. likes-so (cut-steps file at there (s .kept) d) (steps-field file d at l) (alike (isReading (tagAt file at)) d);
+      counted = λ d. count (isReading (tagAt file at)) d one (ap length (cut-steps file at there (s .kept) d));
     }
       where
         there : FieldThere file at
@@ -212,17 +203,15 @@ module _ (file : List ℕ) where
         one : m .steps ≡ st .steps + cond (isReading (tagAt file at)) 1 0
         one = counts file st m at (accepted-field file st m at (omega arith) f) (isReading (tagAt file at)) refl
 
-        alike : (r o : Bool) (sun : Sun) → Likes (after file at there (s .kept) r o sun) (stepsBy file at r o sun)
-        alike true o sun = next (record { sun = refl; reading = inl refl }) (h .likes dark)
-        alike false true sun = h .likes (sunAt file at)
-        alike false false sun = h .likes sun
+        alike : (r : Bool) (d : Due) → Likes (after file at there (s .kept) r d) (stepsBy file at r d)
+        alike true d = next (record { sun = refl; voltage = refl; reading = inl refl }) (h .likes (dueAfter file d at))
+        alike false d = h .likes (dueAfter file d at)
 
-        count : (r o : Bool) (sun : Sun) → m .steps ≡ st .steps + cond r 1 0
-            → length (stepsFrom (bytesAt file at ++ s .kept) sun 0) ≡ length (after file at there (s .kept) r o sun)
-            → s .state .steps ≡ st .steps + length (stepsFrom (bytesAt file at ++ s .kept) sun 0)
-        count true o sun c n = let d = h .counted dark in omega arith
-        count false true sun c n = let d = h .counted (sunAt file at) in omega arith
-        count false false sun c n = let d = h .counted sun in omega arith
+        count : (r : Bool) (d : Due) → m .steps ≡ st .steps + cond r 1 0
+            → length (stepsFrom (bytesAt file at ++ s .kept) d 0) ≡ length (after file at there (s .kept) r d)
+            → s .state .steps ≡ st .steps + length (stepsFrom (bytesAt file at ++ s .kept) d 0)
+        count true d c n = let k = h .counted (dueAfter file d at) in omega arith
+        count false d c n = let k = h .counted (dueAfter file d at) in omega arith
 
   pub held : {st : State} {at : ℕ} {s : Saved} → Saving file st at s → Held file st at s
   held {st} {at} (over e) = held-none st at 0
@@ -233,21 +222,21 @@ module _ (file : List ℕ) where
   held {st} {at} (waiting {s = s} m l e f w g more) = held-none st at (s .number)
 
 -- ---- and the end field behind it
-output-steps : (s : Saved) → Whole (s .kept) 0 → stepsOf (outputBy s) ≡ stepsFrom (s .kept) dark 0
+output-steps : (s : Saved) → Whole (s .kept) 0 → stepsOf (outputBy s) ≡ stepsFrom (s .kept) noneYet 0
 unfolding stepsOf outputBy
 output-steps s w =
-    steps-append (s .kept) (end (eqb (s .state .stage) 0)) w dark
-    ∙ ap (λ (l : List Step). stepsFrom (s .kept) dark 0 ++ l) (nothing (eqb (s .state .stage) 0))
-    ∙ append-nil (stepsFrom (s .kept) dark 0)
+    steps-append (s .kept) (end (eqb (s .state .stage) 0)) w noneYet
+    ∙ ap (λ (l : List Step). stepsFrom (s .kept) noneYet 0 ++ l) (nothing (eqb (s .state .stage) 0))
+    ∙ append-nil (stepsFrom (s .kept) noneYet 0)
   where
     end : Bool → List ℕ
     end b = cond b [] (endField (s .state .steps))
 
-    nothing : (b : Bool) → stepsFrom (end b) (sunFrom (s .kept) dark 0) 0 ≡ []
-    nothing true = steps-over [] (sunFrom (s .kept) dark 0) 0 (omega arith)
-    nothing false = end-steps (s .state .steps) (sunFrom (s .kept) dark 0)
+    nothing : (b : Bool) → stepsFrom (end b) (dueFrom (s .kept) noneYet 0) 0 ≡ []
+    nothing true = steps-over [] (dueFrom (s .kept) noneYet 0) 0 (omega arith)
+    nothing false = end-steps (s .state .steps) (dueFrom (s .kept) noneYet 0)
 
-of-file : (file : List ℕ) → stepsOf file ≡ stepsFrom file dark 0
+of-file : (file : List ℕ) → stepsOf file ≡ stepsFrom file noneYet 0
 unfolding stepsOf
 of-file file = refl
 
@@ -255,13 +244,13 @@ pub steps : (file : List ℕ) → rescueOf file .number ≡ 0 → Likes (stepsOf
 unfolding outputOf
 steps file z =
     let h = held file (saved-file file) in
-    likes-so (output-steps (savedOf file) (h .whole)) (of-file file) (h .likes dark)
+    likes-so (output-steps (savedOf file) (h .whole)) (of-file file) (h .likes noneYet)
 
 -- an answer of 0 has the state's steps
 answer-steps : (file : List ℕ) → rescueOf file .number ≡ 0 → rescueOf file .steps ≡ savedOf file .state .steps
 unfolding rescueOf savedAnswer
 answer-steps file =
-    go (ltb 2097152 (length file)) (due (s .state) (tagAt file (s .at))) (ltb 2097152 (length (outputBy s))) (eqb (s .number) 0) refl
+    go (ltb 2097152 (length file)) (dueHere (s .state) (tagAt file (s .at))) (ltb 2097152 (length (outputBy s))) (eqb (s .number) 0) refl
   where
     s : Saved
     s = savedOf file
@@ -280,7 +269,7 @@ pub counted : (file : List ℕ) → rescueOf file .number ≡ 0 → length (step
 unfolding outputOf
 counted file z =
     let h = held file (saved-file file) in
-    let c : savedOf file .state .steps ≡ 0 + length (stepsFrom (savedOf file .kept) dark 0) = h .counted dark in
+    let c : savedOf file .state .steps ≡ 0 + length (stepsFrom (savedOf file .kept) noneYet 0) = h .counted noneYet in
     let o = ap length (output-steps (savedOf file) (h .whole)) in
     let a = answer-steps file z in
     omega arith

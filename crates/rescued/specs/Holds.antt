@@ -18,6 +18,7 @@ use Rattle.rescue.specs.Answers.{Change, outputOf, changesOf, rescueOf}
 -- a step as it was, or its reading made missing
 pub record Like (kept was : Step) : Type 0 where
   pub sun : kept .sun ≡ was .sun
+  pub voltage : kept .voltage ≡ was .voltage
   pub reading : (kept .reading ≡ was .reading) ⊎ (kept .reading ≡ Missing)
 
 -- steps in order; others may come behind them

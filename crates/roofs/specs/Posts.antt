@@ -1,7 +1,9 @@
 -- Nobody has to believe this file: where the code finds the roofs, and what a step may count on.
 use Prim.Native.Nat.{ℕ, zero, suc, _+_, _*_, _≤_, _<_}
 use mathlib.Core.List.{List, [], _∷_}
-use lib.ListN.{length}
+use lib.IntN.{ℤ, pos, natAbs}
+use lib.ListN.{length, getD}
+use mathlib.Core.Path.{_≡_}
 use Rattle.parts.specs.Header.{header}
 use Rattle.solar.specs.Roof.{Roof}
 use Rattle.solar.specs.Posts.{roofBy, Roofed}
@@ -23,3 +25,8 @@ pub record RoofsThere (bytes : List ℕ) (first n : ℕ) : Type 0 where
   pub few : n ≤ 64
   pub within : first + roofBytes * n ≤ length bytes
   pub there : (i : ℕ) → i < n → Roofed (inverterAt bytes (first + roofBytes * i + header)) bytes (first + roofBytes * i + 25) (first + roofBytes * i + 157)
+
+-- vars for each of them, within their bounds
+pub record VarsHeld (n : ℕ) (vars : List ℤ) : Type 0 where
+  pub count : length vars ≡ n
+  pub small : (i : ℕ) → i < n → natAbs (getD vars i (pos 0)) ≤ 100000000

@@ -11,7 +11,7 @@ use Rattle.octets.specs.BigEndian.{laid}
 use Rattle.site.specs.Site.{count}
 use Rattle.stick.specs.declared.Answer.{Answer}
 use Rattle.stick.specs.Check.{answer, checkOf}
-use Rattle.stick.specs.Site.{siteOf, roofsOf, stepsOf}
+use Rattle.stick.specs.Site.{siteOf, roofsOf, plantOf, stepsOf}
 use Rattle.stick.proofs.SiteProved.{steps-count, steps-most}
 use Rattle.stretch.proofs.SiteLaws.{few-units as units-few, few-roofs as roofs-few, few-bytes as bytes-few}
 use Rattle.season.specs.Run.{resultOf}
@@ -22,7 +22,7 @@ use Rattle.season.proofs.RunLaws.{by-length}
 -- the result of any file is as long as what is needed for it
 pub result-length : (file : List ℕ) → length (resultOf file) ≡ needed file
 unfolding resultOf needed
-result-length file = by-length (siteOf file) (roofsOf file) (stepsOf file)
+result-length file = by-length (plantOf file) (stepsOf file)
 
 -- laid from the room's start, bytes are followed by what the room held past them
 over : (bs room : List ℕ) (n : ℕ) → length bs ≡ n → laid room 0 bs ≡ bs ++ drop n room
@@ -47,7 +47,7 @@ module _ (file : List ℕ) (steps : ℕ) (c : Counted file steps) where
   same-steps = steps-count file (c .accepted) ∙ c .counted
 
   pub bytes-needed : (n m : ℕ) → n ≡ count (siteOf file) → m ≡ length (roofsOf file) → (40 * n + 29 * m) * steps + 7 ≡ needed file
-  unfolding needed
+  unfolding needed plantOf
   bytes-needed n m e d = ap₂ (λ (u v : ℕ). (40 * u + 29 * v) * steps + 7) e d ∙ ap (λ (k : ℕ). (40 * count (siteOf file) + 29 * length (roofsOf file)) * k + 7) (sym same-steps)
 
 -- ---- what is answered and left, by what the tests give

@@ -8,18 +8,17 @@ use lib.IntN.{ℤ, pos}
 use lib.ListN.{length, getD, take, replicate}
 use lib.Signed.{ltZ}
 use Rattle.whole.proofs.OverLaws.{none-of}
-use Rattle.unit.specs.declared.Unit.{Unit}
 use Rattle.reading.specs.declared.Reading.{Reading}
 use Rattle.members.specs.Ranges.{fleetFor, someAbove, someBelow}
 use Rattle.controller.specs.OneSign.{OneSign}
 use Rattle.controller.proofs.OneSign.{one-sign}
 use Rattle.site.specs.declared.Step.{Step}
-use Rattle.site.specs.Site.{Site}
-use Rattle.stick.specs.Site.{siteOf, stepsOf}
+use Rattle.site.specs.Site.{Site, Plant}
+use Rattle.stick.specs.Site.{plantOf, stepsOf}
 use Rattle.stick.specs.Posts.{Accepted}
-use Rattle.fleet.specs.Step.{Standing, atFirst, askedBy, after}
+use Rattle.fleet.specs.Step.{Stands, atFirst, askedBy, after}
 use Rattle.fleet.proofs.StepLaws.{asked-keeps}
-use Rattle.stretch.specs.Stretch.{standsAfter}
+use Rattle.stretch.specs.Stretch.{standsFirst, nextOf, standsAfter}
 use Rattle.season.specs.Holds.{RunLaw}
 use Rattle.season.proofs.AnswerLaws.{result-length}
 use Rattle.season.proofs.UsedLaws.{none-refused, no-current-refused}
@@ -29,25 +28,26 @@ zeros zero i = refl
 zeros (suc n) zero = refl
 zeros (suc n) (suc i) = zeros n i
 
-first-one : (us : List Unit) → OneSign (atFirst us .requests)
-unfolding atFirst someAbove
-first-one us =
-    let rs = replicate (length us) (pos 0) in
+first-one : (p : Plant) → OneSign (standsFirst p .units .requests)
+unfolding standsFirst atFirst someAbove
+first-one p =
+    let n = length (p .site .units) in
+    let rs = replicate n (pos 0) in
     ap (λ (b : Bool). b && someBelow rs)
-    (none-of (length rs) (λ (i : ℕ). ltZ (pos 0) (getD rs i (pos 0))) (λ i l. ap (ltZ (pos 0)) (zeros (length us) i)))
+    (none-of (length rs) (λ (i : ℕ). ltZ (pos 0) (getD rs i (pos 0))) (λ i l. ap (ltZ (pos 0)) (zeros n i)))
 
 asked-one : (site : Site) (stored : List ℕ) (rs : List ℤ) (r : Reading) → OneSign rs → OneSign (askedBy site stored rs r)
 asked-one site stored rs r h = asked-keeps OneSign site stored rs h (λ m. one-sign (site .head .settings) m (fleetFor (site .units) stored) rs h) r
 
-stands-one : (site : Site) (st : Standing) (ss : List Step) → OneSign (st .requests) → OneSign (standsAfter site st ss .requests)
-unfolding standsAfter after
-stands-one site st [] h = h
-stands-one site st (s ∷ ss) h = stands-one site (after site st s) ss (asked-one site (st .stored) (st .requests) (s .reading) h)
+stands-one : (p : Plant) (st : Stands) (ss : List Step) → OneSign (st .units .requests) → OneSign (standsAfter p st ss .units .requests)
+unfolding standsAfter nextOf after
+stands-one p st [] h = h
+stands-one p st (s ∷ ss) h = stands-one p (nextOf p st s) ss (asked-one (p .site) (st .units .stored) (st .units .requests) (s .reading) h)
 
 pub run-law : (file : List ℕ) → Accepted file → RunLaw file
 run-law file a = record {
   resultLength = result-length file;
   noneRefused = none-refused file a;
   noCurrentRefused = no-current-refused file a;
-  oneSign = λ k. stands-one (siteOf file) (atFirst (siteOf file .units)) (take k (stepsOf file)) (first-one (siteOf file .units));
+  oneSign = λ k. stands-one (plantOf file) (standsFirst (plantOf file)) (take k (stepsOf file)) (first-one (plantOf file));
 }

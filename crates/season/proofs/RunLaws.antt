@@ -6,23 +6,18 @@ use native.Mathlib.Nat.{zero-add}
 use native.Mathlib.Omega.{arith}
 use lib.ListN.{length}
 use Rattle.octets.specs.BigEndian.{laid}
-use Rattle.solar.specs.Roof.{Roof}
 use Rattle.site.specs.declared.Step.{Step}
-use Rattle.site.specs.Site.{Site}
+use Rattle.site.specs.Site.{Plant}
 use Rattle.records.specs.Records.{endOf}
 use Rattle.records.proofs.LayLaws.{behind, both, end-length}
-use Rattle.roofs.specs.Roofs.{allOff}
-use Rattle.fleet.specs.Step.{atFirst}
-use Rattle.stretch.specs.Stretch.{recordsFrom, allBytes}
+use Rattle.stretch.specs.Stretch.{standsFirst, recordsFrom, allBytes}
 use Rattle.stretch.proofs.AppendLaws.{records-length}
 use Rattle.season.specs.Run.{resultBy, neededBy}
 
 -- the result is as long as what is needed
-pub by-length : (site : Site) (roofs : List Roof) (ss : List Step) → length (resultBy site roofs ss) ≡ neededBy site roofs (length ss)
+pub by-length : (p : Plant) (ss : List Step) → length (resultBy p ss) ≡ neededBy p (length ss)
 unfolding resultBy
-by-length site roofs ss =
-    let records = recordsFrom site roofs 0 (atFirst (site .units)) (allOff roofs) ss in
-    both records (endOf (length ss)) (allBytes site roofs * length ss) 7 (records-length site roofs 0 (atFirst (site .units)) (allOff roofs) ss) (end-length (length ss))
+by-length p ss = both (recordsFrom p 0 (standsFirst p) ss) (endOf (length ss)) (allBytes p * length ss) 7 (records-length p 0 (standsFirst p) ss) (end-length (length ss))
 
 -- the end record behind those of all steps
 pub end-laid : (room records mid-room then-room : List ℕ) (at count steps : ℕ) → length records ≡ at → steps ≡ count → mid-room ≡ laid room 0 records

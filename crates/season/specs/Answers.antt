@@ -7,13 +7,13 @@ use lib.Dec.{ltb, eqb}
 use lib.ListN.{length, drop}
 use Rattle.stick.specs.declared.Answer.{Answer}
 use Rattle.stick.specs.Check.{answer, checkOf}
-use Rattle.stick.specs.Site.{siteOf, roofsOf, stepsOf}
+use Rattle.stick.specs.Site.{plantOf, stepsOf}
 use Rattle.season.specs.Run.{resultOf, neededBy}
 
 -- the bytes of a file's result
 unfoldable pub needed : List ℕ → ℕ
-unfolding siteOf roofsOf stepsOf
-needed file = neededBy (siteOf file) (roofsOf file) (length (stepsOf file))
+unfolding plantOf stepsOf
+needed file = neededBy (plantOf file) (length (stepsOf file))
 
 -- what the room is asked: nothing for a file that the check refuses
 unfoldable pub roomOf : List ℕ → ℕ

@@ -9,11 +9,9 @@ use Rattle.reading.specs.declared.Reading.the-variants.{Missing, Power, Current
 use Rattle.reading.specs.declared.Measure.the-variants.{Chosen}
 use Rattle.reading.specs.Choice.{measureOf, currentOf}
 use Rattle.controller.specs.OneSign.{OneSign}
-use Rattle.solar.specs.Weather.{dark}
-use Rattle.site.specs.Site.{stepWith}
-use Rattle.stick.specs.Site.{siteOf, stepsOf}
-use Rattle.fleet.specs.Step.{atFirst}
-use Rattle.stretch.specs.Stretch.{standsAfter}
+use Rattle.site.specs.Site.{noneYet, stepWith}
+use Rattle.stick.specs.Site.{siteOf, plantOf, stepsOf}
+use Rattle.stretch.specs.Stretch.{standsFirst, standsAfter}
 use Rattle.season.specs.Run.{resultOf}
 use Rattle.season.specs.Answers.{needed}
 
@@ -21,9 +19,9 @@ pub record RunLaw (file : List ℕ) : Type 0 where
   -- the result has as many bytes as the room is asked for
   pub resultLength : length (resultOf file) ≡ needed file
   -- every power that the file has gives a measure, and every current
-  pub noneRefused : (k : ℕ) → k < length (stepsOf file) → (p : Phases) → getD (stepsOf file) k (stepWith Missing dark) .reading ≡ Power p
+  pub noneRefused : (k : ℕ) → k < length (stepsOf file) → (p : Phases) → getD (stepsOf file) k (stepWith Missing noneYet) .reading ≡ Power p
       → (m : ℤ) × (measureOf p (siteOf file .head .phase) ≡ Chosen m)
-  pub noCurrentRefused : (k : ℕ) → k < length (stepsOf file) → (p : Phases) → getD (stepsOf file) k (stepWith Missing dark) .reading ≡ Current p
+  pub noCurrentRefused : (k : ℕ) → k < length (stepsOf file) → (p : Phases) → getD (stepsOf file) k (stepWith Missing noneYet) .reading ≡ Current p
       → (m : ℤ) × (currentOf p (siteOf file .head .phase) ≡ Chosen m)
   -- after any number of steps the requests are not of both signs
-  pub oneSign : (k : ℕ) → OneSign (standsAfter (siteOf file) (atFirst (siteOf file .units)) (take k (stepsOf file)) .requests)
+  pub oneSign : (k : ℕ) → OneSign (standsAfter (plantOf file) (standsFirst (plantOf file)) (take k (stepsOf file)) .units .requests)

@@ -5,10 +5,15 @@ use lib.IntN.{pos}
 use lib.ListN.{length, getD}
 use Rattle.reading.specs.declared.Reading.{Reading}
 use Rattle.unit.specs.declared.Unit.{Unit}
+use Rattle.lead.specs.declared.Voltage.{Voltage}
+use Rattle.lead.specs.Lead.{Leading}
+use Rattle.lead.specs.declared.Voltage.the-variants.{Unsaid}
 use Rattle.solar.specs.declared.Sun.{Sun}
+use Rattle.solar.specs.Weather.{dark}
 use Rattle.solar.specs.Roof.{Roof}
 use Rattle.site.specs.declared.Head.{Head}
 use Rattle.site.specs.declared.Step.{Step}
+use Rattle.site.specs.declared.Due.{Due}
 
 -- edition, seconds of a step, settings with the phase choice; and the units
 pub record Site : Type 0 where
@@ -57,6 +62,19 @@ noRoof = record {
 abbrev pub roofOf : List Roof → ℕ → Roof
 roofOf roofs i = getD roofs i noRoof
 
--- a step with its reading and its sun
-abbrev pub stepWith : Reading → Sun → Step
-stepWith r s = record { reading = r; sun = s }
+-- a whole plant: the site, its roofs, and the function that leads its vars, or none
+pub record Plant : Type 0 where
+  pub site : Site
+  pub roofs : List Roof
+  pub leading : Leading
+
+-- what a step under way has before its reading: a sun and a voltage, at first neither
+abbrev pub due : Sun → Voltage → Due
+due s v = record { sun = s; voltage = v }
+
+abbrev pub noneYet : Due
+noneYet = due dark Unsaid
+
+-- a step with its reading
+abbrev pub stepWith : Reading → Due → Step
+stepWith r d = record { reading = r; sun = d .sun; voltage = d .voltage }

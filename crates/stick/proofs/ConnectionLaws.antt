@@ -11,13 +11,13 @@ use borrow.Author.Tests.{eqb-true, eqb-false, ne-eqb, leb-true}
 use Rattle.whole.specs.Interval.{between}
 use Rattle.whole.proofs.OverLaws.{and-parts}
 use Rattle.whole.proofs.Choice.{passed-failed}
-use Rattle.solar.specs.Weather.{dark}
+use Rattle.site.specs.Site.{noneYet}
 use Rattle.unit.specs.Ranges.{linkOf, connectionIn}
 use Rattle.parts.specs.Header.{header, tagAt, past}
 use Rattle.fields.specs.declared.State.{State}
 use Rattle.fields.specs.declared.Taken.{Taken}
 use Rattle.fields.specs.declared.Taken.the-variants.{Stop}
-use Rattle.fields.specs.Fields.{atInverters, atConnections, kinds, sizeIn, sizeOf, headOf, standsIn, allowed, valueOf, refusedBy, stateOf, roofAfter, stateAfter, takenBy, connectionsIn}
+use Rattle.fields.specs.Fields.{atInverters, atConnections, kinds, sizeIn, sizeOf, headOf, standsIn, allowed, valueOf, refusedBy, flags, stateOf, roofAfter, stateAfter, takenBy, connectionsIn}
 use Rattle.fields.proofs.FieldLaws.{connections-alone}
 use Rattle.stick.specs.Check.{fieldAt}
 use Rattle.stick.specs.Site.{having, stepsIn}
@@ -26,12 +26,12 @@ use Rattle.stick.proofs.PlaceLaws.{from, picked, left-out, closes-none}
 use Rattle.stick.proofs.SaidLaws.{accepted-test, one, Waited, waited}
 
 -- ---- by watts, where no connections stand, the stage of the connections is that of the inverters
-module _ (edition units left steps : ℕ) (file : List ℕ) where
+module _ (edition units left steps : ℕ) (led : Bool) (file : List ℕ) where
   abbrev pub linking : State
-  linking = stateOf atConnections edition units left steps false
+  linking = stateOf atConnections edition units left steps (flags false led)
 
   abbrev pub roofing : State
-  roofing = stateOf atInverters edition units left steps false
+  roofing = stateOf atInverters edition units left steps (flags false led)
 
   pub taken-alike : (tag : ℕ) → (tag ≡ 10 → ⊥) → (v : ℕ) → takenBy linking tag file v ≡ takenBy roofing tag file v
   unfolding takenBy refusedBy allowed kinds standsIn valueOf stateAfter roofAfter
@@ -46,34 +46,34 @@ module _ (file : List ℕ) (ok : whole file .number ≡ 0) (edition units : ℕ)
   pub record ConnectionsSaid (current there : Bool) (at next : ℕ) : Type 0 where
     pub picked-all : having 10 file (from file at) ≡ cond there (at ∷ having 10 file (from file next)) (having 10 file (from file next))
     pub no-others : (t : ℕ) → (10 ≡ t → ⊥) → having t file (from file at) ≡ having t file (from file next)
-    pub no-steps : stepsIn file dark (from file at) ≡ stepsIn file dark (from file next)
+    pub no-steps : stepsIn file noneYet (from file at) ≡ stepsIn file noneYet (from file next)
     pub connections : there ≡ true → connectionsIn units file (at + header) ≡ true
     pub behind : there ≡ true → past file at ≡ next
     pub nothing : there ≡ false → at ≡ next
-    pub rest : OnTheWay file (stateOf atInverters edition units 64 0 current) next
+    pub rest : OnTheWay file (stateOf atInverters edition units 64 0 (flags current false)) next
 
   pub connections-said : (current : Bool) (at next : ℕ) → at + cond (eqb (tagAt file at) 10) (header + 3 * units) 0 ≡ next
-      → OnTheWay file (stateOf atConnections edition units 64 0 current) at → ConnectionsSaid current (eqb (tagAt file at) 10) at next
+      → OnTheWay file (stateOf atConnections edition units 64 0 (flags current false)) at → ConnectionsSaid current (eqb (tagAt file at) 10) at next
   unfolding sizeOf valueOf stateAfter roofAfter
   connections-said current at next e w = go (eqb (tagAt file at) 10) refl e
     where
       there : tagAt file at ≡ 10 → at + (header + 3 * units) ≡ next → ConnectionsSaid current true at next
       there t e =
-          let st : State = stateOf atConnections edition units 64 0 current in
+          let st : State = stateOf atConnections edition units 64 0 (flags current false) in
           let v : Waited file ok 10 st at next = waited file ok 10 st at next refl (λ z. t) (omega (arith, e)) w in
           record {
             picked-all = picked file (v .passed);
             no-others = left-out file (v .passed);
-            no-steps = closes-none file (v .passed) dark refl refl;
+            no-steps = closes-none file (v .passed) noneYet refl refl refl;
             connections = λ z. accepted-test (connectionsIn units file (at + header)) (v .value);
             behind = λ z. v .behind;
             nothing = λ z. absurd (passed-failed refl z);
             rest = v .rest;
           }
 
-      none : (c : Bool) → (tagAt file at ≡ 10 → ⊥) → OnTheWay file (stateOf atConnections edition units 64 0 c) at → OnTheWay file (stateOf atInverters edition units 64 0 c) at
-      none true n w = absurd (n (connections-alone edition units 64 0 (tagAt file at) (one file ok (stateOf atConnections edition units 64 0 true) at w refl .allows)))
-      none false n w = way-alike file (linking edition units 64 0 file) (roofing edition units 64 0 file) at refl refl refl (field-alike edition units 64 0 file at n) w
+      none : (c : Bool) → (tagAt file at ≡ 10 → ⊥) → OnTheWay file (stateOf atConnections edition units 64 0 (flags c false)) at → OnTheWay file (stateOf atInverters edition units 64 0 (flags c false)) at
+      none true n w = absurd (n (connections-alone edition units 64 0 false (tagAt file at) (one file ok (stateOf atConnections edition units 64 0 (flags true false)) at w refl .allows)))
+      none false n w = way-alike file (linking edition units 64 0 false file) (roofing edition units 64 0 false file) at refl refl refl (field-alike edition units 64 0 false file at n) w
 
       go : (b : Bool) → eqb (tagAt file at) 10 ≡ b → at + cond b (header + 3 * units) 0 ≡ next → ConnectionsSaid current b at next
       go true t e = there (eqb-true (tagAt file at) 10 t) e

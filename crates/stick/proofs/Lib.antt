@@ -5,6 +5,7 @@ pub mod PlaceLaws
 pub mod SaidLaws
 pub mod ConnectionLaws
 pub mod RoofLaws
+pub mod FunctionLaws
 pub mod StepLaws
 pub mod SiteProved
 pub mod SiteLaws

@@ -1,5 +1,5 @@
--- What an accepted walk says of the inverters behind the settings: each stands with its two curves, all in their ranges, and the walk goes on behind them;
--- and from there on, since no further inverter comes, as at the stage of the steps. Assumes nothing.
+-- What an accepted walk says of the inverters behind the settings: each stands with its two curves, all in their ranges, and the walk goes on behind them.
+-- Assumes nothing.
 use mathlib.Core.Path.{_≡_, refl, sym, ap, ap₂, _∙_, subst, subst⁻¹}
 use mathlib.Core.Bool.{Bool, true, false, not, cond}
 use mathlib.Core.List.{List, _∷_}
@@ -11,12 +11,12 @@ use borrow.Author.Tests.{leb-true, eqb-true, eqb-false, eq-eqb, ne-eqb}
 use Rattle.whole.proofs.OverLaws.{and-parts}
 use Rattle.curve.specs.Layout.{curveIn}
 use Rattle.solar.specs.Roof.{inverterIn, warmBounds, efficiencyBounds}
-use Rattle.solar.specs.Weather.{dark}
+use Rattle.site.specs.Site.{noneYet}
 use Rattle.parts.specs.Header.{header, tagAt, past}
 use Rattle.fields.specs.declared.State.{State}
 use Rattle.fields.specs.declared.Taken.{Taken}
 use Rattle.fields.specs.declared.Taken.the-variants.{Next, Stop}
-use Rattle.fields.specs.Fields.{atEnd, atSteps, atInverters, atTemperature, atEfficiency, only, another, kinds, sizeIn, sizeOf, headOf, standsIn, allowed, inverterAt, fiveUnless, valueOf, tooMany, refusedBy, stateOf, roofAfter, stateAfter, takenBy}
+use Rattle.fields.specs.Fields.{Flags, atInverters, atTemperature, atEfficiency, only, another, kinds, sizeIn, sizeOf, headOf, standsIn, allowed, inverterAt, fiveUnless, valueOf, tooMany, refusedBy, stateOf, roofAfter, stateAfter, takenBy}
 use Rattle.stick.specs.Check.{fieldAt}
 use Rattle.stick.specs.Site.{having, stepsIn}
 use Rattle.stick.specs.Posts.{roofBytes}
@@ -24,27 +24,6 @@ use Rattle.fields.proofs.FieldLaws.{warm-alone, efficiency-alone}
 use Rattle.stick.proofs.WalkLaws.{whole, OnTheWay, way-alike}
 use Rattle.stick.proofs.PlaceLaws.{from, Passed, picked, left-out, closes-none}
 use Rattle.stick.proofs.SaidLaws.{accepted-test, every, bytes-follow, One, one, Waited, waited}
-
--- ---- where no inverter stands, the stage of the inverters is that of the steps
-module _ (edition units left : ℕ) (current : Bool) (file : List ℕ) (at : ℕ) where
-  abbrev roofing : State
-  roofing = stateOf atInverters edition units left 0 current
-
-  abbrev stepping : State
-  stepping = stateOf atSteps edition units left 0 current
-
-  -- of a field that is no inverter, whose bytes are there
-  taken-alike : (tag : ℕ) → (tag ≡ 6 → ⊥) → (v : ℕ) → takenBy roofing tag file v ≡ takenBy stepping tag file v
-  unfolding takenBy refusedBy allowed kinds standsIn valueOf stateAfter roofAfter
-  taken-alike tag n v = go (eqb tag 7) refl
-    where
-      go : (b : Bool) → eqb tag 7 ≡ b → takenBy roofing tag file v ≡ takenBy stepping tag file v
-      go true e = let seven : tag ≡ 7 = eqb-true tag 7 e in ap (λ (t : ℕ). takenBy roofing t file v) seven ∙ sym (ap (λ (t : ℕ). takenBy stepping t file v) seven)
-      go false e = simp (ne-eqb tag 6 n, e)
-
-  field-alike : (tagAt file at ≡ 6 → ⊥) → fieldAt roofing file at ≡ fieldAt stepping file at
-  unfolding fieldAt headOf sizeOf kinds sizeIn
-  field-alike n = ap (λ (t : Taken). cond (eqb (headOf stepping file at) 0) t (Stop (headOf stepping file at))) (taken-alike (tagAt file at) n (at + header))
 
 -- ---- a roof that stands at a place: its three fields, and their values in their ranges
 pub record RoofThere (file : List ℕ) (at : ℕ) : Type 0 where
@@ -59,26 +38,26 @@ pub record RoofThere (file : List ℕ) (at : ℕ) : Type 0 where
   pub efficiency-in : curveIn efficiencyBounds file (at + 157) ≡ true
   pub bytes : at + roofBytes ≤ length file
 
-module _ (file : List ℕ) (ok : whole file .number ≡ 0) (edition units : ℕ) (current : Bool) where
+module _ (file : List ℕ) (ok : whole file .number ≡ 0) (edition units : ℕ) (known : Flags) where
   record RoofSaid (left at : ℕ) : Type 0 where
     pub there : RoofThere file at
     pub some : 1 ≤ left
-    pub rest : OnTheWay file (stateOf atInverters edition units (left - 1) 0 current) (at + roofBytes)
+    pub rest : OnTheWay file (stateOf atInverters edition units (left - 1) 0 known) (at + roofBytes)
 
-  six-alone : (left at : ℕ) → tagAt file at ≡ 6 → allowed (roofing edition units left current file at) (tagAt file at) ≡ true → 1 ≤ left
+  six-alone : (left at : ℕ) → tagAt file at ≡ 6 → allowed (stateOf atInverters edition units left 0 known) (tagAt file at) ≡ true → 1 ≤ left
   unfolding allowed kinds standsIn
-  six-alone left at e z = leb-true 1 left (sym (ap (λ (t : ℕ). allowed (roofing edition units left current file at) t) e) ∙ z)
+  six-alone left at e z = leb-true 1 left (sym (ap (λ (t : ℕ). allowed (stateOf atInverters edition units left 0 known) t) e) ∙ z)
 
-  roof-said : (left at : ℕ) → tagAt file at ≡ 6 → OnTheWay file (stateOf atInverters edition units left 0 current) at → RoofSaid left at
+  roof-said : (left at : ℕ) → tagAt file at ≡ 6 → OnTheWay file (stateOf atInverters edition units left 0 known) at → RoofSaid left at
   unfolding sizeOf valueOf stateAfter roofAfter
   roof-said left at e w =
-      let st : State = stateOf atInverters edition units left 0 current in
+      let st : State = stateOf atInverters edition units left 0 known in
       let v : Waited file ok 6 st at (at + 22) = waited file ok 6 st at (at + 22) refl (λ z. e) (omega arith) w in
       let o : One file ok st at = one file ok st at w refl in
-      let c : Waited file ok 7 (stateOf atTemperature edition units (left - 1) 0 current) (at + 22) (at + 154) =
-      waited file ok 7 (stateOf atTemperature edition units (left - 1) 0 current) (at + 22) (at + 154) refl (warm-alone edition units (left - 1) 0 current (tagAt file (at + 22))) (omega arith) (v .rest) in
-      let d : Waited file ok 7 (stateOf atEfficiency edition units (left - 1) 0 current) (at + 154) (at + roofBytes) =
-      waited file ok 7 (stateOf atEfficiency edition units (left - 1) 0 current) (at + 154) (at + roofBytes) refl (efficiency-alone edition units (left - 1) 0 current (tagAt file (at + 154))) (omega arith) (c .rest) in
+      let c : Waited file ok 7 (stateOf atTemperature edition units (left - 1) 0 known) (at + 22) (at + 154) =
+      waited file ok 7 (stateOf atTemperature edition units (left - 1) 0 known) (at + 22) (at + 154) refl (warm-alone edition units (left - 1) 0 known (tagAt file (at + 22))) (omega arith) (v .rest) in
+      let d : Waited file ok 7 (stateOf atEfficiency edition units (left - 1) 0 known) (at + 154) (at + roofBytes) =
+      waited file ok 7 (stateOf atEfficiency edition units (left - 1) 0 known) (at + 154) (at + roofBytes) refl (efficiency-alone edition units (left - 1) 0 known (tagAt file (at + 154))) (omega arith) (c .rest) in
       let p₁ : at + 22 + 3 ≡ at + 25 = omega arith in
       let p₂ : at + 154 + 3 ≡ at + 157 = omega arith in
       record {
@@ -104,13 +83,13 @@ module _ (file : List ℕ) (ok : whole file .number ≡ 0) (edition units : ℕ)
     pub there : (i : ℕ) → i < many → RoofThere file (at + roofBytes * i)
     pub picked-all : having 6 file (from file at) ≡ every roofBytes many at (having 6 file (from file next))
     pub no-others : (t : ℕ) → (6 ≡ t → ⊥) → (7 ≡ t → ⊥) → having t file (from file at) ≡ having t file (from file next)
-    pub no-steps : stepsIn file dark (from file at) ≡ stepsIn file dark (from file next)
+    pub no-steps : stepsIn file noneYet (from file at) ≡ stepsIn file noneYet (from file next)
     pub other : tagAt file next ≡ 6 → ⊥
     pub bytes : next < length file
     pub remaining : ℕ
-    pub rest : OnTheWay file (stateOf atSteps edition units remaining 0 current) next
+    pub rest : OnTheWay file (stateOf atInverters edition units remaining 0 known) next
 
-  none-said : (left at : ℕ) → (tagAt file at ≡ 6 → ⊥) → OnTheWay file (stateOf atInverters edition units left 0 current) at → RoofsSaid left at 0 at
+  none-said : (left at : ℕ) → (tagAt file at ≡ 6 → ⊥) → OnTheWay file (stateOf atInverters edition units left 0 known) at → RoofsSaid left at 0 at
   none-said left at n w = record {
     few = omega arith;
     there = λ i l. absurd (omega arith);
@@ -118,11 +97,9 @@ module _ (file : List ℕ) (ok : whole file .number ≡ 0) (edition units : ℕ)
     no-others = λ t a b. refl;
     no-steps = refl;
     other = n;
-    bytes = bytes-follow file ok (stateOf atInverters edition units left 0 current) at w refl;
+    bytes = bytes-follow file ok (stateOf atInverters edition units left 0 known) at w refl;
     remaining = left;
-    rest =
-        way-alike file (stateOf atInverters edition units left 0 current) (stateOf atSteps edition units left 0 current) at refl refl refl
-        (field-alike edition units left current file at n) w;
+    rest = w;
   }
 
   more-said : (left at many next : ℕ) → RoofSaid left at → RoofsSaid (left - 1) (at + roofBytes) many next → RoofsSaid left at (suc many) next
@@ -137,9 +114,9 @@ module _ (file : List ℕ) (ok : whole file .number ≡ 0) (edition units : ℕ)
             (left-out file (t .warm-field) 6 (λ e. omega arith) ∙ left-out file (t .efficiency-field) 6 (λ e. omega arith) ∙ s .picked-all);
         no-others = λ u a b. left-out file (t .inverter-field) u a ∙ left-out file (t .warm-field) u b ∙ left-out file (t .efficiency-field) u b ∙ s .no-others u a b;
         no-steps =
-            closes-none file (t .inverter-field) dark refl refl
-            ∙ closes-none file (t .warm-field) dark refl refl
-            ∙ closes-none file (t .efficiency-field) dark refl refl
+            closes-none file (t .inverter-field) noneYet refl refl refl
+            ∙ closes-none file (t .warm-field) noneYet refl refl refl
+            ∙ closes-none file (t .efficiency-field) noneYet refl refl refl
             ∙ s .no-steps;
         other = s .other;
         bytes = s .bytes;
@@ -160,12 +137,12 @@ module _ (file : List ℕ) (ok : whole file .number ≡ 0) (edition units : ℕ)
     pub is : at + roofBytes * many ≡ next
     pub said : RoofsSaid left at many next
 
-  pub roofs-said : (k left at : ℕ) → length file ≤ at + k → OnTheWay file (stateOf atInverters edition units left 0 current) at → Roofs left at
-  roofs-said zero left at h w = let l = bytes-follow file ok (stateOf atInverters edition units left 0 current) at w refl in absurd (omega arith)
+  pub roofs-said : (k left at : ℕ) → length file ≤ at + k → OnTheWay file (stateOf atInverters edition units left 0 known) at → Roofs left at
+  roofs-said zero left at h w = let l = bytes-follow file ok (stateOf atInverters edition units left 0 known) at w refl in absurd (omega arith)
   roofs-said (suc k) left at h w = go (eqb (tagAt file at) 6) refl (λ on. roofs-said k (left - 1) (at + roofBytes) (omega arith) on)
     where
       go : (b : Bool) → eqb (tagAt file at) 6 ≡ b
-          → (OnTheWay file (stateOf atInverters edition units (left - 1) 0 current) (at + roofBytes) → Roofs (left - 1) (at + roofBytes)) → Roofs left at
+          → (OnTheWay file (stateOf atInverters edition units (left - 1) 0 known) (at + roofBytes) → Roofs (left - 1) (at + roofBytes)) → Roofs left at
       go true e more =
           let r : RoofSaid left at = roof-said left at (eqb-true (tagAt file at) 6 e) w in
           let m : Roofs (left - 1) (at + roofBytes) = more (r .rest) in

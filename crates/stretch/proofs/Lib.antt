@@ -2,6 +2,8 @@
 pub mod AppendLaws
 pub mod FieldLaws
 pub mod ClosedLaws
+pub mod PartLaws
+pub mod HoldLaws
 pub mod AlongLaws
 pub mod CutLaws
 pub mod ReachedLaws

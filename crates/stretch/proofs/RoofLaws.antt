@@ -1,5 +1,6 @@
--- The roofs of an accepted file lie where the code finds them, in their ranges, and are those that the file says. Assumes nothing.
+-- The plant of an accepted file lies where the code finds it, in its ranges: its roofs and its function are those that the file says. Assumes nothing.
 use mathlib.Core.Path.{_≡_, sym, ap, ap₂, _∙_, subst⁻¹}
+use mathlib.Core.Bool.{Bool}
 use mathlib.Core.List.{List}
 use Prim.Native.Nat.{ℕ, _+_, _*_, _<_}
 use native.Mathlib.Nat.{le-trans, le-of-eq}
@@ -7,15 +8,20 @@ use native.Mathlib.Omega.{arith}
 use lib.ListN.{length}
 use lib.Seq.{ext-getD}
 use Rattle.parts.specs.Header.{header}
-use Rattle.solar.specs.Roof.{roofIn}
+use Rattle.solar.specs.Roof.{Roof, roofIn}
 use Rattle.solar.specs.Posts.{Roofed}
-use Rattle.site.specs.Site.{noRoof, roofOf}
+use Rattle.lead.specs.Lead.{Leading}
+use Rattle.lead.specs.Posts.{leadingHere, LeadingThere}
+use Rattle.site.specs.Site.{Site, noRoof, roofOf}
 use Rattle.fields.specs.Fields.{inverterAt}
-use Rattle.stick.specs.Site.{roofsOf}
-use Rattle.stick.specs.Posts.{Accepted, roofBytes, roofPlace, stepsPlace}
-use Rattle.stick.proofs.SiteProved.{accepted, roofed, roof-is}
+use Rattle.stick.specs.Site.{siteOf, roofsOf, leadingOf, plantOf}
+use Rattle.stick.specs.Posts.{Accepted, roofBytes, roofPlace, functionPlace, guided, stepsPlace}
+use Rattle.stick.proofs.SiteProved.{accepted, roofed, roof-is, leading-is, leading-there}
 use Rattle.roofs.specs.Posts.{roofHere, roofsHere, RoofsThere}
 use Rattle.roofs.proofs.LoopLaws.{here-count, here-at}
+use Rattle.fleet.specs.Posts.{Ready, siteIn}
+use Rattle.stretch.specs.declared.Track.{Track}
+use Rattle.stretch.specs.Posts.{plantBy, Planted}
 
 place-of : (file : List ℕ) (i : ℕ) → roofPlace file 0 + roofBytes * i ≡ roofPlace file i
 place-of file i = omega arith
@@ -34,9 +40,9 @@ module _ (file : List ℕ) (z : Accepted file) where
       here-at (length (roofsOf file)) file (roofPlace file 0) i k ∙ ap (roofHere file) (place-of file i) ∙ here-is i k)
 
   pub roofs-there : (n first : ℕ) → n ≡ length (roofsOf file) → first ≡ roofPlace file 0 → RoofsThere file first n
-  unfolding stepsPlace roofHere
+  unfolding functionPlace stepsPlace roofHere
   roofs-there n first en ef =
-      let far : roofPlace file (length (roofsOf file)) < length file = accepted file z .further in
+      let far : roofPlace file (length (roofsOf file)) < length file = omega (arith, accepted file z .further) in
       record {
         few = le-trans (le-of-eq en) (roofed file z .few);
         within = omega (arith, en, ef, far);
@@ -55,3 +61,22 @@ module _ (file : List ℕ) (z : Accepted file) where
 -- ---- by what the code has read
 pub roofs-read : (file : List ℕ) → Accepted file → (n first : ℕ) → n ≡ length (roofsOf file) → first ≡ roofPlace file 0 → roofsHere file first n ≡ roofsOf file
 roofs-read file z n first en ef = ap₂ (λ (p m : ℕ). roofsHere file p m) ef en ∙ roofs-are file z
+
+-- ---- the whole plant, by a track over rows that hold the site
+module _ (file : List ℕ) (z : Accepted file) (t : Track) (rows : List (List ℕ)) (n : ℕ) (en : n ≡ length (roofsOf file)) (ef : t .first ≡ roofPlace file 0) (el : t .led ≡ guided file)
+    (ep : t .function ≡ functionPlace file) where
+  leading-read : leadingHere file (t .led) (t .function) ≡ leadingOf file
+  leading-read = ap₂ (λ (b : Bool) (p : ℕ). leadingHere file b p) el ep ∙ sym (leading-is file z)
+
+  pub plant-read : siteIn (t .frame) rows ≡ siteOf file → plantBy t rows file n ≡ plantOf file
+  unfolding plantOf
+  plant-read es =
+      ap (λ (s : Site). record { site = s; roofs = roofsHere file (t .first) n; leading = leadingHere file (t .led) (t .function) }) es
+      ∙ ap₂ (λ (r : List Roof) (l : Leading). record { site = siteOf file; roofs = r; leading = l }) (roofs-read file z n (t .first) en ef) leading-read
+
+  pub planted : Ready (t .frame) rows → Planted t rows file n
+  planted rd = record {
+    ready = rd;
+    roofs = roofs-there file z n (t .first) en ef;
+    leading = subst⁻¹ (λ (b : Bool). LeadingThere file b (t .function)) el (subst⁻¹ (LeadingThere file (guided file)) ep (leading-there file z));
+  }

@@ -1,21 +1,27 @@
-// The steps in a stretch of a run file, one field at a time: what stands, which inverters are on, and
-// the records, into a lent room.
+// The steps in a stretch of a run file, one field at a time: what stands, and the records, into a lent
+// room.
+mod halves;
 mod stretches;
 
-use solar::Sun;
+use fleet::Frame;
+pub use halves::begin;
+use site::Due;
 pub use stretches::along;
 pub use stretches::on_field;
 
-// A step under way: its number, and its sun so far.
+// A step under way: its number, and what it has so far.
 pub struct Way {
     pub step: u32,
-    pub sun: Sun,
+    pub due: Due,
 }
 
-// Where a stretch goes on: where the inverters lie in the bytes of the site, where to read, where to
-// write, and the step under way.
+// Where a stretch goes on: what no step changes, where the inverters lie in the bytes of the site,
+// whether there is a function and where, where to read, where to write, and the step under way.
 pub struct Track {
+    pub frame: Frame,
     pub first: usize,
+    pub led: bool,
+    pub function: usize,
     pub at: usize,
     pub out: usize,
     pub way: Way,

@@ -1,4 +1,4 @@
--- The fields of the steps that lead to a state, one behind the other: readings, weathers and the end field, each with its bytes, where it may stand and the
+-- The fields of the steps that lead to a state, one behind the other: readings, weathers, voltages and the end field, each with its bytes, where it may stand and the
 -- state behind it. Assumes nothing.
 use mathlib.Core.Path.{_≡_, refl, ap, _∙_}
 use mathlib.Core.Bool.{Bool, true, false}
@@ -7,15 +7,17 @@ use Prim.Native.Nat.{ℕ, _+_, _≤_, _<_}
 use native.Mathlib.Omega.{arith}
 use lib.ListN.{length}
 use Rattle.whole.proofs.Choice.{passed-failed}
-use Rattle.parts.specs.Header.{tagAt, past}
+use Rattle.octets.specs.BigEndian.{be}
+use Rattle.lead.specs.Lead.{voltageIn}
+use Rattle.parts.specs.Header.{header, tagAt, past}
 use Rattle.fields.specs.declared.State.{State}
-use Rattle.fields.specs.Fields.{atEnd, atSteps, atReading, begins, closes, isReading, goneTo}
+use Rattle.fields.specs.Fields.{atEnd, atSteps, atReading, atVoltage, begins, charged, closes, isReading, goneTo}
 use Rattle.stick.specs.Site.{ofSteps}
 use Rattle.chunks.proofs.ReachChunks.{Went, there, passing}
 use Rattle.kept.specs.Kept.{begunAt, begun}
 use Rattle.taking.specs.Chunk.{headIn}
 use Rattle.taking.specs.Posts.{Leads}
-use Rattle.taking.proofs.TookLaws.{by-opens, Took, fleet, unit, settings, connections, inverter, warm, efficiency, reading, weather, end, took}
+use Rattle.taking.proofs.TookLaws.{by-opens, Took, fleet, unit, settings, connections, inverter, warm, efficiency, function, volt-var, reading, weather, voltage, end, took}
 use Rattle.taking.proofs.LeadLaws.{parts}
 
 pub data Chain (file : List ℕ) (next : State) : State → ℕ → Type 0 where
@@ -24,6 +26,8 @@ pub data Chain (file : List ℕ) (next : State) : State → ℕ → Type 0 where
       → m ≡ goneTo st atSteps (st .left) (st .steps + 1) → Chain file next m (past file i) → Chain file next st i
   lit : {st : State} {i : ℕ} (m : State) → i < length file → tagAt file i ≡ 8 → begins st ≡ true → past file i ≡ i + 19
       → m ≡ goneTo st atReading (st .left) (st .steps) → Chain file next m (past file i) → Chain file next st i
+  said : {st : State} {i : ℕ} (m : State) → i < length file → tagAt file i ≡ 12 → charged st ≡ true → past file i ≡ i + 5 → voltageIn (be 2 file (i + header)) ≡ true
+      → m ≡ goneTo st atVoltage (st .left) (st .steps) → Chain file next m (past file i) → Chain file next st i
   ended : {st : State} {i : ℕ} (m : State) → i < length file → tagAt file i ≡ 127 → begins st ≡ true → past file i ≡ i + 7
       → m ≡ goneTo st atEnd (st .left) (st .steps) → Chain file next m (past file i) → Chain file next st i
 
@@ -39,8 +43,12 @@ module _ (file : List ℕ) (next : State) where
       absurd (passed-failed (h (by-opens (λ (n : ℕ) (c : Bool). begunAt n ≡ false) st s (λ c. refl) refl)) (ap ofSteps t))
   one-more {st} {m} {i} l (warm t s is) h more = absurd (passed-failed (h (ap begunAt s)) (ap ofSteps t))
   one-more {st} {m} {i} l (efficiency t s is) h more = absurd (passed-failed (h (ap begunAt s)) (ap ofSteps t))
+  one-more {st} {m} {i} l (function t s is) h more =
+      absurd (passed-failed (h (by-opens (λ (n : ℕ) (c : Bool). begunAt n ≡ false) st s (λ c. refl) refl)) (ap ofSteps t))
+  one-more {st} {m} {i} l (volt-var t s is) h more = absurd (passed-failed (h (ap begunAt s)) (ap ofSteps t))
   one-more {st} {m} {i} l (reading t c a b few is) h more = read m l t c a b is (more (ap begun is))
   one-more {st} {m} {i} l (weather t c p is) h more = lit m l t c p is (more (ap begun is))
+  one-more {st} {m} {i} l (voltage t c p v is) h more = said m l t c p v is (more (ap begun is))
   one-more {st} {m} {i} l (end t c p is) h more = ended m l t c p is (more (ap begun is))
 
   chain : {st : State} {i j : ℕ} → Went file next j st i → j ≡ length file → (begun st ≡ false → i < j → ofSteps (tagAt file i) ≡ true) → Chain file next st i

@@ -8,32 +8,32 @@ use native.Mathlib.Nat.{mul-zero}
 use native.Mathlib.Omega.{arith}
 use lib.Dec.{leb, eqb}
 use lib.ListN.{length}
-use borrow.Author.Tests.{eqb-true, eq-eqb, le-ltb}
+use borrow.Author.Tests.{eq-eqb, le-ltb}
 use Rattle.whole.proofs.Choice.{by-test, passed-failed}
 use Rattle.octets.specs.BigEndian.{be}
 use Rattle.rows.proofs.RowLaws.{length-map}
 use Rattle.parts.specs.Header.{tagAt, past}
 use Rattle.site.specs.Site.{count}
 use Rattle.fields.specs.declared.State.{State}
-use Rattle.fields.specs.Fields.{begins, closes, isReading, goneTo}
+use Rattle.fields.specs.Fields.{begins, closes, isReading}
 use Rattle.fields.proofs.FieldLaws.{fewer}
 use Rattle.stick.specs.declared.Answer.{Answer}
 use Rattle.stick.specs.Check.{start}
-use Rattle.stick.specs.Site.{placesOf, having, roofAt, siteOf, roofsOf}
+use Rattle.stick.specs.Site.{placesOf, having, roofAt, siteOf, roofsOf, plantOf}
 use Rattle.stick.specs.Posts.{answered, Accepted, unitsAt}
 use Rattle.stick.proofs.WalkLaws.{ends-complete, not-too-large}
 use Rattle.stick.proofs.PlaceLaws.{from, from-over, from-field, Passed, picked, left-out}
 use Rattle.stick.proofs.ReachLaws.{walk-reach}
 use Rattle.stick.proofs.SiteProved.{units-count, sited}
-use Rattle.stretch.specs.Stretch.{recordsFrom, allBytes}
+use Rattle.stretch.specs.Stretch.{recordsFrom}
 use Rattle.stretch.proofs.AppendLaws.{records-length}
 use Rattle.chunks.proofs.ReachChunks.{Went, there, passing}
 use Rattle.kept.specs.Kept.{Kept, begun}
 use Rattle.kept.specs.Layout.{knownBy}
 use Rattle.kept.specs.Posts.{WellKept}
-use Rattle.taking.specs.Chunk.{siteAfter, standsFirst, onFirst, stepsBy, resultsBy}
+use Rattle.taking.specs.Chunk.{siteAfter, standsBefore, stepsBy, resultsBy}
 use Rattle.taking.specs.Posts.{Leads}
-use Rattle.taking.proofs.TookLaws.{by-opens, by-begins, by-closes, Took, fleet, unit, settings, connections, inverter, warm, efficiency, reading, weather, end, took}
+use Rattle.taking.proofs.TookLaws.{by-opens, by-begins, by-closes, charged-closes, Took, fleet, unit, settings, connections, inverter, warm, efficiency, function, volt-var, reading, weather, voltage, end, took}
 use Rattle.taking.proofs.LedLaws.{led}
 use Rattle.taking.proofs.LeadLaws.{before-too, steps-counted, no-count-yet}
 use Rattle.taking.proofs.SiteLaws.{SiteWell, site-well}
@@ -44,10 +44,10 @@ early n = eqb n 1 || eqb n 2 || eqb n 3
 
 -- at these no step may begin or be closed
 early-none : (st : State) → begins st ≡ true → early (st .stage) ≡ false
-early-none st b = by-begins (λ (n : ℕ) (c : Bool). early n ≡ false) st b (λ c. refl) (λ c. refl) refl
+early-none st b = by-begins (λ (n : ℕ) (c : Bool). early n ≡ false) st b (λ c. refl) (λ c. refl) refl (λ c. refl)
 
 not-early : (st : State) → closes st ≡ true → early (st .stage) ≡ false
-not-early st c = by-closes (λ (n : ℕ) (c : Bool). early n ≡ false) st c (λ c. refl) (λ c. refl) refl (λ c. refl)
+not-early st c = by-closes (λ (n : ℕ) (c : Bool). early n ≡ false) st c (λ c. refl) (λ c. refl) refl (λ c. refl) (λ c. refl) (λ c. refl)
 
 module _ (file : List ℕ) where
   -- ---- one field: the inverters from it on, by its tag
@@ -78,36 +78,35 @@ module _ (file : List ℕ) where
       record { late = ap (λ (s : State). early (s .stage)) (sym e) ∙ c; units-same = ap (λ (s : State). s .units) (sym e); left-is = omega arith }
   falls {st} {next} {i} {j} (passing m l e f w more) h c = go (took file st i m (omega arith) f) (falls more h)
     where
-      on : (tagAt file i ≡ 6 → ⊥) → m ≡ goneTo st (m .stage) (st .left) (m .steps) → Fall m next (past file i) → Fall st next i
-      on n is r =
+      -- by the state behind it
+      so : (x : State) → m ≡ x → x .units ≡ st .units → x .left ≡ st .left → early (x .stage) ≡ false → (tagAt file i ≡ 6 → ⊥)
+          → (early (m .stage) ≡ false → Fall m next (past file i)) → Fall st next i
+      so x is units left ok n further =
+          let r = further (ap (λ (s : State). early (s .stage)) is ∙ ok) in
           let a = roofs-on i l n in
           let b = r .left-is in
-          let d : m .left ≡ st .left = ap (λ (s : State). s .left) is in
-          record { late = r .late; units-same = r .units-same ∙ ap (λ (s : State). s .units) is; left-is = omega arith }
-
-      -- by the stage behind it
-      so : (stage steps : ℕ) → m ≡ goneTo st stage (st .left) steps → early stage ≡ false → (tagAt file i ≡ 6 → ⊥) → (early (m .stage) ≡ false → Fall m next (past file i)) → Fall st next i
-      so stage steps is ok n further =
-          let es : m .stage ≡ stage = ap (λ (s : State). s .stage) is in
-          let en : m .steps ≡ steps = ap (λ (s : State). s .steps) is in
-          on n (is ∙ ap₂ (λ (a b : ℕ). goneTo st a (st .left) b) (sym es) (sym en)) (further (ap early es ∙ ok))
+          let d : m .left ≡ st .left = ap (λ (s : State). s .left) is ∙ left in
+          record { late = r .late; units-same = r .units-same ∙ ap (λ (s : State). s .units) is ∙ units; left-is = omega arith }
 
       go : Took file st i m → (early (m .stage) ≡ false → Fall m next (past file i)) → Fall st next i
       go (fleet t s p v is) further = absurd (passed-failed (ap early s) c)
       go (unit t s is) further = absurd (passed-failed (ap early s) c)
       go (settings t s is) further = absurd (passed-failed (ap early s) c)
-      go (connections t s is) further = so 5 (st .steps) is refl (no-six 10 refl t) further
+      go (connections t s is) further = so _ is refl refl refl (no-six 10 refl t) further
       go (inverter t s some is) further =
           let r = further (ap (λ (x : State). early (x .stage)) is) in
           let a = roofs-here i l t in
           let b = r .left-is in
           let d : m .left ≡ st .left - 1 = ap (λ (s : State). s .left) is in
           record { late = r .late; units-same = r .units-same ∙ ap (λ (s : State). s .units) is; left-is = omega arith }
-      go (warm t s is) further = so 7 (st .steps) is refl (no-six 7 refl t) further
-      go (efficiency t s is) further = so 5 (st .steps) is refl (no-six 7 refl t) further
-      go (reading t s a b few is) further = so 4 (st .steps + 1) is refl (λ x. passed-failed t (ap isReading x)) further
-      go (weather t s p is) further = so 8 (st .steps) is refl (no-six 8 refl t) further
-      go (end t s p is) further = so 0 (st .steps) is refl (no-six 127 refl t) further
+      go (warm t s is) further = so _ is refl refl refl (no-six 7 refl t) further
+      go (efficiency t s is) further = so _ is refl refl refl (no-six 7 refl t) further
+      go (function t s is) further = so _ is refl refl refl (no-six 11 refl t) further
+      go (volt-var t s is) further = so _ is refl refl refl (no-six 7 refl t) further
+      go (reading t s a b few is) further = so _ is refl refl refl (λ x. passed-failed t (ap isReading x)) further
+      go (weather t s p is) further = so _ is refl refl refl (no-six 8 refl t) further
+      go (voltage t s p v is) further = so _ is refl refl refl (no-six 12 refl t) further
+      go (end t s p is) further = so _ is refl refl refl (no-six 127 refl t) further
 
   -- ---- before them: all 64 are left where they begin
   record Rise (st next : State) (i : ℕ) : Type 0 where
@@ -144,8 +143,11 @@ module _ (file : List ℕ) where
       go (inverter t s some is) further = absurd (passed-failed c (by-opens (λ (n : ℕ) (c : Bool). early n ≡ false) st s (λ c. refl) refl))
       go (warm t s is) further = absurd (passed-failed c (ap early s))
       go (efficiency t s is) further = absurd (passed-failed c (ap early s))
+      go (function t s is) further = absurd (passed-failed c (by-opens (λ (n : ℕ) (c : Bool). early n ≡ false) st s (λ c. refl) refl))
+      go (volt-var t s is) further = absurd (passed-failed c (ap early s))
       go (reading t s a b few is) further = absurd (passed-failed c (not-early st s))
       go (weather t s p is) further = absurd (passed-failed c (early-none st s))
+      go (voltage t s p v is) further = absurd (passed-failed c (not-early st (charged-closes st s)))
       go (end t s p is) further = absurd (passed-failed c (early-none st s))
 
   -- ---- from the start on: the units are those that the fleet field says
@@ -164,8 +166,11 @@ module _ (file : List ℕ) where
       go (inverter t s some is) = absurd (passed-failed s refl)
       go (warm t s is) = absurd (omega arith)
       go (efficiency t s is) = absurd (omega arith)
+      go (function t s is) = absurd (passed-failed s refl)
+      go (volt-var t s is) = absurd (omega arith)
       go (reading t s a b few is) = absurd (passed-failed s refl)
       go (weather t s p is) = absurd (passed-failed s refl)
+      go (voltage t s p v is) = absurd (passed-failed s refl)
       go (end t s p is) = absurd (passed-failed s refl)
 
 -- ---- a site part whose steps have begun
@@ -230,24 +235,27 @@ module _ (k : Kept) (well : WellKept k) (w : List ℕ) (next : State) (l : Leads
   stepWidth = 40 * next .units + 29 * (64 - next .left)
 
   pub results-long : length (resultsBy k w next) ≡ (40 * next .units + 29 * (64 - next .left)) * (next .steps - k .state .steps)
-  unfolding resultsBy stepsBy
+  unfolding resultsBy stepsBy plantOf
   results-long = go (begun next) refl
     where
       site : List ℕ
       site = siteAfter k w next
 
       closed : length (stepsBy k w) ≡ next .steps - k .state .steps
-      closed = let e = steps-counted w l (k .sun) in omega arith
+      closed = let e = steps-counted w l (k .due) in omega arith
 
-      go : (b : Bool) → begun next ≡ b → length (recordsFrom (siteOf site) (roofsOf site) (k .state .steps) (standsFirst k site) (onFirst k site) (stepsBy k w)) ≡ stepWidth * (next .steps - k .state .steps)
+      long : length (recordsFrom (plantOf site) (k .state .steps) (standsBefore k site) (stepsBy k w)) ≡ (40 * count (siteOf site) + 29 * length (roofsOf site)) * length (stepsBy k w)
+      long = records-length (plantOf site) (k .state .steps) (standsBefore k site) (stepsBy k w)
+
+      go : (b : Bool) → begun next ≡ b → length (recordsFrom (plantOf site) (k .state .steps) (standsBefore k site) (stepsBy k w)) ≡ stepWidth * (next .steps - k .state .steps)
       go true e =
           let s = site-well k well w next l in
-          records-length (siteOf site) (roofsOf site) (k .state .steps) (standsFirst k site) (onFirst k site) (stepsBy k w)
+          long
           ∙ ap₂ (λ (n m : ℕ). (40 * n + 29 * m) * length (stepsBy k w)) (units-kept site next s e) (roofs-kept site next s e)
           ∙ ap (λ (n : ℕ). stepWidth * n) closed
       go false e =
-          let p = allBytes (siteOf site) (roofsOf site) in
+          let p = 40 * count (siteOf site) + 29 * length (roofsOf site) in
           let none : next .steps - k .state .steps ≡ 0 = let n = no-count-yet w l (before-too w l e) e in omega arith in
-          records-length (siteOf site) (roofsOf site) (k .state .steps) (standsFirst k site) (onFirst k site) (stepsBy k w)
+          long
           ∙ ap (λ (n : ℕ). p * n) (closed ∙ none) ∙ mul-zero p
           ∙ sym (ap (λ (n : ℕ). stepWidth * n) none ∙ mul-zero stepWidth)

@@ -12,7 +12,7 @@ use Rattle.stick.specs.Check.{reachOf}
 use Rattle.chunks.specs.Holds.{moved}
 use Rattle.chunks.proofs.ReachChunks.{far-upto, reach-stays, reach-append}
 use Rattle.kept.specs.Kept.{Kept}
-use Rattle.taking.specs.Chunk.{goneBy, siteAfter, standsFirst, onFirst, stepsBy, absorbed, resultsBy, withTail, fedBy, resultsFor}
+use Rattle.taking.specs.Chunk.{goneBy, siteAfter, standsBefore, stepsBy, absorbed, resultsBy, withTail, fedBy, resultsFor}
 use Rattle.taking.specs.Posts.{Leads}
 use Rattle.taking.proofs.LedLaws.{leads-far}
 use Rattle.taking.proofs.TwiceLaws.{absorbed-twice, results-twice}
@@ -20,21 +20,20 @@ use Rattle.taking.proofs.TwiceLaws.{absorbed-twice, results-twice}
 -- ---- whole fields make the same of what is kept with a tail as without it
 module _ (k : Kept) (t w : List ℕ) (st : State) where
   pub tail-apart : k .tail ≡ [] → absorbed (withTail k t) w st ≡ absorbed k w st
-  unfolding absorbed siteAfter standsFirst onFirst stepsBy
+  unfolding absorbed siteAfter standsBefore stepsBy
   tail-apart e =
       let place : k .place + length t - length t + length w ≡ k .place - length (k .tail) + length w = omega (arith, ap length e) in
       λ i. record {
         place = place i;
         state = st;
         site = absorbed k w st .site;
-        sun = absorbed k w st .sun;
+        due = absorbed k w st .due;
         stands = absorbed k w st .stands;
-        on = absorbed k w st .on;
         tail = [];
       }
 
   pub results-apart : resultsBy (withTail k t) w st ≡ resultsBy k w st
-  unfolding resultsBy siteAfter standsFirst onFirst stepsBy
+  unfolding resultsBy siteAfter standsBefore stepsBy
   results-apart = refl
 
 -- ---- one chunk

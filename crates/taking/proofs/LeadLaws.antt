@@ -10,14 +10,14 @@ use lib.ListN.{length}
 use borrow.Author.Tests.{leb-true, leb-false}
 use Rattle.whole.proofs.Choice.{passed-failed}
 use Rattle.parts.specs.Header.{tagAt}
-use Rattle.solar.specs.declared.Sun.{Sun}
-use Rattle.solar.specs.Weather.{dark}
+use Rattle.site.specs.declared.Due.{Due}
+use Rattle.site.specs.Site.{noneYet}
 use Rattle.fields.specs.declared.State.{State}
 use Rattle.stick.specs.declared.Reached.{Reached}
 use Rattle.stick.specs.Check.{reached, reachOf}
-use Rattle.stick.specs.Site.{ofSteps, stepsFrom, sunFrom}
+use Rattle.stick.specs.Site.{ofSteps, stepsFrom, dueFrom}
 use Rattle.stretch.specs.Posts.{StepsThere}
-use Rattle.stretch.proofs.FieldLaws.{steps-over, sun-over}
+use Rattle.stretch.proofs.FieldLaws.{steps-over, due-over}
 use Rattle.stretch.proofs.ReachedLaws.{reached-steps-all, reached-count-all}
 use Rattle.chunks.proofs.ReachChunks.{reach-over, Went, there, passing, went-reach}
 use Rattle.chunks.proofs.PlaceChunks.{Whole, went-whole}
@@ -93,15 +93,15 @@ module _ {st next : State} (w : List ℕ) (l : Leads st w next) where
   pub steps-there : StepsThere w (headIn w)
   steps-there = reached-steps-all (length w) (parts .mid) w (headIn w) upto first-of-steps (ap (λ (r : Reached). r .at) all-reached)
 
-  pub steps-counted : (s : Sun) → st .steps + length (stepsFrom w s (headIn w)) ≡ next .steps
-  steps-counted s =
-      let e = reached-count-all (length w) (parts .mid) w (headIn w) upto first-of-steps (ap (λ (r : Reached). r .at) all-reached) s in
+  pub steps-counted : (d : Due) → st .steps + length (stepsFrom w d (headIn w)) ≡ next .steps
+  steps-counted d =
+      let e = reached-count-all (length w) (parts .mid) w (headIn w) upto first-of-steps (ap (λ (r : Reached). r .at) all-reached) d in
       let n = parts .none in
       let m : reachOf (length w) (parts .mid) w (headIn w) .state .steps ≡ next .steps = ap (λ (r : Reached). r .state .steps) all-reached in
       omega arith
 
   pub more-steps : st .steps ≤ next .steps
-  more-steps = let e = steps-counted dark in omega arith
+  more-steps = let e = steps-counted noneYet in omega arith
 
   pub few-steps : st .steps ≤ 65535 → next .steps ≤ 65535
   few-steps h = go (leb (length w) (headIn w)) refl
@@ -116,13 +116,13 @@ module _ {st next : State} (w : List ℕ) (l : Leads st w next) where
           subst (λ (s : State). s .steps ≤ 65535) (only-head (omega arith)) mid-few
       go false e = behind-head (leb-false (length w) (headIn w) e) .few mid-few
 
-  -- ---- where none have begun, there are none, and the sun stays
+  -- ---- where none have begun, there are none, and what the step under way has stays
   module _ (a : begun st ≡ false) (b : begun next ≡ false) where
-    pub no-step-yet : (s : Sun) → stepsFrom w s (headIn w) ≡ []
-    no-step-yet s = let e = all-head a b in steps-over w (headIn w) (omega arith) s
+    pub no-step-yet : (d : Due) → stepsFrom w d (headIn w) ≡ []
+    no-step-yet d = let e = all-head a b in steps-over w (headIn w) (omega arith) d
 
-    pub same-sun-yet : (s : Sun) → sunFrom w s (headIn w) ≡ s
-    same-sun-yet s = let e = all-head a b in sun-over w (headIn w) (omega arith) s
+    pub same-due-yet : (d : Due) → dueFrom w d (headIn w) ≡ d
+    same-due-yet d = let e = all-head a b in due-over w (headIn w) (omega arith) d
 
     pub no-count-yet : next .steps ≡ st .steps
     no-count-yet = ap (λ (s : State). s .steps) (sym (only-head (all-head a b))) ∙ parts .none

@@ -9,7 +9,7 @@ pub mod SiteLaws
 pub mod CountLaws
 pub mod ChainLaws
 pub mod PlacedLaws
-pub mod SunLaws
+pub mod DueLaws
 pub mod StandsLaws
 pub mod WellLaws
 pub mod NumberLaws

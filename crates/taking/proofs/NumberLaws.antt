@@ -15,6 +15,7 @@ use Rattle.reading.specs.declared.Watts.the-variants.{Whole, Refused}
 use Rattle.reading.specs.Choice.{usableOf, refusalOf}
 use Rattle.reading.specs.Conversion.{wattsOf, milliOf}
 use Rattle.curve.specs.Layout.{curveIn}
+use Rattle.lead.specs.Lead.{voltageIn}
 use Rattle.rules.specs.Ranges.{settingsIn}
 use Rattle.unit.specs.Ranges.{unitIn}
 use Rattle.solar.specs.declared.Sky.{Sky}
@@ -25,7 +26,7 @@ use Rattle.parts.specs.Header.{header, tagAt, lengthAt}
 use Rattle.fields.specs.declared.State.{State}
 use Rattle.fields.specs.declared.Taken.{Taken}
 use Rattle.fields.specs.declared.Taken.the-variants.{Stop}
-use Rattle.fields.specs.Fields.{sizeOf, headOf, allowed, fleetIn, unitAt, settingsAt, phaseAt, phasesAt, inverterAt, boundsFor, weatherAt, sixUnless, fiveUnless, connectionsIn, valueOf, tooMany, refusedBy, stateAfter, takenBy}
+use Rattle.fields.specs.Fields.{sizeOf, headOf, allowed, fleetIn, unitAt, settingsAt, phaseAt, phasesAt, inverterAt, boundsAt, weatherAt, sixUnless, fiveUnless, connectionsIn, baseIn, valueOf, tooMany, refusedBy, stateAfter, takenBy}
 use Rattle.fields.proofs.TakenLaws.{stops, goes-on}
 use Rattle.stick.specs.declared.Reached.{Reached}
 use Rattle.stick.specs.Check.{fieldAt}
@@ -66,12 +67,14 @@ module _ (st : State) (tag : ℕ) (file : List ℕ) (at : ℕ) where
       (λ t. by-test Few (st .current) _ _ (λ t. omega arith) (λ t. usable-few (wattsOf (phasesAt file at .first)) (wattsOf (phasesAt file at .second)) (wattsOf (phasesAt file at .third))))
       (λ t. by-test Few (eqb tag 5) _ _ (λ t. omega arith)
       (λ t. by-test Few (eqb tag 6) _ _ (λ t. five-few (inverterIn (inverterAt file at)))
-      (λ t. by-test Few (eqb tag 7) _ _ (λ t. five-few (curveIn (boundsFor st) file at))
+      (λ t. by-test Few (eqb tag 7) _ _ (λ t. five-few (curveIn (boundsAt (st .stage)) file at))
       (λ t. by-test Few (eqb tag 8) _ _ (λ t. six-few (skyOf (weatherAt file at)))
       (λ t. by-test Few (eqb tag 9) _ _
       (λ t. by-test Few (st .current) _ _ (λ t. usable-few (milliOf (phasesAt file at .first)) (milliOf (phasesAt file at .second)) (milliOf (phasesAt file at .third))) (λ t. omega arith))
       (λ t. by-test Few (eqb tag 10) _ _ (λ t. five-few (connectionsIn (st .units) file at))
-      (λ t. by-test Few (eqb (be 4 file at) (st .steps)) 0 7 (λ t. omega arith) (λ t. omega arith)))))))))))
+      (λ t. by-test Few (eqb tag 11) _ _ (λ t. five-few (baseIn (be 1 file at)))
+      (λ t. by-test Few (eqb tag 12) _ _ (λ t. five-few (voltageIn (be 2 file at)))
+      (λ t. by-test Few (eqb (be 4 file at) (st .steps)) 0 7 (λ t. omega arith) (λ t. omega arith)))))))))))))
 
   refused-numbered : Numbered (refusedBy st tag file at)
   unfolding refusedBy

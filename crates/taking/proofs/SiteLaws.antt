@@ -9,7 +9,7 @@ use lib.ListN.{length, take, length-append}
 use Rattle.whole.proofs.Choice.{passed-failed}
 use Rattle.octets.specs.BigEndian.{be}
 use Rattle.fields.specs.declared.State.{State}
-use Rattle.fields.specs.Fields.{atEnd, opens, closes, kinds, sizeIn, sizeOf, headOf, standsIn, allowed, valueOf, refusedBy, stateOf, goneTo, roofAfter, stateAfter, takenBy}
+use Rattle.fields.specs.Fields.{atEnd, begins, closes, kinds, sizeIn, sizeOf, headOf, standsIn, allowed, valueOf, refusedBy, flags, stateOf, goneTo, roofAfter, stateAfter, takenBy}
 use Rattle.stick.specs.declared.Reached.{Reached}
 use Rattle.stick.specs.Check.{fieldAt, reached, reachOf, start}
 use Rattle.chunks.specs.Sizes.{headMost}
@@ -21,7 +21,7 @@ use Rattle.kept.specs.Layout.{siteMost, knownBy}
 use Rattle.kept.specs.Posts.{WellKept}
 use Rattle.taking.specs.Chunk.{closing, headIn, siteAfter}
 use Rattle.taking.specs.Posts.{Leads}
-use Rattle.taking.proofs.TookLaws.{by-opens}
+use Rattle.taking.proofs.TookLaws.{by-begins}
 use Rattle.taking.proofs.LedLaws.{leads-append, leads-upto}
 use Rattle.taking.proofs.StageLaws.{Along, first-may}
 use Rattle.taking.proofs.LeadLaws.{parts, going, behind-head, only-head, all-head, head-ends, stays-begun}
@@ -52,23 +52,23 @@ site-made site s st l z is c w short =
     }
 
 -- ---- the field that closes it, where the steps may begin
-closing-ends : (st : State) → opens st ≡ true → st .steps ≡ 0 → Leads st closing (goneTo st atEnd (st .left) 0)
+closing-ends : (st : State) → begins st ≡ true → st .steps ≡ 0 → Leads st closing (goneTo st atEnd (st .left) 0)
 unfolding reachOf fieldAt headOf sizeOf kinds sizeIn takenBy refusedBy allowed standsIn valueOf stateAfter roofAfter be
-closing-ends st o z =
-    let with-steps : ℕ → ℕ → Bool → State = λ n stage c. stateOf stage (st .edition) (st .units) (st .left) n c in
+closing-ends st b z =
+    let with-steps : ℕ → ℕ → Bool → State = λ n stage c. stateOf stage (st .edition) (st .units) (st .left) n (flags c (st .led)) in
     subst⁻¹ (λ (n : ℕ). Leads (with-steps n (st .stage) (st .current)) closing (with-steps 0 atEnd (st .current))) z
-    (by-opens (λ (n : ℕ) (c : Bool). Leads (with-steps 0 n c) closing (with-steps 0 atEnd c)) st o (λ c. record { leads = refl }) (record { leads = refl }))
+    (by-begins (λ (n : ℕ) (c : Bool). Leads (with-steps 0 n c) closing (with-steps 0 atEnd c)) st b (λ c. record { leads = refl }) (λ c. record { leads = refl }) (record { leads = refl })
+    (λ c. record { leads = refl }))
 
--- where a step may be closed and none has begun, an inverter may come
-still-open : (st : State) → closes st ≡ true → begun st ≡ false → opens st ≡ true
-still-open st c b = go (eqb (st .stage) 0) (eqb (st .stage) 4) (opens st) (eqb (st .stage) 8) c b
+-- where a step may be closed and none has begun, one may begin
+still-open : (st : State) → closes st ≡ true → begun st ≡ false → begins st ≡ true
+still-open st c b = go (eqb (st .stage) 0) (eqb (st .stage) 4) (begins st) (eqb (st .stage) 8) (eqb (st .stage) 11) c b
   where
-    go : (x y z u : Bool) → (y || z || u) ≡ true → (x || y || u) ≡ false → z ≡ true
-    go x y true u c b = refl
-    go true y false u c b = absurd (passed-failed refl b)
-    go false true false u c b = absurd (passed-failed refl b)
-    go false false false true c b = absurd (passed-failed refl b)
-    go false false false false c b = absurd (passed-failed c refl)
+    go : (x y z u v : Bool) → (z || u || v) ≡ true → (x || y || u || v) ≡ false → z ≡ true
+    go x y true u v c b = refl
+    go true y false u v c b = absurd (passed-failed refl b)
+    go false true false u v c b = absurd (passed-failed refl b)
+    go false false false u v c b = absurd (passed-failed c b)
 
 module _ (k : Kept) (well : WellKept k) where
   pub kept-site : SiteWell (k .site) (k .state)
@@ -133,7 +133,7 @@ module _ (k : Kept) (well : WellKept k) where
       begins-here : begun next ≡ true → SiteWell (grown ++ closing) next
       begins-here e =
           let h : headIn w < length w = head-ends w l b e in
-          let may : opens mid ≡ true = still-open mid (first-may w (parts w l .on) h (parts w l .begins h)) grown-before in
+          let may : begins mid ≡ true = still-open mid (first-may w (parts w l .on) h (parts w l .begins h)) grown-before in
           let ended : State = goneTo mid 0 (mid .left) 0 in
           let a : Along mid next = behind-head w l h in
           let short = grown-short in

@@ -19,7 +19,7 @@ use Rattle.stick.specs.Site.{ofSteps}
 use Rattle.chunks.proofs.ReachChunks.{Went, there, passing}
 use Rattle.chunks.proofs.HeadChunks.{headFrom-over, headEnd, headFrom-field}
 use Rattle.kept.specs.Kept.{begunAt, begun}
-use Rattle.taking.proofs.TookLaws.{by-opens, Took, fleet, unit, settings, connections, inverter, warm, efficiency, reading, weather, end, took}
+use Rattle.taking.proofs.TookLaws.{by-opens, charged-closes, Took, fleet, unit, settings, connections, inverter, warm, efficiency, function, volt-var, reading, weather, voltage, end, took}
 
 -- ---- a field before the steps, and one of the steps
 pub record HeadTook (file : List ℕ) (st : State) (i : ℕ) (m : State) : Type 0 where
@@ -62,7 +62,7 @@ module _ (file : List ℕ) (st : State) (i : ℕ) (m : State) where
 
   -- where a step may begin, it may be closed
   may-close : begins st ≡ true → closes st ≡ true
-  may-close b = ap (λ (x : Bool). x || eqb (st .stage) 8) b
+  may-close b = ap (λ (x : Bool). x || eqb (st .stage) 8 || eqb (st .stage) 11) b
 
   pub sorted : Took file st i m → HeadTook file st i m ⊎ StepTook file st i m
   sorted (fleet t s p v is) = inl (head-of 1 _ t (ap begunAt s) is refl refl refl)
@@ -75,8 +75,12 @@ module _ (file : List ℕ) (st : State) (i : ℕ) (m : State) where
   sorted (inverter t s l is) = inl (head-of 6 _ t (by-opens (λ (n : ℕ) (c : Bool). begunAt n ≡ false) st s (λ c. refl) refl) is refl refl refl)
   sorted (warm t s is) = inl (head-of 7 _ t (ap begunAt s) is refl refl refl)
   sorted (efficiency t s is) = inl (head-of 7 _ t (ap begunAt s) is refl refl refl)
-  sorted (reading t c a b l is) = inr (step-of 4 (st .steps + 1) (ap (λ (x : Bool). x || eqb (tagAt file i) 8 || eqb (tagAt file i) 127) t) c refl (omega arith) (λ h. omega arith) is)
+  sorted (function t s is) = inl (head-of 11 _ t (by-opens (λ (n : ℕ) (c : Bool). begunAt n ≡ false) st s (λ c. refl) refl) is refl refl refl)
+  sorted (volt-var t s is) = inl (head-of 7 _ t (ap begunAt s) is refl refl refl)
+  sorted (reading t c a b l is) =
+      inr (step-of 4 (st .steps + 1) (ap (λ (x : Bool). x || eqb (tagAt file i) 8 || eqb (tagAt file i) 12 || eqb (tagAt file i) 127) t) c refl (omega arith) (λ h. omega arith) is)
   sorted (weather t b p is) = inr (step-of 8 (st .steps) (ap ofSteps t) (may-close b) refl (omega arith) (λ h. h) is)
+  sorted (voltage t c p v is) = inr (step-of 11 (st .steps) (ap ofSteps t) (charged-closes st c) refl (omega arith) (λ h. h) is)
   sorted (end t b p is) = inr (step-of 0 (st .steps) (ap ofSteps t) (may-close b) refl (omega arith) (λ h. h) is)
 
   pub sort : i ≤ length file → fieldAt st file i ≡ Next m → HeadTook file st i m ⊎ StepTook file st i m

@@ -1,15 +1,16 @@
--- What stands after steps of a site in its ranges: a store and a request for each unit, no store above rated, no request beyond its rating, and not requests
--- of both signs. Assumes nothing.
-use mathlib.Core.Path.{_≡_, refl, ap, ap₂, _∙_, subst⁻¹}
+-- What stands after steps of a plant in its ranges: a store, a request and vars for each unit, no store above rated, no request beyond its rating, not requests
+-- of both signs, a flag and vars for each inverter, and no vars beyond their bounds. Assumes nothing.
+use mathlib.Core.Path.{_≡_, refl, ap, ap₂, _∙_, subst, subst⁻¹}
 use mathlib.Core.Bool.{Bool, true, false, not, cond, _&&_}
-use mathlib.Core.List.{List, [], _∷_, map}
-use Prim.Native.Nat.{ℕ, zero, suc, _≤_, _<_, min}
+use mathlib.Core.List.{List, [], _∷_, _++_}
+use Prim.Native.Nat.{ℕ, zero, suc, _+_, _≤_, _<_, min}
 use native.Mathlib.Nat.{le-refl, le-step}
 use native.Mathlib.Omega.{arith}
-use lib.Dec.{leb}
-use lib.IntN.{ℤ, pos, natAbs, _+ℤ_}
-use lib.ListN.{length, getD, replicate, length-replicate}
-use lib.Signed.{ltZ}
+use lib.Dec.{leb, leb→le}
+use lib.IntN.{ℤ, pos, negsuc, natAbs, _+ℤ_}
+use lib.ListN.{length, getD, replicate, length-append, length-replicate, List·getD-append, List·getD-map}
+use lib.Seq.{getD-append-add}
+use lib.Signed.{ltZ, _≤ℤ_}
 use borrow.Author.Tests.{leb-true, le-leb}
 use Rattle.whole.specs.Over.{allOf, each}
 use Rattle.whole.specs.Signed.{negative}
@@ -20,6 +21,13 @@ use Rattle.reading.specs.declared.Reading.{Reading}
 use Rattle.unit.specs.declared.Unit.{Unit}
 use Rattle.unit.proofs.RangeLaws.{Bounds, bounds}
 use Rattle.rows.proofs.RowLaws.{length-map}
+use Rattle.curve.specs.Curve.{curveAt}
+use Rattle.curve.specs.Ranges.{pointsIn}
+use Rattle.curve.proofs.RangeLaws.{curve-bounded}
+use Rattle.lead.specs.declared.Voltage.{Voltage}
+use Rattle.lead.specs.declared.Voltage.the-variants.{Unsaid, Said}
+use Rattle.lead.specs.Lead.{Leading, unled, led, voltVarBounds, functionIn, leadOf}
+use Rattle.lead.specs.Posts.{Modest}
 use Rattle.rules.specs.declared.Settings.{Settings}
 use Rattle.members.specs.Ranges.{Fleet, fleetFor, someAbove, someBelow}
 use Rattle.controller.specs.OneSign.{OneSign}
@@ -29,30 +37,67 @@ use Rattle.controller.specs.Pass.{ownNeed, ownBand, rests, spent, allInBand, re
 use Rattle.rules.specs.Rules.{limited}
 use Rattle.controller.proofs.OneSign.{one-sign}
 use Rattle.site.specs.declared.Step.{Step}
-use Rattle.site.specs.Site.{Site, noUnit, count, unitOf}
-use Rattle.site.specs.Ranges.{Sited}
+use Rattle.site.specs.Site.{Site, Plant, noUnit, count, unitOf}
+use Rattle.site.specs.Ranges.{Sited, Roofed, Guided}
 use Rattle.site.proofs.RangeLaws.{unit-ranged}
-use Rattle.fleet.specs.Step.{Standing, atFirst, askedBy, after}
+use Rattle.stick.specs.Site.{siteOf, plantOf}
+use Rattle.stick.specs.Posts.{Accepted}
+use Rattle.stick.proofs.SiteProved.{sited, roofed, leading-guided}
+use Rattle.roofs.specs.Posts.{VarsHeld}
+use Rattle.roofs.proofs.VarsLaws.{own-held, after-held}
+use Rattle.fleet.specs.Step.{Stands, atFirst, askedBy, after}
 use Rattle.fleet.specs.Posts.{Held}
 use Rattle.fleet.proofs.StepLaws.{asked-keeps, asked-length, still-held}
-use Rattle.stretch.specs.Stretch.{standsAfter}
+use Rattle.stretch.specs.Stretch.{standsFirst, leadIn, nextOf, standsAfter}
+use Rattle.stretch.proofs.AppendLaws.{ons-length}
+use Rattle.kept.specs.Kept.{Kept, begun}
+use Rattle.kept.specs.Layout.{allVars}
 use Rattle.kept.specs.Formed.{unitFits, heldFits}
+use Rattle.kept.specs.Posts.{WellKept}
 
--- ---- small laws: a test that passes for each, and a value of each unit
+-- ---- small laws: a test that passes for each, and no request of any unit
 all-of : (n : ℕ) (ok : ℕ → Bool) → ((i : ℕ) → i < n → ok i ≡ true) → allOf n ok ≡ true
 unfolding allOf
 all-of zero ok h = refl
 all-of (suc n) ok h = ap₂ _&&_ (all-of n ok (λ i l. h i (le-step l))) (h n (le-refl (suc n)))
 
-map-at : {A : Type 0} (f : A → ℕ) (none : A) (l : List A) (i : ℕ) → i < length l → getD (map f l) i 0 ≡ f (getD l i none)
-map-at f none [] i h = absurd (omega arith)
-map-at f none (x ∷ xs) zero h = refl
-map-at f none (x ∷ xs) (suc i) h = map-at f none xs i (omega arith)
-
 zero-at : (n i : ℕ) → getD (replicate n (pos 0)) i (pos 0) ≡ pos 0
 zero-at zero i = refl
 zero-at (suc n) zero = refl
 zero-at (suc n) (suc i) = zero-at n i
+
+-- numbers that are small in two lists are so in both, one behind the other, and back
+abbrev Small : List ℤ → Type 0
+Small vs = (i : ℕ) → i < length vs → natAbs (getD vs i (pos 0)) ≤ 100000000
+
+both-small : (a b : List ℤ) → Small a → Small b → Small (a ++ b)
+both-small [] b ha hb i l = hb i l
+both-small (x ∷ a) b ha hb zero l = ha 0 (omega arith)
+both-small (x ∷ a) b ha hb (suc i) l = both-small a b (λ j m. ha (suc j) (omega arith)) hb i (omega arith)
+
+module _ (a b : List ℤ) (h : Small (a ++ b)) where
+  first-small : Small a
+  first-small i l =
+      let n = length-append a b in
+      subst (λ (z : ℤ). natAbs z ≤ 100000000) (List·getD-append a b (pos 0) i l) (h i (omega arith))
+
+  second-small : Small b
+  second-small i l =
+      let n = length-append a b in
+      subst (λ (z : ℤ). natAbs z ≤ 100000000) (getD-append-add a b i (pos 0)) (h (length a + i) (omega arith))
+
+-- ---- what leads a step has a curve's value of at most one either way
+size-within : (n : ℕ) (z : ℤ) → negsuc n ≤ℤ z → z ≤ℤ pos (suc n) → natAbs z ≤ suc n
+size-within n (pos m) low high = leb→le m (suc n) (high .le)
+size-within n (negsuc m) low high = let l : m ≤ n = leb→le m n (low .le) in omega arith
+
+pub lead-modest : (l : Leading) (v : Voltage) → Guided l → Modest (leadOf l v)
+unfolding leadOf functionIn
+lead-modest unled v g = record { y-small = omega arith }
+lead-modest (led f) Unsaid g = record { y-small = omega arith }
+lead-modest (led f) (Said x) g =
+    let b = curve-bounded voltVarBounds (f .curve) (and-parts (leb (f .base) 1) (pointsIn voltVarBounds (f .curve)) g .1) (pos x) in
+    record { y-small = size-within 9999 (curveAt (f .curve) (pos x)) (b .0) (b .1) }
 
 -- ---- requests within their ratings
 abbrev pub Rated : Site → List ℤ → Type 0
@@ -93,7 +138,7 @@ module _ (site : Site) (stored : List ℕ) (rs : List ℤ) (many : length rs ≡
       (λ v. each-rated (requestAfter s (length rs) fleet needs)
       (λ i r l.
       let a = request-most s (length rs) fleet needs i r in
-      let b = map-at (λ (u : Unit). u .rating) noUnit (site .units) i l in
+      let b : getD (fleet .rating) i 0 ≡ unitOf site i .rating = List·getD-map (λ (u : Unit). u .rating) (site .units) i noUnit in
       omega arith))))
 
   pub asked-rated : (r : Reading) → Rated site (askedBy site stored rs r)
@@ -102,73 +147,124 @@ module _ (site : Site) (stored : List ℕ) (rs : List ℤ) (many : length rs ≡
 asked-one : (site : Site) (stored : List ℕ) (rs : List ℤ) → OneSign rs → (r : Reading) → OneSign (askedBy site stored rs r)
 asked-one site stored rs h = asked-keeps OneSign site stored rs h (λ m. one-sign (site .head .settings) m (fleetFor (site .units) stored) rs h)
 
--- ---- what stands well
-pub record StandsWell (site : Site) (st : Standing) : Type 0 where
-  pub holds : Held site (st .stored) (st .requests)
-  pub rated : Rated site (st .requests)
-  pub one : OneSign (st .requests)
+-- ---- a plant in its ranges, as an accepted file has it
+pub record PlantIn (p : Plant) : Type 0 where
+  pub units : Sited (p .site)
+  pub roofs : Roofed (p .roofs)
+  pub function : Guided (p .leading)
 
-module _ (site : Site) (h : Sited site) where
+pub plant-in : (file : List ℕ) → Accepted file → PlantIn (plantOf file)
+unfolding plantOf
+plant-in file z = record { units = sited file z; roofs = roofed file z; function = leading-guided file z }
+
+-- ---- what stands well
+pub record StandsWell (p : Plant) (st : Stands) : Type 0 where
+  pub holds : Held (p .site) (st .units .stored) (st .units .requests) (st .units .vars)
+  pub rated : Rated (p .site) (st .units .requests)
+  pub one : OneSign (st .units .requests)
+  pub flags : length (st .on) ≡ length (p .roofs)
+  pub vars : VarsHeld (length (p .roofs)) (st .vars)
+
+module _ (p : Plant) (h : PlantIn p) where
+  abbrev n : ℕ
+  n = count (p .site)
+
+  unit-bounds : (i : ℕ) → i < n → Bounds (unitOf (p .site) i) (p .site .head .seconds)
+  unit-bounds i l = bounds (unit-ranged (p .site) (h .units) i l)
+
   -- at first
-  pub first-stands : StandsWell site (atFirst (site .units))
-  unfolding atFirst someAbove
+  pub first-stands : StandsWell p (standsFirst p)
+  unfolding standsFirst atFirst someAbove
   first-stands = record {
     holds = record {
-      stores = length-map (λ (u : Unit). u .stored) (site .units);
-      asks = length-replicate (count site) (pos 0);
-      within = λ i l.
-          let b : Bounds (unitOf site i) (site .head .seconds) = bounds {u = unitOf site i} {seconds = site .head .seconds} (unit-ranged site h i l) in
-          let e = map-at (λ (u : Unit). u .stored) noUnit (site .units) i l in
-          let m = b .stored-most in
-          omega arith;
+      stores = length-map (λ (u : Unit). u .stored) (p .site .units);
+      asks = length-replicate n (pos 0);
+      leads = length-map (λ (u : Unit). u .«var_request») (p .site .units);
+      within = λ i l. subst⁻¹ (λ (s : ℕ). s ≤ unitOf (p .site) i .rated) (List·getD-map (λ (u : Unit). u .stored) (p .site .units) i noUnit) (unit-bounds i l .stored-most);
+      small = λ i l.
+          subst⁻¹ (λ (v : ℤ). natAbs v ≤ 100000000) (List·getD-map (λ (u : Unit). u .«var_request») (p .site .units) i noUnit) (unit-bounds i l .vars-most);
     };
-    rated = λ i l. subst⁻¹ (λ (z : ℤ). natAbs z ≤ unitOf site i .rating) (zero-at (count site) i) (omega arith);
+    rated = λ i l. subst⁻¹ (λ (z : ℤ). natAbs z ≤ unitOf (p .site) i .rating) (zero-at n i) (omega arith);
     one =
-        ap (λ (b : Bool). b && someBelow (replicate (count site) (pos 0)))
-        (none-of (length (replicate (count site) (pos 0))) (λ (i : ℕ). ltZ (pos 0) (getD (replicate (count site) (pos 0)) i (pos 0))) (λ i l. ap (ltZ (pos 0)) (zero-at (count site) i)));
+        ap (λ (b : Bool). b && someBelow (replicate n (pos 0)))
+        (none-of (length (replicate n (pos 0))) (λ (i : ℕ). ltZ (pos 0) (getD (replicate n (pos 0)) i (pos 0))) (λ i l. ap (ltZ (pos 0)) (zero-at n i)));
+    flags = length-replicate (length (p .roofs)) false;
+    vars = own-held (p .roofs) (length (p .roofs)) (h .roofs .each) refl;
   }
 
   -- after a step, and after steps
-  step-stands : (st : Standing) (s : Step) → StandsWell site st → StandsWell site (after site st s)
-  unfolding after
-  step-stands st s w = record {
-    holds = still-held site (st .stored) (st .requests) (askedBy site (st .stored) (st .requests) (s .reading)) h (w .holds) (asked-length site (st .stored) (st .requests) (s .reading));
-    rated = asked-rated site (st .stored) (st .requests) (w .holds .asks) (w .rated) (s .reading);
-    one = asked-one site (st .stored) (st .requests) (w .one) (s .reading);
-  }
+  step-stands : (st : Stands) (s : Step) → StandsWell p st → StandsWell p (nextOf p st s)
+  unfolding standsAfter nextOf leadIn after
+  step-stands st s w =
+      let l = leadIn p s in
+      let modest = lead-modest (p .leading) (s .voltage) (h .function) in
+      let stored = st .units .stored in
+      let rs = st .units .requests in
+      record {
+        holds = still-held (p .site) l stored rs (st .units .vars) (askedBy (p .site) stored rs (s .reading)) (h .units) modest (w .holds) (asked-length (p .site) stored rs (s .reading));
+        rated = asked-rated (p .site) stored rs (w .holds .asks) (w .rated) (s .reading);
+        one = asked-one (p .site) stored rs (w .one) (s .reading);
+        flags = ons-length p st (s ∷ []) ∙ w .flags;
+        vars = after-held (p .roofs) (length (p .roofs)) (h .roofs .each) l modest (s .sun) (st .on) (st .vars) (w .vars);
+      }
 
-  pub steps-stand : (st : Standing) (ss : List Step) → StandsWell site st → StandsWell site (standsAfter site st ss)
+  pub steps-stand : (st : Stands) (ss : List Step) → StandsWell p st → StandsWell p (standsAfter p st ss)
   unfolding standsAfter
   steps-stand st [] w = w
-  steps-stand st (s ∷ ss) w = steps-stand (after site st s) ss (step-stands st s w)
+  steps-stand st (s ∷ ss) w = steps-stand (nextOf p st s) ss (step-stands st s w)
 
 -- ---- as it is tested
-module _ (site : Site) (st : Standing) where
-  pub stands-fit : StandsWell site st → heldFits site (st .stored) (st .requests) ≡ true
+module _ (p : Plant) (st : Stands) (w : StandsWell p st) where
+  pub stands-fit : heldFits (p .site) (st .units .stored) (st .units .requests) ≡ true
   unfolding heldFits unitFits
-  stands-fit w =
+  stands-fit =
       let many = w .holds .stores in
+      let stored = st .units .stored in
+      let rs = st .units .requests in
       ap₂ _&&_
-      (all-of (length (st .stored)) (unitFits site (st .stored) (st .requests))
-      (λ i l. ap₂ _&&_ (le-leb (getD (st .stored) i 0) (unitOf site i .rated) (w .holds .within i (omega arith)))
-      (le-leb (natAbs (getD (st .requests) i (pos 0))) (unitOf site i .rating) (w .rated i (omega arith)))))
+      (all-of (length stored) (unitFits (p .site) stored rs)
+      (λ i l. ap₂ _&&_ (le-leb (getD stored i 0) (unitOf (p .site) i .rated) (w .holds .within i (omega arith)))
+      (le-leb (natAbs (getD rs i (pos 0))) (unitOf (p .site) i .rating) (w .rated i (omega arith)))))
       (ap not (w .one))
 
-  pub fits-stand : length (st .stored) ≡ count site → length (st .requests) ≡ length (st .stored) → heldFits site (st .stored) (st .requests) ≡ true → StandsWell site st
-  unfolding heldFits unitFits
-  fits-stand es er t =
-      let both = and-parts (allOf (length (st .stored)) (unitFits site (st .stored) (st .requests))) (not (someAbove (st .requests) && someBelow (st .requests))) t in
-      let at : (i : ℕ) → i < count site → (getD (st .stored) i 0 ≤ unitOf site i .rated) × (natAbs (getD (st .requests) i (pos 0)) ≤ unitOf site i .rating) =
-      λ i l.
-      let p = and-parts (leb (getD (st .stored) i 0) (unitOf site i .rated)) (leb (natAbs (getD (st .requests) i (pos 0))) (unitOf site i .rating))
-      (all-at (length (st .stored)) (unitFits site (st .stored) (st .requests)) (both .0) i (omega arith)) in
-      (leb-true (getD (st .stored) i 0) (unitOf site i .rated) (p .0), leb-true (natAbs (getD (st .requests) i (pos 0))) (unitOf site i .rating) (p .1)) in
-      record {
-        holds = record { stores = es; asks = er ∙ es; within = λ i l. at i l .0 };
-        rated = λ i l. at i l .1;
-        one = not-false (someAbove (st .requests) && someBelow (st .requests)) (both .1);
-      }
-    where
-      not-false : (b : Bool) → not b ≡ true → b ≡ false
-      not-false true e = absurd (passed-failed e refl)
-      not-false false e = refl
+  pub vars-fit : (i : ℕ) → i < length (allVars st) → natAbs (getD (allVars st) i (pos 0)) ≤ 100000000
+  vars-fit =
+      let units = w .holds .leads in
+      let roofs = w .vars .count in
+      both-small (st .units .vars) (st .vars) (λ i l. w .holds .small i (omega arith)) (λ i l. w .vars .small i (omega arith))
+
+-- ---- what is kept, once the steps have begun
+pub fits-stand : (k : Kept) → WellKept k → begun (k .state) ≡ true → StandsWell (plantOf (k .site)) (k .stands)
+unfolding plantOf heldFits unitFits
+fits-stand k well b =
+    let site = siteOf (k .site) in
+    let stored = k .stands .units .stored in
+    let rs = k .stands .units .requests in
+    let vs = k .stands .units .vars in
+    let stores : length stored ≡ count site = well .stores b in
+    let leads = well .leads in
+    let flags = well .flags b in
+    let shines = well .shines in
+    let both = and-parts (allOf (length stored) (unitFits site stored rs)) (not (someAbove rs && someBelow rs)) (well .held) in
+    let at : (i : ℕ) → i < count site → (getD stored i 0 ≤ unitOf site i .rated) × (natAbs (getD rs i (pos 0)) ≤ unitOf site i .rating) =
+    λ i l.
+    let p = and-parts (leb (getD stored i 0) (unitOf site i .rated)) (leb (natAbs (getD rs i (pos 0))) (unitOf site i .rating))
+    (all-at (length stored) (unitFits site stored rs) (both .0) i (omega arith)) in
+    (leb-true (getD stored i 0) (unitOf site i .rated) (p .0), leb-true (natAbs (getD rs i (pos 0))) (unitOf site i .rating) (p .1)) in
+    record {
+      holds = record {
+        stores = stores;
+        asks = well .asks ∙ stores;
+        leads = well .leads ∙ stores;
+        within = λ i l. at i l .0;
+        small = λ i l. first-small vs (k .stands .vars) (well .small) i (omega arith);
+      };
+      rated = λ i l. at i l .1;
+      one = not-false (someAbove rs && someBelow rs) (both .1);
+      flags = flags;
+      vars = record { count = shines ∙ flags; small = λ i l. second-small vs (k .stands .vars) (well .small) i (omega arith) };
+    }
+  where
+    not-false : (b : Bool) → not b ≡ true → b ≡ false
+    not-false true e = absurd (passed-failed e refl)
+    not-false false e = refl

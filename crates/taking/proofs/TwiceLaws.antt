@@ -8,22 +8,21 @@ use native.Mathlib.Omega.{arith}
 use lib.ListN.{length, take, length-append}
 use lib.Seq.{take-all, take-append-le, take-append-add}
 use Rattle.whole.proofs.Choice.{passed-failed}
-use Rattle.solar.specs.declared.Sun.{Sun}
+use Rattle.site.specs.declared.Due.{Due}
 use Rattle.site.specs.declared.Step.{Step}
 use Rattle.fields.specs.declared.State.{State}
-use Rattle.stick.specs.Site.{placesFrom, siteOf, roofsOf, stepsIn, sunIn, stepsFrom, sunFrom, headFrom}
-use Rattle.roofs.specs.Roofs.{allOff}
-use Rattle.fleet.specs.Step.{Standing, atFirst}
-use Rattle.stretch.specs.Stretch.{standsAfter, onsAfter, recordsFrom}
-use Rattle.stretch.proofs.AppendLaws.{stands-append, ons-append, records-append}
-use Rattle.chunks.proofs.PlaceChunks.{went-whole, steps-append, sun-append, steps-shift, sun-shift}
+use Rattle.stick.specs.Site.{placesFrom, plantOf, stepsIn, dueIn, stepsFrom, dueFrom, headFrom}
+use Rattle.fleet.specs.Step.{Stands}
+use Rattle.stretch.specs.Stretch.{standsFirst, standsAfter, recordsFrom}
+use Rattle.stretch.proofs.AppendLaws.{stands-append, records-append}
+use Rattle.chunks.proofs.PlaceChunks.{went-whole, steps-append, due-append, steps-shift, due-shift}
 use Rattle.chunks.proofs.HeadChunks.{HeadAppend, headFrom-append}
 use Rattle.kept.specs.Kept.{Kept, begun, noStanding}
 use Rattle.kept.specs.Posts.{WellKept}
-use Rattle.taking.specs.Chunk.{closing, headIn, siteAfter, standsFirst, onFirst, stepsBy, absorbed, resultsBy}
+use Rattle.taking.specs.Chunk.{closing, headIn, siteAfter, standsBefore, stepsBy, absorbed, resultsBy}
 use Rattle.taking.specs.Posts.{Leads}
 use Rattle.taking.proofs.LedLaws.{led, leads-append}
-use Rattle.taking.proofs.LeadLaws.{stays-begun, before-too, no-head, all-head, head-ends, whole-behind, steps-counted, no-step-yet, same-sun-yet}
+use Rattle.taking.proofs.LeadLaws.{stays-begun, before-too, no-head, all-head, head-ends, whole-behind, steps-counted, no-step-yet, same-due-yet}
 
 -- ---- the site, by whether the steps had begun, and have
 abbrev pub siteBy : Bool → Bool → List ℕ → List ℕ → List ℕ
@@ -55,29 +54,29 @@ module _ (k : Kept) (a b : List ℕ) (st₁ st₂ : State) (p : Leads (k .state)
     head-beyond : headIn (a ++ b) ≡ length a + headIn b
     head-beyond = let h = all-of-first in heads .on (omega arith)
 
-  -- ---- the steps and the sun
-  module _ (s : Sun) where
-    pub steps-twice : stepsFrom (a ++ b) s (headIn (a ++ b)) ≡ stepsFrom a s (headIn a) ++ stepsFrom b (sunFrom a s (headIn a)) (headIn b)
+  -- ---- the steps, and what the step under way has
+  module _ (d : Due) where
+    pub steps-twice : stepsFrom (a ++ b) d (headIn (a ++ b)) ≡ stepsFrom a d (headIn a) ++ stepsFrom b (dueFrom a d (headIn a)) (headIn b)
     steps-twice = go (begun st₁) refl
       where
-        go : (x : Bool) → begun st₁ ≡ x → stepsFrom (a ++ b) s (headIn (a ++ b)) ≡ stepsFrom a s (headIn a) ++ stepsFrom b (sunFrom a s (headIn a)) (headIn b)
+        go : (x : Bool) → begun st₁ ≡ x → stepsFrom (a ++ b) d (headIn (a ++ b)) ≡ stepsFrom a d (headIn a) ++ stepsFrom b (dueFrom a d (headIn a)) (headIn b)
         go true e =
-            ap (stepsFrom (a ++ b) s) (same-head e) ∙ steps-append a b (whole-behind a p) s
-            ∙ ap (λ (n : ℕ). stepsFrom a s (headIn a) ++ stepsFrom b (sunFrom a s (headIn a)) n) (sym (no-head b q e))
+            ap (stepsFrom (a ++ b) d) (same-head e) ∙ steps-append a b (whole-behind a p) d
+            ∙ ap (λ (n : ℕ). stepsFrom a d (headIn a) ++ stepsFrom b (dueFrom a d (headIn a)) n) (sym (no-head b q e))
         go false e =
-            ap (stepsFrom (a ++ b) s) (head-beyond e) ∙ steps-shift a b s (headIn b)
-            ∙ sym (ap₂ (λ (l : List Step) (s : Sun). l ++ stepsFrom b s (headIn b)) (no-step-yet a p (not-before e) e s) (same-sun-yet a p (not-before e) e s))
+            ap (stepsFrom (a ++ b) d) (head-beyond e) ∙ steps-shift a b d (headIn b)
+            ∙ sym (ap₂ (λ (l : List Step) (d : Due). l ++ stepsFrom b d (headIn b)) (no-step-yet a p (not-before e) e d) (same-due-yet a p (not-before e) e d))
 
-    pub sun-twice : sunFrom (a ++ b) s (headIn (a ++ b)) ≡ sunFrom b (sunFrom a s (headIn a)) (headIn b)
-    sun-twice = go (begun st₁) refl
+    pub due-twice : dueFrom (a ++ b) d (headIn (a ++ b)) ≡ dueFrom b (dueFrom a d (headIn a)) (headIn b)
+    due-twice = go (begun st₁) refl
       where
-        go : (x : Bool) → begun st₁ ≡ x → sunFrom (a ++ b) s (headIn (a ++ b)) ≡ sunFrom b (sunFrom a s (headIn a)) (headIn b)
+        go : (x : Bool) → begun st₁ ≡ x → dueFrom (a ++ b) d (headIn (a ++ b)) ≡ dueFrom b (dueFrom a d (headIn a)) (headIn b)
         go true e =
-            ap (sunFrom (a ++ b) s) (same-head e) ∙ sun-append a b (whole-behind a p) s
-            ∙ ap (sunFrom b (sunFrom a s (headIn a))) (sym (no-head b q e))
+            ap (dueFrom (a ++ b) d) (same-head e) ∙ due-append a b (whole-behind a p) d
+            ∙ ap (dueFrom b (dueFrom a d (headIn a))) (sym (no-head b q e))
         go false e =
-            ap (sunFrom (a ++ b) s) (head-beyond e) ∙ sun-shift a b s (headIn b)
-            ∙ sym (ap (λ (s : Sun). sunFrom b s (headIn b)) (same-sun-yet a p (not-before e) e s))
+            ap (dueFrom (a ++ b) d) (head-beyond e) ∙ due-shift a b d (headIn b)
+            ∙ sym (ap (λ (d : Due). dueFrom b d (headIn b)) (same-due-yet a p (not-before e) e d))
 
   -- ---- the site part
   pub site-twice : siteAfter k (a ++ b) st₂ ≡ siteAfter (absorbed k a st₁) b st₂
@@ -117,37 +116,21 @@ module _ (k : Kept) (a b : List ℕ) (st₁ st₂ : State) (p : Leads (k .state)
 
   -- ---- what stands before the others is what stands after the first
   module _ (site : List ℕ) (is : siteAfter k (a ++ b) st₂ ≡ site) where
-    pub stands-between : standsFirst (absorbed k a st₁) site ≡ standsAfter (siteOf site) (standsFirst k site) (stepsBy k a)
-    unfolding absorbed standsFirst stepsBy standsAfter
+    pub stands-between : standsBefore (absorbed k a st₁) site ≡ standsAfter (plantOf site) (standsBefore k site) (stepsBy k a)
+    unfolding absorbed standsBefore stepsBy standsAfter
     stands-between = go (begun st₁) refl
       where
-        after-first : List ℕ → Standing
-        after-first l = standsAfter (siteOf l) (standsFirst k l) (stepsBy k a)
+        after-first : List ℕ → Stands
+        after-first l = standsAfter (plantOf l) (standsBefore k l) (stepsBy k a)
 
-        go : (y : Bool) → begun st₁ ≡ y → standsFirst (absorbed k a st₁) site ≡ standsAfter (siteOf site) (standsFirst k site) (stepsBy k a)
+        go : (y : Bool) → begun st₁ ≡ y → standsBefore (absorbed k a st₁) site ≡ standsAfter (plantOf site) (standsBefore k site) (stepsBy k a)
         go true e =
-            ap (λ (y : Bool). cond y (cond y (after-first (siteAfter k a st₁)) noStanding) (atFirst (siteOf site .units))) e
+            ap (λ (y : Bool). cond y (cond y (after-first (siteAfter k a st₁)) noStanding) (standsFirst (plantOf site))) e
             ∙ ap after-first (sym (site-first e) ∙ is)
         go false e =
-            ap (λ (y : Bool). cond y (cond y (after-first (siteAfter k a st₁)) noStanding) (atFirst (siteOf site .units))) e
-            ∙ sym (ap (λ (x : Bool). cond x (k .stands) (atFirst (siteOf site .units))) (not-before e))
-            ∙ sym (ap (standsAfter (siteOf site) (standsFirst k site)) (no-step-yet a p (not-before e) e (k .sun)))
-
-    pub on-between : onFirst (absorbed k a st₁) site ≡ onsAfter (roofsOf site) (onFirst k site) (stepsBy k a)
-    unfolding absorbed onFirst stepsBy onsAfter
-    on-between = go (begun st₁) refl
-      where
-        after-first : List ℕ → List Bool
-        after-first l = onsAfter (roofsOf l) (onFirst k l) (stepsBy k a)
-
-        go : (y : Bool) → begun st₁ ≡ y → onFirst (absorbed k a st₁) site ≡ onsAfter (roofsOf site) (onFirst k site) (stepsBy k a)
-        go true e =
-            ap (λ (y : Bool). cond y (cond y (after-first (siteAfter k a st₁)) []) (allOff (roofsOf site))) e
-            ∙ ap after-first (sym (site-first e) ∙ is)
-        go false e =
-            ap (λ (y : Bool). cond y (cond y (after-first (siteAfter k a st₁)) []) (allOff (roofsOf site))) e
-            ∙ sym (ap (λ (x : Bool). cond x (k .on) (allOff (roofsOf site))) (not-before e))
-            ∙ sym (ap (onsAfter (roofsOf site) (onFirst k site)) (no-step-yet a p (not-before e) e (k .sun)))
+            ap (λ (y : Bool). cond y (cond y (after-first (siteAfter k a st₁)) noStanding) (standsFirst (plantOf site))) e
+            ∙ sym (ap (λ (x : Bool). cond x (k .stands) (standsFirst (plantOf site))) (not-before e))
+            ∙ sym (ap (standsAfter (plantOf site) (standsBefore k site)) (no-step-yet a p (not-before e) e (k .due)))
 
   -- ---- so after all of them what stands after the others
   abbrev all-site : List ℕ
@@ -155,23 +138,15 @@ module _ (k : Kept) (a b : List ℕ) (st₁ st₂ : State) (p : Leads (k .state)
 
   closed-twice : stepsBy k (a ++ b) ≡ stepsBy k a ++ stepsBy (absorbed k a st₁) b
   unfolding stepsBy absorbed
-  closed-twice = steps-twice (k .sun)
+  closed-twice = steps-twice (k .due)
 
-  stands-twice : standsAfter (siteOf all-site) (standsFirst k all-site) (stepsBy k (a ++ b))
-      ≡ standsAfter (siteOf (siteAfter (absorbed k a st₁) b st₂)) (standsFirst (absorbed k a st₁) (siteAfter (absorbed k a st₁) b st₂)) (stepsBy (absorbed k a st₁) b)
+  stands-twice : standsAfter (plantOf all-site) (standsBefore k all-site) (stepsBy k (a ++ b))
+      ≡ standsAfter (plantOf (siteAfter (absorbed k a st₁) b st₂)) (standsBefore (absorbed k a st₁) (siteAfter (absorbed k a st₁) b st₂)) (stepsBy (absorbed k a st₁) b)
   stands-twice =
-      ap (standsAfter (siteOf all-site) (standsFirst k all-site)) closed-twice
-      ∙ stands-append (siteOf all-site) (standsFirst k all-site) (stepsBy k a) (stepsBy (absorbed k a st₁) b)
-      ∙ ap (λ (st : Standing). standsAfter (siteOf all-site) st (stepsBy (absorbed k a st₁) b)) (sym (stands-between all-site refl))
-      ∙ ap (λ (l : List ℕ). standsAfter (siteOf l) (standsFirst (absorbed k a st₁) l) (stepsBy (absorbed k a st₁) b)) site-twice
-
-  on-twice : onsAfter (roofsOf all-site) (onFirst k all-site) (stepsBy k (a ++ b))
-      ≡ onsAfter (roofsOf (siteAfter (absorbed k a st₁) b st₂)) (onFirst (absorbed k a st₁) (siteAfter (absorbed k a st₁) b st₂)) (stepsBy (absorbed k a st₁) b)
-  on-twice =
-      ap (onsAfter (roofsOf all-site) (onFirst k all-site)) closed-twice
-      ∙ ons-append (roofsOf all-site) (onFirst k all-site) (stepsBy k a) (stepsBy (absorbed k a st₁) b)
-      ∙ ap (λ (on : List Bool). onsAfter (roofsOf all-site) on (stepsBy (absorbed k a st₁) b)) (sym (on-between all-site refl))
-      ∙ ap (λ (l : List ℕ). onsAfter (roofsOf l) (onFirst (absorbed k a st₁) l) (stepsBy (absorbed k a st₁) b)) site-twice
+      ap (standsAfter (plantOf all-site) (standsBefore k all-site)) closed-twice
+      ∙ stands-append (plantOf all-site) (standsBefore k all-site) (stepsBy k a) (stepsBy (absorbed k a st₁) b)
+      ∙ ap (λ (st : Stands). standsAfter (plantOf all-site) st (stepsBy (absorbed k a st₁) b)) (sym (stands-between all-site refl))
+      ∙ ap (λ (l : List ℕ). standsAfter (plantOf l) (standsBefore (absorbed k a st₁) l) (stepsBy (absorbed k a st₁) b)) site-twice
 
   -- ---- all that is kept
   pub absorbed-twice : absorbed (absorbed k a st₁) b st₂ ≡ absorbed k (a ++ b) st₂
@@ -179,66 +154,60 @@ module _ (k : Kept) (a b : List ℕ) (st₁ st₂ : State) (p : Leads (k .state)
   absorbed-twice =
       let place : k .place - length (k .tail) + length a - 0 + length b ≡ k .place - length (k .tail) + length (a ++ b) = omega (arith, length-append a b) in
       let site = site-twice in
-      let sun = sun-twice (k .sun) in
+      let due = due-twice (k .due) in
       let stands = stands-twice in
-      let on = on-twice in
       sym (λ i. record {
         place = sym place i;
         state = st₂;
         site = site i;
-        sun = sun i;
+        due = due i;
         stands = cond (begun st₂) (stands i) noStanding;
-        on = cond (begun st₂) (on i) [];
         tail = [];
       })
 
   -- ---- their records
-  first-records : recordsFrom (siteOf all-site) (roofsOf all-site) (k .state .steps) (standsFirst k all-site) (onFirst k all-site) (stepsBy k a) ≡ resultsBy k a st₁
+  first-records : recordsFrom (plantOf all-site) (k .state .steps) (standsBefore k all-site) (stepsBy k a) ≡ resultsBy k a st₁
   unfolding resultsBy recordsFrom stepsBy
   first-records = go (begun st₁) refl
     where
       by-site : List ℕ → List ℕ
-      by-site l = recordsFrom (siteOf l) (roofsOf l) (k .state .steps) (standsFirst k l) (onFirst k l) (stepsBy k a)
+      by-site l = recordsFrom (plantOf l) (k .state .steps) (standsBefore k l) (stepsBy k a)
 
       none : List ℕ → List Step → List ℕ
-      none l ss = recordsFrom (siteOf l) (roofsOf l) (k .state .steps) (standsFirst k l) (onFirst k l) ss
+      none l ss = recordsFrom (plantOf l) (k .state .steps) (standsBefore k l) ss
 
       go : (y : Bool) → begun st₁ ≡ y → by-site all-site ≡ by-site (siteAfter k a st₁)
       go true e = ap by-site (site-first e)
-      go false e = let n = no-step-yet a p (not-before e) e (k .sun) in ap (none all-site) n ∙ sym (ap (none (siteAfter k a st₁)) n)
+      go false e = let n = no-step-yet a p (not-before e) e (k .due) in ap (none all-site) n ∙ sym (ap (none (siteAfter k a st₁)) n)
 
   pub results-twice : resultsBy k (a ++ b) st₂ ≡ resultsBy k a st₁ ++ resultsBy (absorbed k a st₁) b st₂
   unfolding resultsBy absorbed stepsBy
   results-twice =
-      let S = siteOf all-site in
-      let R = roofsOf all-site in
+      let P = plantOf all-site in
       let n = k .state .steps in
       let m = absorbed k a st₁ in
       let later = stepsBy m b in
-      let count : n + length (stepsBy k a) ≡ st₁ .steps = steps-counted a p (k .sun) in
-      ap (recordsFrom S R n (standsFirst k all-site) (onFirst k all-site)) closed-twice
-      ∙ records-append S R n (standsFirst k all-site) (onFirst k all-site) (stepsBy k a) later
+      let count : n + length (stepsBy k a) ≡ st₁ .steps = steps-counted a p (k .due) in
+      ap (recordsFrom P n (standsBefore k all-site)) closed-twice
+      ∙ records-append P n (standsBefore k all-site) (stepsBy k a) later
       ∙ ap₂ (λ (x y : List ℕ). x ++ y) first-records
-      (ap (λ (c : ℕ). recordsFrom S R c (standsAfter S (standsFirst k all-site) (stepsBy k a)) (onsAfter R (onFirst k all-site) (stepsBy k a)) later) count
-      ∙ ap₂ (λ (st : Standing) (on : List Bool). recordsFrom S R (st₁ .steps) st on later) (sym (stands-between all-site refl)) (sym (on-between all-site refl))
-      ∙ ap (λ (l : List ℕ). recordsFrom (siteOf l) (roofsOf l) (st₁ .steps) (standsFirst m l) (onFirst m l) later) site-twice)
+      (ap₂ (λ (c : ℕ) (st : Stands). recordsFrom P c st later) count (sym (stands-between all-site refl))
+      ∙ ap (λ (l : List ℕ). recordsFrom (plantOf l) (st₁ .steps) (standsBefore m l) later) site-twice)
 
 -- ---- no field
 module _ (k : Kept) (tail : k .tail ≡ []) where
-  none-by : (b : Bool) → begun (k .state) ≡ b → (b ≡ false → (k .stands ≡ noStanding) × (k .on ≡ [])) → absorbed k [] (k .state) ≡ k
-  unfolding absorbed siteAfter standsFirst onFirst stepsBy stepsFrom stepsIn placesFrom sunFrom sunIn headFrom standsAfter onsAfter
+  none-by : (b : Bool) → begun (k .state) ≡ b → (b ≡ false → k .stands ≡ noStanding) → absorbed k [] (k .state) ≡ k
+  unfolding absorbed siteAfter standsBefore stepsBy stepsFrom stepsIn placesFrom dueFrom dueIn headFrom standsAfter
   none-by b e none =
       let place : k .place - length (k .tail) + 0 ≡ k .place = omega (arith, ap length tail) in
       let site = site-none b in
       let stands = stands-none b none in
-      let on = on-none b none in
       λ i. record {
         place = place i;
         state = k .state;
         site = (ap (λ (b : Bool). cond b (k .site) (k .site ++ [] ++ cond b closing [])) e ∙ site) i;
-        sun = k .sun;
-        stands = (ap (λ (b : Bool). cond b (cond b (k .stands) (atFirst (siteOf (siteAfter k [] (k .state)) .units))) noStanding) e ∙ stands) i;
-        on = (ap (λ (b : Bool). cond b (cond b (k .on) (allOff (roofsOf (siteAfter k [] (k .state))))) []) e ∙ on) i;
+        due = k .due;
+        stands = (ap (λ (b : Bool). cond b (cond b (k .stands) (standsFirst (plantOf (siteAfter k [] (k .state))))) noStanding) e ∙ stands) i;
         tail = sym tail i;
       }
     where
@@ -246,13 +215,9 @@ module _ (k : Kept) (tail : k .tail ≡ []) where
       site-none true = refl
       site-none false = append-nil (k .site ++ []) ∙ append-nil (k .site)
 
-      stands-none : (b : Bool) → (b ≡ false → (k .stands ≡ noStanding) × (k .on ≡ [])) → cond b (cond b (k .stands) (atFirst (siteOf (siteAfter k [] (k .state)) .units))) noStanding ≡ k .stands
+      stands-none : (b : Bool) → (b ≡ false → k .stands ≡ noStanding) → cond b (cond b (k .stands) (standsFirst (plantOf (siteAfter k [] (k .state))))) noStanding ≡ k .stands
       stands-none true none = refl
-      stands-none false none = sym (none refl .0)
-
-      on-none : (b : Bool) → (b ≡ false → (k .stands ≡ noStanding) × (k .on ≡ [])) → cond b (cond b (k .on) (allOff (roofsOf (siteAfter k [] (k .state))))) [] ≡ k .on
-      on-none true none = refl
-      on-none false none = sym (none refl .1)
+      stands-none false none = sym (none refl)
 
   pub absorbed-none : WellKept k → absorbed k [] (k .state) ≡ k
   absorbed-none w = none-by (begun (k .state)) refl (w .none-stands)

@@ -3,33 +3,30 @@
 use mathlib.Core.Path.{_≡_, refl, sym, ap, ap₂, _∙_, subst⁻¹}
 use mathlib.Core.Bool.{Bool, true, false, not, cond, _&&_, _||_}
 use mathlib.Core.List.{List, [], _++_}
-use Prim.Native.Nat.{ℕ, _+_, _-_, _*_, _≤_}
+use Prim.Native.Nat.{ℕ, _+_, _-_, _*_, _≤_, _<_}
 use native.Mathlib.Omega.{arith}
 use lib.Dec.{eqb}
-use lib.ListN.{length, take, drop, length-drop, length-replicate}
+use lib.IntN.{pos, natAbs}
+use lib.ListN.{length, getD, take, drop, length-drop}
 use lib.Seq.{length-take-le}
 use borrow.Author.Tests.{eqb-true, eq-eqb}
 use Rattle.whole.specs.Over.{allOf, someOf}
 use Rattle.whole.proofs.Choice.{passed-failed}
 use Rattle.members.specs.Ranges.{someAbove, someBelow}
 use Rattle.site.specs.Site.{count}
-use Rattle.site.specs.Ranges.{Sited}
 use Rattle.fields.specs.declared.State.{State}
 use Rattle.fields.specs.Fields.{headOf}
 use Rattle.stick.specs.declared.Reached.{Reached}
 use Rattle.stick.specs.Check.{reachOf}
-use Rattle.stick.specs.Site.{siteOf, roofsOf}
-use Rattle.stick.proofs.SiteProved.{sited}
-use Rattle.roofs.specs.Roofs.{allOff}
-use Rattle.fleet.specs.Step.{Standing, atFirst}
-use Rattle.stretch.specs.Stretch.{standsAfter, onsAfter}
-use Rattle.stretch.proofs.AppendLaws.{ons-length}
+use Rattle.stick.specs.Site.{siteOf, roofsOf, plantOf}
+use Rattle.fleet.specs.Step.{Stands}
+use Rattle.stretch.specs.Stretch.{standsFirst, standsAfter}
 use Rattle.chunks.proofs.ReachChunks.{far-all, CutField, far-cut}
 use Rattle.kept.specs.Kept.{Kept, begun, noStanding, atStart}
-use Rattle.kept.specs.Layout.{tailMost, placeMost, knownBy}
-use Rattle.kept.specs.Formed.{beside, placeFits, sunFits, tailFits, heldFits}
+use Rattle.kept.specs.Layout.{tailMost, placeMost, allVars, knownBy}
+use Rattle.kept.specs.Formed.{beside, placeFits, sunFits, voltFits, tailFits, heldFits}
 use Rattle.kept.specs.Posts.{WellKept}
-use Rattle.taking.specs.Chunk.{goneBy, siteAfter, standsFirst, onFirst, stepsBy, absorbed, withTail, fedBy}
+use Rattle.taking.specs.Chunk.{goneBy, siteAfter, standsBefore, stepsBy, absorbed, withTail, fedBy}
 use Rattle.taking.specs.Posts.{Leads}
 use Rattle.taking.proofs.LeadLaws.{few-steps}
 use Rattle.taking.proofs.TwiceLaws.{site-by}
@@ -37,12 +34,12 @@ use Rattle.taking.proofs.FedLaws.{gone-upto, gone-leads}
 use Rattle.taking.proofs.SiteLaws.{SiteWell, kept-few, site-well}
 use Rattle.taking.proofs.CountLaws.{accepted-site}
 use Rattle.taking.proofs.PlacedLaws.{place-parts, place-so, place-most, placed-after}
-use Rattle.taking.proofs.SunLaws.{sunny-after}
-use Rattle.taking.proofs.StandsLaws.{StandsWell, first-stands, steps-stand, stands-fit, fits-stand}
+use Rattle.taking.proofs.DueLaws.{due-after}
+use Rattle.taking.proofs.StandsLaws.{PlantIn, plant-in, StandsWell, first-stands, steps-stand, stands-fit, vars-fit, fits-stand}
 
 -- ---- before any byte
 pub start-well : WellKept atStart
-unfolding knownBy reachOf beside placeFits sunFits tailFits heldFits allOf someAbove someBelow someOf
+unfolding knownBy reachOf beside placeFits sunFits voltFits tailFits heldFits allOf someAbove someBelow someOf
 start-well = record {
   known = refl;
   no-steps = refl;
@@ -53,22 +50,30 @@ start-well = record {
   few = omega arith;
   placed = refl;
   sunny = refl;
+  volted = refl;
+  said = refl;
   tailed = refl;
   tail-short = omega arith;
   stores = λ e. absurd (passed-failed e refl);
   asks = refl;
+  leads = refl;
   held = refl;
   flags = λ e. absurd (passed-failed e refl);
-  none-stands = λ e. (refl, refl);
+  shines = refl;
+  small = λ i l. absurd (omega arith);
+  none-stands = λ e. refl;
 }
 
 -- ---- after whole fields
-record StandPart (site : List ℕ) (b : Bool) (stands : Standing) (on : List Bool) : Type 0 where
-  stores : b ≡ true → length (stands .stored) ≡ count (siteOf site)
-  asks : length (stands .requests) ≡ length (stands .stored)
-  held : heldFits (siteOf site) (stands .stored) (stands .requests) ≡ true
-  flags : b ≡ true → length on ≡ length (roofsOf site)
-  none-stands : b ≡ false → (stands ≡ noStanding) × (on ≡ [])
+record StandPart (site : List ℕ) (b : Bool) (st : Stands) : Type 0 where
+  stores : b ≡ true → length (st .units .stored) ≡ count (siteOf site)
+  asks : length (st .units .requests) ≡ length (st .units .stored)
+  leads : length (st .units .vars) ≡ length (st .units .stored)
+  held : heldFits (siteOf site) (st .units .stored) (st .units .requests) ≡ true
+  flags : b ≡ true → length (st .on) ≡ length (roofsOf site)
+  shines : length (st .vars) ≡ length (st .on)
+  small : (i : ℕ) → i < length (allVars st) → natAbs (getD (allVars st) i (pos 0)) ≤ 100000000
+  none-stands : b ≡ false → st ≡ noStanding
 
 module _ (k : Kept) (well : WellKept k) (w : List ℕ) (next : State) (l : Leads (k .state) w next) where
   abbrev site : List ℕ
@@ -77,50 +82,48 @@ module _ (k : Kept) (well : WellKept k) (w : List ℕ) (next : State) (l : Leads
   whole-site : SiteWell site next
   whole-site = site-well k well w next l
 
+  abbrev then : Stands
+  then = standsAfter (plantOf site) (standsBefore k site) (stepsBy k w)
+
   module _ (b : begun next ≡ true) where
-    in-ranges : Sited (siteOf site)
-    in-ranges = sited site (accepted-site site next whole-site b)
+    in-ranges : PlantIn (plantOf site)
+    in-ranges = plant-in site (accepted-site site next whole-site b)
 
-    -- what stands at first, by whether the steps had begun
-    first-well : StandsWell (siteOf site) (standsFirst k site)
-    unfolding standsFirst
-    first-well = go (begun (k .state)) refl
+    -- what stands before their steps, by whether these had begun
+    pub before-stands : StandsWell (plantOf (siteAfter k w next)) (standsBefore k (siteAfter k w next))
+    unfolding standsBefore
+    before-stands = go (begun (k .state)) refl
       where
-        go : (x : Bool) → begun (k .state) ≡ x → StandsWell (siteOf site) (cond x (k .stands) (atFirst (siteOf site .units)))
-        go true e =
-            subst⁻¹ (λ (s : List ℕ). StandsWell (siteOf s) (k .stands)) (site-by k w next true (begun next) e refl)
-            (fits-stand (siteOf (k .site)) (k .stands) (well .stores e) (well .asks) (well .held))
-        go false e = first-stands (siteOf site) in-ranges
+        go : (x : Bool) → begun (k .state) ≡ x → StandsWell (plantOf site) (cond x (k .stands) (standsFirst (plantOf site)))
+        go true e = subst⁻¹ (λ (s : List ℕ). StandsWell (plantOf s) (k .stands)) (site-by k w next true (begun next) e refl) (fits-stand k well e)
+        go false e = first-stands (plantOf site) in-ranges
 
-    first-on : length (onFirst k site) ≡ length (roofsOf site)
-    unfolding onFirst
-    first-on = go (begun (k .state)) refl
-      where
-        go : (x : Bool) → begun (k .state) ≡ x → length (cond x (k .on) (allOff (roofsOf site))) ≡ length (roofsOf site)
-        go true e = well .flags e ∙ sym (ap (λ (s : List ℕ). length (roofsOf s)) (site-by k w next true (begun next) e refl))
-        go false e = length-replicate (length (roofsOf site)) false
+    then-stands : StandsWell (plantOf site) then
+    then-stands = steps-stand (plantOf site) in-ranges (standsBefore k site) (stepsBy k w) before-stands
 
-    then-well : StandsWell (siteOf site) (standsAfter (siteOf site) (standsFirst k site) (stepsBy k w))
-    then-well = steps-stand (siteOf site) in-ranges (standsFirst k site) (stepsBy k w) first-well
-
-  stand-part : (b : Bool) → begun next ≡ b
-      → StandPart site b (cond b (standsAfter (siteOf site) (standsFirst k site) (stepsBy k w)) noStanding) (cond b (onsAfter (roofsOf site) (onFirst k site) (stepsBy k w)) [])
-  unfolding heldFits allOf someAbove someBelow someOf
+  stand-part : (b : Bool) → begun next ≡ b → StandPart site b (cond b then noStanding)
+  unfolding plantOf heldFits allOf someAbove someBelow someOf
   stand-part true e =
-      let t = then-well e in
+      let t = then-stands e in
       record {
         stores = λ f. t .holds .stores;
         asks = t .holds .asks ∙ sym (t .holds .stores);
-        held = stands-fit (siteOf site) (standsAfter (siteOf site) (standsFirst k site) (stepsBy k w)) t;
-        flags = λ f. ons-length (roofsOf site) (onFirst k site) (stepsBy k w) ∙ first-on e;
+        leads = t .holds .leads ∙ sym (t .holds .stores);
+        held = stands-fit (plantOf site) then t;
+        flags = λ f. t .flags;
+        shines = t .vars .count ∙ sym (t .flags);
+        small = vars-fit (plantOf site) then t;
         none-stands = λ f. absurd (passed-failed refl f);
       }
   stand-part false e = record {
     stores = λ f. absurd (passed-failed f refl);
     asks = refl;
+    leads = refl;
     held = refl;
     flags = λ f. absurd (passed-failed f refl);
-    none-stands = λ f. (refl, refl);
+    shines = refl;
+    small = λ i l. absurd (omega arith);
+    none-stands = λ f. refl;
   }
 
   pub absorbed-well : WellKept (absorbed k w next)
@@ -128,6 +131,7 @@ module _ (k : Kept) (well : WellKept k) (w : List ℕ) (next : State) (l : Leads
   absorbed-well =
       let s = whole-site in
       let p = stand-part (begun next) refl in
+      let d = due-after k well w next l in
       record {
         known = s .known;
         no-steps = s .no-steps;
@@ -137,13 +141,18 @@ module _ (k : Kept) (well : WellKept k) (w : List ℕ) (next : State) (l : Leads
         site-short = s .site-short;
         few = few-steps w l (well .few);
         placed = placed-after k well w next l;
-        sunny = sunny-after k well w next l;
+        sunny = d .sunny;
+        volted = d .volted;
+        said = d .said;
         tailed = refl;
         tail-short = omega arith;
         stores = p .stores;
         asks = p .asks;
+        leads = p .leads;
         held = p .held;
         flags = p .flags;
+        shines = p .shines;
+        small = p .small;
         none-stands = p .none-stands;
       }
 
@@ -165,12 +174,17 @@ tail-well k well none t fits short =
       few = well .few;
       placed = place-so (k .place + length t) (k .state .stage) (k .state .steps) (length (k .site)) (length t) b refl (omega arith) (omega arith);
       sunny = well .sunny;
+      volted = well .volted;
+      said = well .said;
       tailed = fits;
       tail-short = short;
       stores = well .stores;
       asks = well .asks;
+      leads = well .leads;
       held = well .held;
       flags = well .flags;
+      shines = well .shines;
+      small = well .small;
       none-stands = well .none-stands;
     }
 
@@ -239,9 +253,9 @@ module _ (k : Kept) (well : WellKept k) (c : List ℕ) where
   pub stop-few : goneBy k c .state .steps ≤ 65535
   stop-few = few-steps over (gone-leads k c) (well .few)
 
-  pub stop-place : k .place - length (k .tail) + goneBy k c .at ≤ placeMost + 46 * goneBy k c .state .steps
+  pub stop-place : k .place - length (k .tail) + goneBy k c .at ≤ placeMost + 51 * goneBy k c .state .steps
   unfolding absorbed
   stop-place =
       let long : length over ≡ r .at = length-take-le (r .at) (k .tail ++ c) (gone-upto k c) in
-      let most : k .place - length (k .tail) + length over ≤ placeMost + 0 + 46 * r .state .steps = place-most (absorbed k over (r .state)) over-well in
+      let most : k .place - length (k .tail) + length over ≤ placeMost + 0 + 51 * r .state .steps = place-most (absorbed k over (r .state)) over-well in
       omega arith

@@ -1,17 +1,16 @@
 -- A chunk of a run (rules E3 and E5): how far its fields go behind the kept tail, what whole fields do to what is kept, the records of the steps that they
 -- close, and what is kept afterwards.
 use Prim.Native.Nat.{ℕ, _+_, _-_}
-use mathlib.Core.Bool.{Bool, cond}
+use mathlib.Core.Bool.{cond}
 use mathlib.Core.List.{List, [], _∷_, _++_}
 use lib.ListN.{length, take, drop}
 use Rattle.site.specs.declared.Step.{Step}
 use Rattle.fields.specs.declared.State.{State}
 use Rattle.stick.specs.declared.Reached.{Reached}
 use Rattle.stick.specs.Check.{reachOf}
-use Rattle.stick.specs.Site.{siteOf, roofsOf, stepsFrom, sunFrom, headFrom}
-use Rattle.roofs.specs.Roofs.{allOff}
-use Rattle.fleet.specs.Step.{Standing, atFirst}
-use Rattle.stretch.specs.Stretch.{standsAfter, onsAfter, recordsFrom}
+use Rattle.stick.specs.Site.{plantOf, stepsFrom, dueFrom, headFrom}
+use Rattle.fleet.specs.Step.{Stands}
+use Rattle.stretch.specs.Stretch.{standsFirst, standsAfter, recordsFrom}
 use Rattle.kept.specs.Kept.{Kept, begun, noStanding}
 
 -- how far the fields go, from the tail's first byte on
@@ -32,41 +31,34 @@ unfoldable pub siteAfter : Kept → List ℕ → State → List ℕ
 unfolding headFrom
 siteAfter k w st = cond (begun (k .state)) (k .site) (k .site ++ take (headIn w) w ++ cond (begun st) closing [])
 
--- T2: what stands at first, once the site is known
-unfoldable pub standsFirst : Kept → List ℕ → Standing
-unfolding atFirst siteOf
-standsFirst k site = cond (begun (k .state)) (k .stands) (atFirst (siteOf site .units))
-
-unfoldable pub onFirst : Kept → List ℕ → List Bool
-unfolding roofsOf
-onFirst k site = cond (begun (k .state)) (k .on) (allOff (roofsOf site))
+-- what stands before their steps: what is kept, or what stands at first (T2), once the site is known
+unfoldable pub standsBefore : Kept → List ℕ → Stands
+unfolding standsFirst plantOf
+standsBefore k site = cond (begun (k .state)) (k .stands) (standsFirst (plantOf site))
 
 -- the steps that they close
 unfoldable pub stepsBy : Kept → List ℕ → List Step
 unfolding stepsFrom headFrom
-stepsBy k w = stepsFrom w (k .sun) (headIn w)
+stepsBy k w = stepsFrom w (k .due) (headIn w)
 
 -- what is kept after them, without a tail
 unfoldable pub absorbed : Kept → List ℕ → State → Kept
-unfolding siteAfter standsFirst onFirst stepsBy standsAfter onsAfter sunFrom headFrom siteOf roofsOf
+unfolding siteAfter standsBefore stepsBy standsAfter dueFrom headFrom plantOf
 absorbed k w st =
     let site = siteAfter k w st in
     record {
       place = k .place - length (k .tail) + length w;
       state = st;
       site = site;
-      sun = sunFrom w (k .sun) (headIn w);
-      stands = cond (begun st) (standsAfter (siteOf site) (standsFirst k site) (stepsBy k w)) noStanding;
-      on = cond (begun st) (onsAfter (roofsOf site) (onFirst k site) (stepsBy k w)) [];
+      due = dueFrom w (k .due) (headIn w);
+      stands = cond (begun st) (standsAfter (plantOf site) (standsBefore k site) (stepsBy k w)) noStanding;
       tail = [];
     }
 
 -- the records of their steps
 unfoldable pub resultsBy : Kept → List ℕ → State → List ℕ
-unfolding siteAfter standsFirst onFirst stepsBy recordsFrom siteOf roofsOf
-resultsBy k w st =
-    let site = siteAfter k w st in
-    recordsFrom (siteOf site) (roofsOf site) (k .state .steps) (standsFirst k site) (onFirst k site) (stepsBy k w)
+unfolding siteAfter standsBefore stepsBy recordsFrom plantOf
+resultsBy k w st = let site = siteAfter k w st in recordsFrom (plantOf site) (k .state .steps) (standsBefore k site) (stepsBy k w)
 
 -- ---- the whole chunk
 abbrev pub withTail : Kept → List ℕ → Kept
@@ -74,9 +66,8 @@ withTail k tail = record {
   place = k .place + length tail;
   state = k .state;
   site = k .site;
-  sun = k .sun;
+  due = k .due;
   stands = k .stands;
-  on = k .on;
   tail = tail;
 }
 

@@ -11,17 +11,19 @@ use std::{env, fs};
 
 use yesbrulka_reference::connection::Connection;
 use yesbrulka_reference::controller::{self, Fleet, Settings};
+use yesbrulka_reference::curve::Curve;
 use yesbrulka_reference::octets::{put_i32, put_u16, put_u32, put_u64, put_u8};
 use yesbrulka_reference::reading::{self, Phases, Reading};
 use yesbrulka_reference::samples::fleets::{self, PassCall, StudyCall};
 use yesbrulka_reference::samples::inverters::{self, SolarCall};
 use yesbrulka_reference::samples::sticks::{self, Field};
 use yesbrulka_reference::samples::units::{self, StepCall};
-use yesbrulka_reference::samples::{self, currents, limits, older, roofs, seasons, Draw};
+use yesbrulka_reference::samples::{self, currents, limits, older, roofs, seasons, voltages, Draw};
 use yesbrulka_reference::season;
-use yesbrulka_reference::solar::{Produced, Weather};
+use yesbrulka_reference::solar::{Inverter, Produced, Weather};
 use yesbrulka_reference::stick::{self, Answer, Run};
 use yesbrulka_reference::storage::{self, Stepped, Unit};
+use yesbrulka_reference::volt_var::Function;
 use yesbrulka_reference::whole;
 
 /// What the Rattle program has room for: a file's payload, and the room that it lends.
@@ -659,7 +661,7 @@ fn check_cases(cases: &mut Cases) {
 fn roof_check_cases(cases: &mut Cases) {
     let mut draw = Draw::from_seed(14);
     // One unit, document 003's inverter, and two steps of which the first has a weather.
-    let run = sticks::with(&roofs::run(1, 1, 0, &mut draw), |run| {
+    let run = sticks::with(&roofs::plain_run(1, 1, 0, &mut draw), |run| {
         let mut draw = Draw::from_seed(14);
         run.site.inverters = vec![inverters::document_inverter()];
         run.readings = vec![sticks::power_reading(&mut draw), Reading::Missing];
@@ -1190,6 +1192,116 @@ fn current_figure_cases(cases: &mut Cases) {
     }
 }
 
+/// One unit under a function, and three steps: one with a weather and a voltage, one with a voltage, and a missing one
+/// with neither.
+fn led_run(draw: &mut Draw) -> Run {
+    let mut run = voltages::led(roofs::plain_run(1, 0, 0, draw), draw);
+    run.readings = vec![sticks::power_reading(draw), sticks::power_reading(draw), Reading::Missing];
+    run.weather = vec![Some(Weather { irradiance: 0.8, temperature: 25.0 })];
+    run.voltages = vec![Some(10_100), Some(20_000)];
+    run
+}
+
+/// Files with functions and voltages.
+fn voltage_check_cases(cases: &mut Cases) {
+    let mut draw = Draw::from_seed(22);
+    let run = led_run(&mut draw);
+    let fields = sticks::fields(&run);
+    let first = voltages::first_function(&run);
+    // The file's end before each field from the function on, and within it.
+    for at in first..fields.len() {
+        let (before, through) = (sticks::bytes(&fields[..at]), sticks::bytes(&fields[..=at]));
+        for length in [before.len(), before.len() + 1, before.len() + 2, through.len() - 1] {
+            cases.check(&through[..length]);
+        }
+    }
+    // Function, curve and first voltage left out, said twice, of another tag or length, or any field in their place.
+    for at in [first, first + 1, first + 3] {
+        field_cases(cases, &fields, at, &[6, 8, 0x0A, 0x8B], &mut draw);
+    }
+    // A voltage and a function before and behind every field, in a file with a function and in one without.
+    let more = [fields[first].clone(), voltages::voltage_field(9_900)];
+    for fields in [&fields, &sticks::fields(&voltages::without(&run))] {
+        for at in 2..=fields.len() {
+            for more in more.chunks(1) {
+                cases.check(&sticks::bytes(&[&fields[..at], more, &fields[at..]].concat()));
+            }
+        }
+    }
+    voltage_value_cases(cases, &run, &mut draw);
+    // Several things wrong at once.
+    for _ in 0..50 {
+        cases.check(&voltages::damaged_file(&mut draw));
+    }
+    for _ in 0..12 {
+        cases.check(&voltages::shuffled_file(&mut draw));
+    }
+}
+
+/// Functions, their curves and voltages at the ends of their ranges and beside them.
+fn voltage_value_cases(cases: &mut Cases, run: &Run, draw: &mut Draw) {
+    let bad = voltages::BAD_BASES.iter().chain(&voltages::BAD_CURVES);
+    for change in voltages::ENDS.iter().chain(bad) {
+        cases.check(&sticks::file(&voltages::with_function(run, change)));
+    }
+    for voltage in voltages::BAD_VOLTAGES.into_iter().chain([0, 1, 19_999, 20_000]) {
+        cases.check(&sticks::file(&voltages::with_voltage(run, 1, voltage)));
+    }
+    let curve = &run.site.function.as_ref().expect("a run that is led").curve;
+    for bad in roofs::bad_curves(curve, draw) {
+        cases.check(&instead(&sticks::fields(run), voltages::first_function(run) + 1, bad));
+    }
+}
+
+/// Runs by hand of a unit and an inverter whose watts and vars the voltage parts: before the first voltage, at and
+/// beside each point, beyond both ends, and without one.
+fn voltage_figure_cases(cases: &mut Cases) {
+    for (edition, base) in [(1, 0), (1, 1), (2, 0), (2, 1), (3, 0), (3, 1)] {
+        let run = sticks::with(&sticks::whole_case(), |run| {
+            let unit = Unit { kva: 1_000, idle_loss: 90, var_request: -70, priority: 1, ..run.site.units[0] };
+            run.site.edition = edition;
+            run.site.units = vec![Unit { provide: 600, absorb: 900, ..unit }];
+            run.site.inverters =
+                vec![Inverter { var_request: 4_000, priority: 1, ..inverters::document_inverter() }];
+            let curve = Curve::through(&[(9_200, 10_000), (9_800, 1), (10_200, -3), (10_800, -10_000)]);
+            run.site.function = Some(Function { base, curve });
+            let power = Reading::Power(Phases { first: 0.6, second: 0.0, third: 0.0 });
+            run.readings = [vec![Reading::Missing; 6], vec![power; 6]].concat();
+            let noon = Some(Weather { irradiance: 0.6, temperature: 25.0 });
+            run.weather = vec![None, None, noon, noon, None, noon, noon, noon, noon, None, noon, noon];
+            let at = |voltage| Some(voltage);
+            run.voltages = vec![None, at(0), None, at(9_200), at(9_201), at(9_799), at(9_800), at(10_201)];
+            run.voltages.extend([at(10_799), None, at(10_800), at(20_000)]);
+        });
+        cases.run_of(0, &run);
+    }
+}
+
+/// Runs under functions, of few steps, to keep the stored files small.
+fn voltage_run_cases(cases: &mut Cases) {
+    let mut draw = Draw::from_seed(23);
+    voltage_figure_cases(cases);
+    let run = voltages::run(2, 1, 3, &mut draw);
+    for end in voltages::ENDS {
+        cases.run_of(0, &voltages::with_function(&run, end));
+    }
+    // Rooms that fit, are longer, or fall short, with inverters or without.
+    for round in 0..70 {
+        let (units, steps) = (1 + round % 2, 1 + draw.below(4) as usize);
+        let more = draw.one_of(&[0, 0, 0, 0, 1, 40, -1]);
+        cases.run_of(more, &voltages::run(units, round % 3 / 2, steps, &mut draw));
+    }
+    cases.run_of(0, &voltages::run(64, 1, 2, &mut draw));
+    cases.run_of(0, &voltages::run(1, 32, 2, &mut draw));
+    // Refused files, where the room would do.
+    for _ in 0..20 {
+        cases.run(600, &voltages::damaged_file(&mut draw));
+    }
+    let mut fields = sticks::fields(&voltages::with_voltage(&run, 1, 10_000));
+    voltages::without_function(&mut fields);
+    cases.run(600, &sticks::bytes(&fields));
+}
+
 fn main() -> ExitCode {
     let names: Vec<_> = env::args_os().skip(1).collect();
     if names.len() != 2 {
@@ -1219,6 +1331,8 @@ fn main() -> ExitCode {
     older_figure_cases(&mut cases);
     current_check_cases(&mut cases);
     current_run_cases(&mut cases);
+    voltage_check_cases(&mut cases);
+    voltage_run_cases(&mut cases);
     for (name, bytes) in names.iter().zip([cases.records.as_slice(), cases.answers.as_bytes()]) {
         if let Err(error) = fs::write(name, bytes) {
             eprintln!("cases: {}: {error}", name.to_string_lossy());

@@ -1,7 +1,7 @@
 //! Writes the sample sticks: `sticks FOLDER`.
 //!
-//! `season.stick`, `harvest.stick`, `roof.stick`, `vineyard.stick`, `mill.stick` and `dairy.stick` are complete; each
-//! of the others is one of these, or one like it, after one thing that happens to sticks;
+//! `season.stick`, `harvest.stick`, `roof.stick`, `vineyard.stick`, `mill.stick`, `dairy.stick` and `voltage.stick` are
+//! complete; each of the others is one of these, or one like it, after one thing that happens to sticks;
 //! `refused-06-three-faults.stick` after three of them, and `rescued-three-faults.stick` is what a rescue leaves of
 //! it. The same files come out every time, so that the gate can compare them with the stored ones.
 
@@ -15,11 +15,12 @@ use yesbrulka_reference::curve::Curve;
 use yesbrulka_reference::reading::{Phases, Reading};
 use yesbrulka_reference::rescue;
 use yesbrulka_reference::samples::sticks::{self, Field};
-use yesbrulka_reference::samples::{currents, curves, roofs};
+use yesbrulka_reference::samples::{currents, curves, roofs, voltages};
 use yesbrulka_reference::site::Site;
 use yesbrulka_reference::solar::{Inverter, Weather};
 use yesbrulka_reference::stick::{Run, MISSING};
 use yesbrulka_reference::storage::Unit;
+use yesbrulka_reference::volt_var::Function;
 
 /// Two weeks of hours.
 const STEPS: usize = 14 * 24;
@@ -86,9 +87,11 @@ fn season() -> Run {
             phase: 0,
             connections: Vec::new(),
             inverters: Vec::new(),
+            function: None,
         },
         readings: (0..STEPS).map(reading).collect(),
         weather: Vec::new(),
+        voltages: Vec::new(),
     }
 }
 
@@ -189,9 +192,11 @@ fn harvest() -> Run {
             phase: 0,
             connections: Vec::new(),
             inverters: Vec::new(),
+            function: None,
         },
         readings: (0..STEPS).map(harvest_reading).collect(),
         weather: Vec::new(),
+        voltages: Vec::new(),
     }
 }
 
@@ -300,9 +305,11 @@ fn roof() -> Run {
             phase: 0,
             connections: Vec::new(),
             inverters: roof_inverters(),
+            function: None,
         },
         readings: (0..DAY).map(roof_reading).collect(),
         weather: (0..DAY).map(roof_weather).collect(),
+        voltages: Vec::new(),
     }
 }
 
@@ -533,9 +540,11 @@ fn vineyard() -> Run {
             phase: 0,
             connections: Vec::new(),
             inverters: roof_inverters()[..1].to_vec(),
+            function: None,
         },
         readings: (0..DAY).map(vineyard_reading).collect(),
         weather: (0..DAY).map(roof_weather).collect(),
+        voltages: Vec::new(),
     }
 }
 
@@ -633,9 +642,11 @@ fn mill() -> Run {
             phase: 0,
             connections: Vec::new(),
             inverters: Vec::new(),
+            function: None,
         },
         readings: (0..DAY).map(mill_reading).collect(),
         weather: Vec::new(),
+        voltages: Vec::new(),
     }
 }
 
@@ -712,9 +723,11 @@ fn dairy() -> Run {
             phase: 4,
             connections: connections.map(|(phases, volts)| Connection { phases, volts }).to_vec(),
             inverters: roof_inverters()[..1].to_vec(),
+            function: None,
         },
         readings: (0..WEEK).map(dairy_reading).collect(),
         weather: (0..WEEK).map(dairy_weather).collect(),
+        voltages: Vec::new(),
     }
 }
 
@@ -762,6 +775,132 @@ fn dairy_examples() -> Vec<(&'static str, u32, Vec<u8>)> {
         ),
         // A clamp was put on the wrong way round.
         ("refused-06-current-below-zero.stick", 6, with(&|run| set_second(run, 88, (-63.2f64).to_bits()))),
+    ]
+}
+
+/// Two days of hours.
+const DAYS: usize = 2 * 24;
+
+/// A co-operative at the end of a line whose voltage the sun lifts at noon and the evening lowers, in edition 2: a
+/// function leads the vars of three batteries and of two roofs, and its base is what the watts leave of each circle.
+/// The creamery's battery may absorb less than is asked of it at noon; the sawmill's would give vars first, and does
+/// not under this base; the pumps' runs empty in the evening.
+fn voltage() -> Run {
+    let kwh = 3_600_000;
+    let creamery = Unit {
+        rated: 300 * kwh,
+        reserve: 30 * kwh,
+        stored: 280 * kwh,
+        rating: 30_000,
+        kva: 33_000,
+        idle_loss: 160,
+        var_request: 5_000,
+        weight: 4,
+        inverter: 9_700,
+        charge: 9_600,
+        discharge: 9_600,
+        priority: 0,
+        provide: 33_000,
+        absorb: 15_000,
+    };
+    let sawmill = Unit {
+        rated: 180 * kwh,
+        reserve: 18 * kwh,
+        stored: 170 * kwh,
+        rating: 20_000,
+        kva: 20_000,
+        idle_loss: 110,
+        var_request: 0,
+        weight: 3,
+        priority: 1,
+        provide: 20_000,
+        absorb: 20_000,
+        ..creamery
+    };
+    let pumps = Unit {
+        rated: 25 * kwh,
+        reserve: 5 * kwh,
+        stored: 25 * kwh,
+        rating: 8_000,
+        kva: 9_000,
+        idle_loss: 50,
+        var_request: -1_000,
+        weight: 2,
+        provide: 9_000,
+        absorb: 9_000,
+        ..creamery
+    };
+    Run {
+        site: Site {
+            edition: 2,
+            seconds: 3_600,
+            units: vec![creamery, sawmill, pumps],
+            settings: Settings { mode: 1, target: 45_000, band: 3_000, factor: 700 },
+            phase: 0,
+            connections: Vec::new(),
+            inverters: roof_inverters()[..2].to_vec(),
+            function: Some(Function { base: 1, curve: voltages::operators_curve() }),
+        },
+        readings: (0..DAYS).map(voltage_reading).collect(),
+        weather: (0..DAYS).map(|step| Some(measured(SUN[step % 24], PANELS[step % 24]))).collect(),
+        voltages: (0..DAYS).map(recorded).collect(),
+    }
+}
+
+/// An hour's reading: the morning's milk, little at noon behind the roofs, and the saws in the evening. The meter was
+/// silent now and then.
+fn voltage_reading(step: usize) -> Reading {
+    if step % 19 == 13 {
+        return Reading::Missing;
+    }
+    // In tenths of a kW, of all three phases. The meter is behind the batteries: once these give, it shows less.
+    let load = match step % 24 {
+        6 => 640,
+        7..=8 => 455,
+        9..=10 => 300,
+        11..=15 => 120,
+        17 => 980,
+        18..=20 => 460,
+        21 => 380,
+        _ => 250,
+    };
+    let noise = (step * 31 % 17) as i32 - 8;
+    let kw = |part: i32| f64::from((load + noise) * part) / 1000.0;
+    Reading::Power(Phases { first: kw(37), second: kw(33), third: kw(30) })
+}
+
+/// An hour's voltage as it was recorded, in ten-thousandths of per unit: none until the recorder was set, none in three
+/// hours of the second morning, and none now and then.
+fn recorded(step: usize) -> Option<u16> {
+    if step < 2 || (29..32).contains(&step) || step % 13 == 11 {
+        return None;
+    }
+    let day = [
+        10_060, 10_080, 10_090, 10_100, 10_080, 10_020, 9_780, 9_840, 9_990, 10_190, 10_420, 10_610, 10_760,
+        10_830, 10_720, 10_520, 10_210, 9_520, 9_290, 9_170, 9_430, 9_760, 9_930, 10_010,
+    ];
+    Some(day[step % 24] + (step * 7 % 13) as u16)
+}
+
+/// The complete stick of the co-operative that the voltage leads, and what happened to others like it.
+fn voltage_examples() -> Vec<(&'static str, u32, Vec<u8>)> {
+    let run = voltage();
+    let fields = sticks::fields(&run);
+    vec![
+        ("voltage.stick", 0, sticks::bytes(&fields)),
+        // The recorder's voltages were copied to a stick whose site has no function.
+        ("refused-04-voltage-without-function.stick", 4, changed(&fields, &voltages::without_function)),
+        // For an hour the recorder wrote tenths of a volt.
+        ("refused-05-voltage-out-of-range.stick", 5, sticks::file(&voltages::with_voltage(&run, 26, 23_140))),
+        // The operator's curve was typed from the high voltage on.
+        (
+            "refused-05-volt-var-order.stick",
+            5,
+            sticks::file(&voltages::with_function(&run, |function| {
+                function.curve.x.reverse();
+                function.curve.y.reverse();
+            })),
+        ),
     ]
 }
 
@@ -834,6 +973,7 @@ fn examples() -> Vec<(&'static str, u32, Vec<u8>)> {
     all.push(("mill.stick", 0, sticks::file(&mill())));
     all.extend(rescue_examples());
     all.extend(dairy_examples());
+    all.extend(voltage_examples());
     all
 }
 
@@ -859,7 +999,7 @@ mod tests {
     use super::*;
     use yesbrulka_reference::rescue::{Kind, Rescued};
     use yesbrulka_reference::season::{self, Step};
-    use yesbrulka_reference::stick::{self, Answer, CURRENT, CURVE, END, INVERTER, POWER, WEATHER};
+    use yesbrulka_reference::stick::{self, Answer, CURRENT, CURVE, END, INVERTER, POWER, VOLTAGE, WEATHER};
 
     #[test]
     fn each_stick_is_refused_for_what_its_name_says() {
@@ -874,8 +1014,45 @@ mod tests {
         let numbers: Vec<u32> = examples().iter().map(|&(_, number, _)| number).collect();
         assert_eq!(
             numbers,
-            [0, 0, 1, 2, 3, 4, 5, 6, 7, 8, 9, 12, 0, 4, 4, 4, 5, 5, 6, 6, 0, 3, 5, 5, 0, 6, 0, 0, 4, 5, 6]
+            [
+                0, 0, 1, 2, 3, 4, 5, 6, 7, 8, 9, 12, 0, 4, 4, 4, 5, 5, 6, 6, 0, 3, 5, 5, 0, 6, 0, 0, 4, 5, 6,
+                0, 4, 5, 5
+            ]
         );
+    }
+
+    /// Without a function a result is what it was before there were any: its bytes, and one number for all of them.
+    #[test]
+    fn results_without_a_function_are_as_they_were() {
+        let results = [
+            (season(), 40_327, 0xefbd_6e1e_84a1_5da1),
+            (harvest(), 53_767, 0x0fd3_9da7_427a_1ec6),
+            (roof(), 19_879, 0x4775_cf57_bae8_3866),
+            (vineyard(), 18_151, 0x1935_85d2_2f56_66d5),
+            (mill(), 11_527, 0xbc81_834d_e2ed_15c0),
+            (dairy(), 17_887, 0xfa80_11ad_519f_e7f6),
+        ];
+        for (run, length, number) in results {
+            let result = season::run(&sticks::file(&run), length).unwrap();
+            let add = |sum: u64, byte: &u8| (sum ^ u64::from(*byte)).wrapping_mul(0x100_0000_01b3);
+            let found = result.iter().fold(0xcbf2_9ce4_8422_2325, add);
+            assert_eq!((result.len(), found), (length, number));
+        }
+    }
+
+    /// The place of what is wrong with each of the voltage's sticks: the first voltage, the one of an hour, and the
+    /// curve behind the function.
+    #[test]
+    fn the_sticks_of_the_voltage_are_refused_at_their_fields() {
+        let found: Vec<(u8, u32)> = voltage_examples()
+            .iter()
+            .skip(1)
+            .map(|(_, _, bytes)| (stick::check(bytes), bytes))
+            .map(|(answer, bytes)| (bytes[answer.place as usize], answer.steps))
+            .collect();
+        assert_eq!(found, [(VOLTAGE, 2), (VOLTAGE, 26), (CURVE, 0)]);
+        let place = stick::check(&voltage_examples()[3].2).place;
+        assert_eq!(place, 9 + 3 * 60 + 15 + 2 * 286 + 4);
     }
 
     /// The place of what is wrong with each of the vineyard's sticks: its second unit, its third, and the fleet.
@@ -1022,6 +1199,37 @@ mod tests {
         assert_eq!(steps.iter().filter(|step| of(step, 0).1.stored <= run.site.units[0].reserve).count(), 0);
         let in_2 = sticks::with(&run, |run| run.site.edition = 2);
         assert_eq!(stick::check(&sticks::file(&in_2)).place, 9 + 2 * 60);
+    }
+
+    /// What a reader of the voltage's result is to see: vars that are provided in the evening and absorbed at noon,
+    /// none about 1 per unit, the own requests before the first voltage, vars kept where none was recorded, a limit
+    /// that cuts, watts before vars, vars that are kept beside more watts, inverters that are off and are asked all the
+    /// same, and a battery that runs empty.
+    #[test]
+    fn the_voltage_is_worth_reading() {
+        let run = stick::read(&sticks::file(&voltage())).unwrap();
+        let silent = (0..DAYS).filter(|&step| run.voltage_of(step).is_none()).count();
+        assert_eq!((run.readings.len(), silent, run.site.inverters.len()), (DAYS, 8, 2));
+        let steps = season::steps(&run);
+        let count = |of: &dyn Fn(&Step) -> bool| steps.iter().filter(|step| of(step)).count();
+        let given = |step: &Step, unit: usize| step.records[unit].stepped.vars;
+        let asked = |step: &Step, unit: usize| step.records[unit].vars_asked;
+        assert_eq!([0, 1, 2].map(|unit| given(&steps[0], unit)), [5_000, 0, -1_000]);
+        assert!(count(&|step| given(step, 1) > 5_000) >= 6 && count(&|step| given(step, 1) < -5_000) >= 6);
+        assert!(count(&|step| (0..3).all(|unit| asked(step, unit) == 0)) > 10);
+        for step in (2..DAYS).filter(|&step| run.voltage_of(step).is_none()) {
+            assert!((0..3).all(|unit| asked(&steps[step], unit) == asked(&steps[step - 1], unit)));
+        }
+        assert!(count(&|step| asked(step, 0) < -15_000 && given(step, 0) == -15_000) >= 4);
+        let noon = &steps[37];
+        assert!(run.voltage_of(37).is_none() && asked(noon, 0) < -30_000 && given(noon, 0) == -15_000);
+        assert!(noon.solar[0].vars_asked < noon.solar[0].produced.vars);
+        assert!(count(&|step| step.records[1].stepped.watts > 10_000 && given(step, 1) > 8_000) >= 2);
+        let off = |step: &Step| !step.solar[0].produced.on && step.solar[0].vars_asked != 0;
+        assert!(count(&off) >= 4);
+        assert!(count(&|step| step.solar[1].produced.on && step.solar[1].produced.vars < -10_000) >= 4);
+        let empty = |step: &Step| step.records[2].request > 0 && step.records[2].stepped.watts < 0;
+        assert!(count(&empty) >= 2, "{}", count(&empty));
     }
 
     /// What a reader of the dairy's result is to see: a peak in each morning and evening that calls every battery for

@@ -3,7 +3,7 @@
 
 use super::fleets::{self, PassCall};
 use super::sticks::{self, Field};
-use super::{older, roofs, seasons, Draw};
+use super::{older, roofs, seasons, voltages, Draw};
 use crate::connection::{Connection, Connections};
 use crate::controller::{pass_current, Passed, Settings};
 use crate::ranges::{BAND, CURRENT_MEASURE, TARGET};
@@ -309,9 +309,10 @@ pub fn plain_run(modes: &[u8], units: usize, inverters: usize, steps: usize, dra
     connected(run, draw)
 }
 
-/// The same of any edition.
+/// The same of any edition; now and then a function leads it.
 pub fn run_in(modes: &[u8], units: usize, inverters: usize, steps: usize, draw: &mut Draw) -> Run {
     let run = plain_run(modes, units, inverters, steps, draw);
+    let run = voltages::or_led(run, draw);
     older::any_edition(run, draw)
 }
 

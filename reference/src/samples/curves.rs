@@ -36,7 +36,7 @@ fn rising(kind: &Kind, points: usize, draw: &mut Draw) -> Vec<i32> {
         1 => (start, start + 60),
         2 => (end - 60, end),
         3 => (start.max(-40), 40),
-        4 => (start.max(-30_000), 90_000),
+        4 => (start.max(-30_000), end.min(90_000)),
         _ => (start.max(0), 1_500),
     };
     let mut found: Vec<i32> = (0..points).map(|_| within(low, high, draw)).collect();
@@ -94,14 +94,14 @@ pub fn x_of(curve: &Curve, draw: &mut Draw) -> i64 {
 #[cfg(test)]
 mod tests {
     use super::*;
-    use crate::curve::{EFF, WARM};
+    use crate::curve::{EFF, VOLT_VAR, WARM};
 
     #[test]
     fn no_curve_is_outside_its_ranges() {
         let mut draw = Draw::from_seed(102);
         let (mut two, mut sixteen, mut ends) = (0, 0, [0; 4]);
         for _ in 0..20_000 {
-            for kind in [WARM, EFF] {
+            for kind in [WARM, EFF, VOLT_VAR] {
                 let x = within(*kind.x.start(), *kind.x.end(), &mut draw);
                 let curve = curve(&kind, &mut draw);
                 assert!(curve.lengths_fit() && curve.in_range(&kind), "{curve:?}");

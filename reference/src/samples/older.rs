@@ -223,7 +223,7 @@ mod tests {
     fn every_refusal_is_among_the_damages() {
         let mut draw = Draw::from_seed(122);
         let mut met = BTreeMap::new();
-        for round in 0..80_000 {
+        for round in 0..100_000 {
             let file = if round % 4 == 0 { shuffled_file(&mut draw) } else { damaged_file(&mut draw) };
             let answer = stick::check(&file);
             let edition = file.get(3).copied().unwrap_or(0);

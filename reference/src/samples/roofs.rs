@@ -3,12 +3,12 @@
 
 use super::inverters::{self, SolarCall};
 use super::sticks::{self, Damage, Field};
-use super::{currents, curves, seasons, Draw};
+use super::{currents, curves, seasons, voltages, Draw};
 use crate::curve::{Curve, Kind, EFF, WARM};
 use crate::octets::{put_f64, put_i32, put_u16, put_u32, put_u8};
 use crate::ranges::MOST_INVERTERS;
 use crate::solar::{Inverter, Weather};
-use crate::stick::{length_of, Run, CURVE, INVERTER, TAGS, WEATHER};
+use crate::stick::{length_of, Run, CURVE, FUNCTION, INVERTER, TAGS, VOLTAGE, WEATHER};
 
 /// The points that a curve's field has room for.
 const ROOM: usize = 16;
@@ -40,7 +40,7 @@ pub fn put_weather(value: &mut Vec<u8>, weather: Weather) {
     put_f64(value, weather.temperature);
 }
 
-fn curve_field(curve: &Curve) -> Field {
+pub fn curve_field(curve: &Curve) -> Field {
     let mut value = Vec::new();
     put_curve(&mut value, curve);
     Field::new(CURVE, value)
@@ -134,8 +134,14 @@ fn weather(all: &[Inverter], draw: &mut Draw) -> Weather {
     Weather { irradiance, temperature }
 }
 
-/// A run with inverters that is not to be refused, in a mode of power.
+/// A run with inverters that is not to be refused, in a mode of power; now and then a function leads it.
 pub fn run(units: usize, inverters: usize, steps: usize, draw: &mut Draw) -> Run {
+    let run = plain_run(units, inverters, steps, draw);
+    voltages::or_led(run, draw)
+}
+
+/// The same without a function.
+pub fn plain_run(units: usize, inverters: usize, steps: usize, draw: &mut Draw) -> Run {
     let run = seasons::run(units, steps, draw);
     with_roof(run, inverters, draw)
 }
@@ -190,7 +196,8 @@ pub fn first_inverter(run: &Run) -> usize {
 
 /// Where the fields of steps begin among a run's fields.
 pub fn first_step(run: &Run) -> usize {
-    first_inverter(run) + 3 * run.site.inverters.len()
+    let of_function = if run.site.function.is_some() { 2 } else { 0 };
+    first_inverter(run) + 3 * run.site.inverters.len() + of_function
 }
 
 /// Curve fields that are to be refused for what no list of points can say: a count that is none, or another than that
@@ -224,19 +231,20 @@ pub fn bad_curves(curve: &Curve, draw: &mut Draw) -> Vec<Field> {
 /// A field of any tag of the list whose values are good in some file.
 pub fn any_field(draw: &mut Draw) -> Field {
     let three = inverter_fields(&inverter(draw));
-    match draw.below(10) {
+    match draw.below(12) {
         0 | 1 => three[0].clone(),
         2 => three[1].clone(),
         3 => three[2].clone(),
         4 | 5 => weather_field(inverters::weather(draw)),
         6 => sticks::reading_field(&currents::current_reading(draw)),
         7 => currents::any_connections(draw),
+        8 | 9 => voltages::any_field(draw),
         _ => sticks::any_field(draw),
     }
 }
 
-/// One piece of damage to a file's fields at the field of a number; to the fields of inverters and weather, one of
-/// theirs for the most part.
+/// One piece of damage to a file's fields at the field of a number; to the fields of inverters, weather, functions and
+/// voltages, one of theirs for the most part.
 pub fn damage(fields: &mut Vec<Field>, at: usize, draw: &mut Draw) {
     let at = at.min(fields.len() - 1);
     let whole = length_of(fields[at].tag).map_or(false, |length| fields[at].value.len() == length.into());
@@ -259,12 +267,15 @@ pub fn damage(fields: &mut Vec<Field>, at: usize, draw: &mut Draw) {
         4..=9 if whole && fields[at].tag == WEATHER => {
             fields[at] = weather_field(inverters::bad_weather(draw));
         }
+        4..=9 if whole && [FUNCTION, VOLTAGE].contains(&fields[at].tag) => {
+            voltages::spoil(&mut fields[at], draw);
+        }
         _ => sticks::damage(fields, at, draw),
     }
 }
 
 /// Sets the count, a point's x or y, or bytes past the points to something else, mostly near what it was.
-fn spoil_curve(value: &mut [u8], draw: &mut Draw) {
+pub fn spoil_curve(value: &mut [u8], draw: &mut Draw) {
     let place = 1 + 4 * draw.below(32) as usize;
     let word = i32::from_be_bytes(value[place..place + 4].try_into().expect("four bytes"));
     let other = draw.one_of(&[0, word - word.signum(), word.wrapping_neg(), 10_001, 20_001, -1, 100_000_001]);

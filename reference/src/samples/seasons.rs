@@ -33,8 +33,17 @@ pub fn run_in(modes: &[u8], units: usize, steps: usize, draw: &mut Draw) -> Run 
     set_levels(&mut settings, size, draw);
     let phase = draw.below(6) as u8;
     let readings = readings(steps, &settings, phase, size as i64, draw);
-    let site = Site { edition: 1, seconds, units, settings, phase, connections, inverters: Vec::new() };
-    Run { site, readings, weather: Vec::new() }
+    let site = Site {
+        edition: 1,
+        seconds,
+        units,
+        settings,
+        phase,
+        connections,
+        inverters: Vec::new(),
+        function: None,
+    };
+    Run { site, readings, weather: Vec::new(), voltages: Vec::new() }
 }
 
 /// The current that a power is to a connection, or the largest that a target can be.

@@ -1,9 +1,8 @@
 //! Run files: complete ones, and every kind of damage that can come over one.
 
 use super::fleets::{self, StudyCall};
-use super::roofs;
 use super::units::{self, StepCall};
-use super::Draw;
+use super::{roofs, voltages, Draw};
 use crate::connection::Connection;
 use crate::controller::Settings;
 use crate::octets::{put_f64, put_i32, put_u16, put_u32, put_u64, put_u8};
@@ -96,7 +95,7 @@ pub fn end_field(count: u32) -> Field {
 
 /// The fields that say a run.
 pub fn fields(run: &Run) -> Vec<Field> {
-    let Site { edition, seconds, units, settings, phase, connections, inverters } = &run.site;
+    let Site { edition, seconds, units, settings, phase, connections, inverters, function } = &run.site;
     let mut fields = vec![fleet_field(*edition, units.len() as u8, *seconds)];
     fields.extend(units.iter().map(|unit| unit_field(*edition, unit)));
     let mut value = vec![settings.mode];
@@ -109,8 +108,10 @@ pub fn fields(run: &Run) -> Vec<Field> {
         fields.push(connections_field(connections));
     }
     fields.extend(inverters.iter().flat_map(roofs::inverter_fields));
+    fields.extend(function.iter().flat_map(voltages::function_fields));
     for (step, reading) in run.readings.iter().enumerate() {
         fields.extend(run.weather_of(step).map(roofs::weather_field));
+        fields.extend(run.voltage_of(step).map(voltages::voltage_field));
         fields.push(reading_field(reading));
     }
     fields.push(end_field(run.readings.len() as u32));
@@ -155,9 +156,11 @@ pub fn whole_case() -> Run {
             phase: 0,
             connections: Vec::new(),
             inverters: Vec::new(),
+            function: None,
         },
         readings: vec![Reading::Missing],
         weather: Vec::new(),
+        voltages: Vec::new(),
     }
 }
 
@@ -187,6 +190,11 @@ fn powers(draw: &mut Draw) -> [f64; 3] {
     [(); 3].map(|()| converted_by(reading::watts, draw))
 }
 
+/// A power reading of so many kW in the first phase and none in the others.
+pub fn power_of(kw: f64) -> Reading {
+    Reading::Power(Phases::of([kw, 0.0, 0.0]))
+}
+
 /// A power reading that is not to be refused.
 pub fn power_reading(draw: &mut Draw) -> Reading {
     Reading::Power(Phases::of(powers(draw)))
@@ -205,11 +213,13 @@ pub fn run(units: usize, steps: usize, draw: &mut Draw) -> Run {
             phase: draw.below(6) as u8,
             connections: Vec::new(),
             inverters: Vec::new(),
+            function: None,
         },
         readings: (0..steps)
             .map(|_| if draw.below(missing) == 0 { Reading::Missing } else { power_reading(draw) })
             .collect(),
         weather: Vec::new(),
+        voltages: Vec::new(),
     }
 }
 

@@ -2,10 +2,10 @@
 //! and sticks of any size.
 
 use super::sticks::{self, Field};
-use super::{currents, inverters, older, roofs, Draw};
-use crate::controller::Settings;
+use super::{currents, inverters, older, roofs, voltages, Draw};
 use crate::reading::Reading;
-use crate::stick::{Run, MISSING};
+use crate::site::Site;
+use crate::stick::{Run, MISSING, VOLTAGE};
 
 /// A damaged file, and the run that is left of it.
 #[derive(Clone, Debug)]
@@ -32,27 +32,53 @@ fn spoiled(run: Run, draw: &mut Draw) -> (Run, Run) {
     (spoiled, left)
 }
 
-/// A field that may not stand among the steps. Where none has begun, connections, an inverter or a curve would be
-/// refused.
+/// A field that may not stand among the steps. Where none has begun, connections, an inverter, a curve or a function
+/// would be refused.
 fn stray(first: bool, draw: &mut Draw) -> Field {
     let run = currents::plain_run(&[1, 4], 1, 1, 0, draw);
+    let run = voltages::led(run, draw);
     let most = if first { roofs::first_inverter(&run) - 1 } else { roofs::first_step(&run) };
     let at = draw.below(most as u64) as usize;
     sticks::fields(&run)[at].clone()
 }
 
+/// A voltage that may not stand where it is put, before the last field of a step, or has no good value; where a
+/// function leads the run it takes the place of the one that is there.
+fn bad_voltage(fields: &mut Vec<Field>, site: &Site, draw: &mut Draw) {
+    let last = fields.len() - 1;
+    if site.function.is_none() {
+        fields.insert(last, voltages::voltage_field(draw.below(20_001) as u16));
+        return;
+    }
+    let bad = voltages::voltage_field(draw.one_of(&voltages::BAD_VOLTAGES));
+    match fields.iter().position(|field| field.tag == VOLTAGE) {
+        Some(at) if draw.below(2) == 0 => fields[at] = bad,
+        // A second one.
+        Some(at) => fields.insert(at, fields[at].clone()),
+        None => fields.insert(last, bad),
+    }
+}
+
+/// A weather, a voltage or both without their reading.
+fn unread(site: &Site, steps: u32, draw: &mut Draw) -> Vec<Field> {
+    let weather = roofs::weather_field(inverters::weather(draw));
+    let voltage = voltages::voltage_field(draw.below(20_001) as u16);
+    let mut fields = match draw.below(3) {
+        _ if site.function.is_none() => vec![weather],
+        0 => vec![weather],
+        1 => vec![voltage],
+        _ => vec![weather, voltage],
+    };
+    fields.push(sticks::end_field(steps));
+    fields
+}
+
 /// The fields of a step, or the end field, with a fault at which a rescue ends and leaves the steps before it; behind
 /// them the rest of the file, where there is more of it.
-fn broken(
-    mut fields: Vec<Field>,
-    settings: &Settings,
-    steps: u32,
-    rest: &[Field],
-    draw: &mut Draw,
-) -> Vec<u8> {
+fn broken(mut fields: Vec<Field>, site: &Site, steps: u32, rest: &[Field], draw: &mut Draw) -> Vec<u8> {
     let at = draw.below(fields.len() as u64) as usize;
     let last = fields.len() - 1;
-    match draw.below(8) {
+    match draw.below(9) {
         0 => {
             // The copy stopped here, between two fields or within one.
             let (edge, mut bytes) = (sticks::bytes(&fields[..at]).len(), sticks::bytes(&fields));
@@ -66,9 +92,9 @@ fn broken(
         4 => fields[0] = roofs::weather_field(inverters::bad_weather(draw)),
         5 => fields[last] = sticks::end_field(draw.one_of(&sticks::bad_counts(steps))),
         // The meter was set to another kind.
-        6 => fields[last] = sticks::reading_field(&currents::misfit_reading(settings, draw)),
-        // A weather without its reading.
-        _ => fields = vec![roofs::weather_field(inverters::weather(draw)), sticks::end_field(steps)],
+        6 => fields[last] = sticks::reading_field(&currents::misfit_reading(&site.settings, draw)),
+        7 => bad_voltage(&mut fields, site, draw),
+        _ => fields = unread(site, steps, draw),
     }
     sticks::bytes(&[&fields, rest].concat())
 }
@@ -78,7 +104,8 @@ fn broken(
 pub fn wreck(draw: &mut Draw) -> Wreck {
     let (units, steps) = (1 + draw.below(2) as usize, draw.below(9) as usize);
     let inverters = draw.one_of(&[0, 0, 1, 2]);
-    let run = draw.one_of(&[older::run, older::run, currents::run])(units, inverters, steps, draw);
+    let makers = [older::run, older::run, currents::run, voltages::run];
+    let run = draw.one_of(&makers)(units, inverters, steps, draw);
     let (spoiled, left) = spoiled(run, draw);
     let fields = sticks::fields(&spoiled);
     if draw.below(4) == 0 {
@@ -90,13 +117,12 @@ pub fn wreck(draw: &mut Draw) -> Wreck {
     // The end field of the steps before stands where the next begins.
     let begins = |step: usize| sticks::fields(&first_steps(&spoiled, step)).len() - 1;
     let (from, to) = (begins(step), if step < steps { begins(step + 1) } else { fields.len() });
-    let settings = &left.site.settings;
-    let broken = broken(fields[from..to].to_vec(), settings, step as u32, &fields[to..], draw);
+    let broken = broken(fields[from..to].to_vec(), &left.site, step as u32, &fields[to..], draw);
     Wreck { file: [sticks::bytes(&fields[..from]), broken].concat(), left: first_steps(&left, step) }
 }
 
 /// A file of just so many bytes that lacks its end field, and how many steps it has: those of the run, and then
-/// as many of all four lengths that a step can have as there is room for.
+/// as many of all four lengths that a step without a voltage can have as there is room for.
 pub fn of_bytes(run: &Run, bytes: usize, draw: &mut Draw) -> (Vec<u8>, u32) {
     let missing = [MISSING, 0, 0];
     let weather = sticks::bytes(&[roofs::weather_field(inverters::weather(draw))]);
@@ -155,7 +181,7 @@ mod tests {
     #[test]
     fn files_of_every_length() {
         let mut draw = Draw::from_seed(141);
-        for bytes in (300..700).chain([2_097_151, 2_097_152]) {
+        for bytes in (450..850).chain([2_097_151, 2_097_152]) {
             let run = draw.one_of(&[older::run, currents::run])(1, 0, 2, &mut draw);
             let (file, steps) = of_bytes(&run, bytes, &mut draw);
             assert_eq!(stick::check(&file), Answer { number: 8, place: bytes as u64, steps });

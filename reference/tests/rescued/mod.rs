@@ -8,10 +8,10 @@ use crate::host::{lent_room, Host};
 use yesbrulka_reference::octets::f64_at;
 use yesbrulka_reference::ranges::MOST_BYTES;
 use yesbrulka_reference::rescue::{self, Change, Kind, Rescued, CHANGE};
-use yesbrulka_reference::samples::Draw;
+use yesbrulka_reference::samples::{sticks, Draw};
 use yesbrulka_reference::season;
 use yesbrulka_reference::solar::Weather;
-use yesbrulka_reference::stick::{self, Answer, WEATHER};
+use yesbrulka_reference::stick::{self, Answer, MISSING, VOLTAGE, WEATHER};
 use yesbrulka_reference::ROOM_TOO_SHORT;
 
 /// A room beside what it must hold, as the tally has it.
@@ -171,7 +171,8 @@ impl Comparison {
     }
 
     /// The tally: the call's number, what the check says of the file, whether a file (1) or an output (0) is too large,
-    /// the kinds of changes, and a good weather that was dropped with its reading.
+    /// the kinds of changes, a good weather that was dropped with its reading, and a good voltage that was, alone (1)
+    /// or behind its weather (2).
     fn note(&mut self, file: &[u8], rescued: &Result<Rescued, Answer>, number: u32) {
         let fault = stick::check(file);
         self.met.note("number", number);
@@ -179,12 +180,13 @@ impl Comparison {
         match rescued {
             Err(TOO_LARGE_AT_0) => self.met.note("bytes too many", (file.len() > MOST_BYTES).into()),
             Err(refused) => assert_eq!(*refused, fault, "a refusal is the check's"),
-            Ok(Rescued { changes, .. }) => {
+            Ok(rescued @ Rescued { changes, .. }) => {
                 let all: Vec<u32> = changes.iter().map(|change| change.kind as u32).collect();
                 all.iter().for_each(|&kind| self.met.note("kind", kind));
                 self.met.note("kinds", kinds(&all));
                 let dropped = changes.last().map_or(false, |last| drops_a_weather(file, last));
                 self.met.note("weather dropped with its reading", dropped.into());
+                self.met.note("voltage dropped with its reading", drops_a_voltage(file, rescued));
                 assert!(number == 0 || number == ROOM_TOO_SHORT);
             }
         }
@@ -230,6 +232,27 @@ fn drops_a_weather(file: &[u8], change: &Change) -> bool {
     change.kind == Kind::EndedHere
         && part.starts_with(&[WEATHER, 0, 16])
         && f64_at(part, 3).zip(f64_at(part, 11)).map_or(false, |(sun, warm)| converts(sun, warm))
+}
+
+/// The change that ends the file drops a voltage for the reading's sake, alone (1) or behind its weather (2): with a
+/// reading they could stand where the end does now.
+fn drops_a_voltage(file: &[u8], rescued: &Rescued) -> u32 {
+    let Rescued { output, steps, changes } = rescued;
+    let ended = changes.last().filter(|change| change.kind == Kind::EndedHere);
+    let part = ended.map_or(&[][..], |change| &file[change.place as usize..]);
+    let behind = |at: usize| part.get(at..at + 5).filter(|field| field[0] == VOLTAGE).is_some();
+    let (length, which) = match part.first() {
+        Some(&VOLTAGE) if behind(0) => (5, 1),
+        Some(&WEATHER) if behind(19) => (24, 2),
+        _ => return 0,
+    };
+    let close = sticks::bytes(&[sticks::end_field(steps + 1)]);
+    let read = [&output[..output.len() - 7], &part[..length], &[MISSING, 0, 0], &close].concat();
+    if stick::check(&read).number == 0 {
+        which
+    } else {
+        0
+    }
 }
 
 /// What the archive left, in rooms as long as the reference's.

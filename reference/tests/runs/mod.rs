@@ -10,6 +10,7 @@ use yesbrulka_reference::season::{self, Record, SolarRecord, Step};
 use yesbrulka_reference::solar::Inverter;
 use yesbrulka_reference::stick::Run;
 use yesbrulka_reference::storage::Unit;
+use yesbrulka_reference::volt_var::Function;
 use yesbrulka_reference::whole::largest_leg;
 
 /// Files and rooms go over in frames of about this many bytes.
@@ -82,13 +83,17 @@ impl Met {
                 }
                 let before = if k == 0 { 0 } else { steps[k - 1].records[i].request };
                 self.note_if(record.request.unsigned_abs() < before.unsigned_abs(), "a request taken back");
-                self.unit_step(run.site.edition, unit, stored[i], record);
+                let asked = asked_of(run, unit, record);
+                self.unit_step(run.site.edition, &asked, stored[i], record);
                 let idle = stored[i] == record.stepped.stored;
                 self.note_if_in(run.site.edition, idle && step.passed.is_none(), "idle without a reading");
                 stored[i] = record.stepped.stored;
             }
         }
         self.roof(run, steps);
+        if let Some(function) = &run.site.function {
+            self.led(run, function, steps);
+        }
     }
 
     /// What the weather and the inverters came to.
@@ -102,14 +107,16 @@ impl Met {
             self.note_if(weather && step.passed.is_none(), "a weather and no reading");
             for (i, inverter) in run.site.inverters.iter().enumerate() {
                 self.note_if(!weather && on[i], "on before a step without weather");
-                self.solar_step(inverter, on[i], &step.solar[i]);
+                let function = run.site.function.as_ref();
+                let priority = function.map_or(inverter.priority, |led| led.priority(inverter.priority));
+                self.solar_step(inverter, priority, on[i], &step.solar[i]);
                 on[i] = step.solar[i].produced.on;
             }
         }
     }
 
     /// What decided an inverter's step.
-    fn solar_step(&mut self, inverter: &Inverter, before: bool, record: &SolarRecord) {
+    fn solar_step(&mut self, inverter: &Inverter, priority: u8, before: bool, record: &SolarRecord) {
         let made = record.produced;
         let (dc, kva) = (u128::from(made.dc) * 10_000, u128::from(inverter.kva));
         let (cut_in, cut_out) = (u128::from(inverter.cut_in) * kva, u128::from(inverter.cut_out) * kva);
@@ -122,8 +129,8 @@ impl Met {
         self.note_if(dc == cut_out, "at cut-out");
         if made.on {
             let asked = inverter.ac(made.dc).min(inverter.most_watts());
-            let vars = inverter.var_request.unsigned_abs();
-            self.note("inverter's priority", inverter.priority.into());
+            let vars = record.vars_asked.unsigned_abs();
+            self.note("inverter's priority", priority.into());
             self.note_if(asked < inverter.ac(made.dc), "watts cut by the limit");
             self.note_if((made.watts as u64) < asked, "watts cut by the inverter's circle");
             self.note_if(made.vars.unsigned_abs() < vars, "an inverter's vars cut");
@@ -172,6 +179,124 @@ impl Met {
             self.note_if(still && stored < unit.rated, "had too little room");
         }
     }
+}
+
+/// A unit as a step has it: with the vars that were requested, and the priority that counts.
+fn asked_of(run: &Run, unit: &Unit, record: &Record) -> Unit {
+    let function = run.site.function.as_ref();
+    let priority = function.map_or(unit.priority, |function| function.priority(unit.priority));
+    Unit { var_request: record.vars_asked, priority, ..*unit }
+}
+
+impl Met {
+    /// What a function and the voltages came to.
+    fn led(&mut self, run: &Run, function: &Function, steps: &[Step]) {
+        let base = function.base.into();
+        self.note("led, by base", base);
+        self.note("led, by edition and base", 10 * u32::from(run.site.edition) + base);
+        self.note_if(!steps.is_empty() && run.voltage_of(0).is_none(), "first step without a voltage");
+        let some = (0..steps.len()).any(|step| run.voltage_of(step).is_some());
+        self.note_if(some, "a run with voltages");
+        for (k, step) in steps.iter().enumerate() {
+            let voltage = run.voltage_of(k);
+            match voltage {
+                Some(voltage) => self.voltage(function, voltage),
+                None => self.note("a step without a voltage, by base", base),
+            }
+            for (i, (unit, record)) in run.site.units.iter().zip(&step.records).enumerate() {
+                self.led_unit(run, function, voltage, &asked_of(run, unit, record), record);
+                let before = k.checked_sub(1).map(|before| steps[before].records[i]);
+                let less = |before: &Record| before.stepped.vars != before.vars_asked;
+                if voltage.is_none() && before.as_ref().map_or(false, less) {
+                    self.note("kept though less was given, by base", base);
+                }
+                let first = unit.priority == 1 && record.request != 0;
+                self.note_if(first && base == 1, "vars first under base 1");
+            }
+            for (inverter, record) in run.site.inverters.iter().zip(&step.solar) {
+                self.note("led inverter's step, by base", base);
+                let off = !record.produced.on && record.vars_asked != 0;
+                let kept = off && voltage.is_none() && record.vars_asked != inverter.var_request;
+                if off {
+                    self.note("off and requested, by base", base);
+                }
+                self.note_if(kept, "off, with vars kept");
+                self.note_if(
+                    record.produced.on && off_before(steps, k, record),
+                    "kept vars given once it is on",
+                );
+            }
+        }
+    }
+
+    /// Where a voltage lies beside the curve's points, and what the curve says there.
+    fn voltage(&mut self, function: &Function, voltage: u16) {
+        let (x, points) = (i32::from(voltage), &function.curve.x);
+        let (first, last) = (points[0], points[points.len() - 1]);
+        self.note_if(voltage == 0, "voltage 0");
+        self.note_if(voltage == 20_000, "voltage 20,000");
+        self.note_if(x < first, "before the first point");
+        self.note_if(x > last, "after the last point");
+        self.note_if(points.contains(&x), "at a point");
+        self.note_if(points.contains(&(x - 1)) || points.contains(&(x + 1)), "beside a point");
+        self.note_if(first < x && x < last && !points.contains(&x), "between two points");
+        self.note("points", points.len() as u32);
+        let y = function.curve.at(x.into());
+        self.note_if(y < 0, "y below zero");
+        self.note_if(y > 0, "y above zero");
+        self.note_if(y == -10_000, "y at its lowest");
+        self.note_if(y == 10_000, "y at its highest");
+    }
+
+    /// What decided the vars of a led unit.
+    fn led_unit(
+        &mut self,
+        run: &Run,
+        function: &Function,
+        voltage: Option<u16>,
+        unit: &Unit,
+        record: &Record,
+    ) {
+        let (base, edition) = (u32::from(function.base), run.site.edition);
+        let Record { request, stepped, .. } = *record;
+        self.note("led unit's step, by base", base);
+        let of_edition = unit.of_edition(edition);
+        let limited = of_edition.limited_vars();
+        let watts = (stepped.watts + unit.grid_loss(edition) as i32).unsigned_abs();
+        let beside = |vars: u32| unit.kva.min(largest_leg(unit.kva, vars));
+        let most = if unit.priority == 1 { beside(limited.unsigned_abs()) } else { unit.kva };
+        let asked = request.unsigned_abs().min(most);
+        let by_limit = limited.unsigned_abs() < record.vars_asked.unsigned_abs().min(unit.kva);
+        let by_circle = stepped.vars.unsigned_abs() < limited.unsigned_abs();
+        if voltage.is_some() {
+            // Watts of an idle unit are others than those asked.
+            if request != 0 && watts != asked {
+                self.note("led by watts that the store cut, by base", base);
+            }
+            if by_limit {
+                self.note("led beyond a limit, by edition", edition.into());
+                self.note("led beyond a limit, by base", base);
+            }
+            assert!(base == 0 || !by_circle, "what the circle leaves is not cut by it");
+        }
+        if by_circle {
+            self.note("led and cut by the circle, by base", base);
+        }
+        self.note_if(
+            base == 0 && unit.priority == 1 && asked < request.unsigned_abs().min(unit.kva),
+            "led vars first",
+        );
+        self.note_if(stepped.vars < 0, "led vars below zero");
+        self.note_if(stepped.vars > 0, "led vars above zero");
+    }
+}
+
+/// The inverter was off in the step before, and what is requested is what was requested there.
+fn off_before(steps: &[Step], k: usize, record: &SolarRecord) -> bool {
+    let before = k.checked_sub(1).map(|before| steps[before].solar[usize::from(record.inverter)]);
+    before.map_or(false, |before| {
+        !before.produced.on && before.vars_asked == record.vars_asked && record.vars_asked != 0
+    })
 }
 
 impl Met {

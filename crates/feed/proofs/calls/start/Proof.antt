@@ -4,7 +4,7 @@ use Prim.Native.Nat.{ℕ}
 use mathlib.Core.Path.{ap, _∙_}
 use mathlib.Core.List.{List, []}
 use Rattle.octets.specs.BigEndian.{laid}
-use Rattle.solar.specs.Weather.{dark}
+use Rattle.site.specs.Site.{noneYet}
 use Rattle.fields.specs.declared.State.{State}
 use Rattle.kept.specs.Layout.{topOf}
 use Rattle.feed.proofs.CallLaws.{start-not, started}
@@ -39,7 +39,7 @@ returns-2 c =
     let t = u .before .before .before .before in
     let first = t .before .before in
     let e = first .before in
-    let put : State → List ℕ = λ st. laid (u .clear-stands .last .0) 0 (topOf (record { place = 0; state = st; site = 0; tail = 0; sun = dark }) []) in
+    let put : State → List ℕ = λ st. laid (u .clear-stands .last .0) 0 (topOf (record { place = 0; state = st; site = 0; tail = 0; due = noneYet }) []) in
     started (e .before .before .args .s .now) (e .if1 .left) (t .zero .last .0) (u .clear-stands .last .0) (p .put-top .last .0) (t .zero .ensures) (u .clear-stands .ensures)
     (p .put-top .ensures ∙ ap put (first .first .ensures))
 

@@ -28,9 +28,9 @@ pass-within-requires c κs =
     let m = t .before in
     let g = m .before .before in
     let s = g .before .before .before in
-    let (rd, st) = s .pre in (
+    let (rd, (stores, (asks, within))) = s .pre in (
       ask-sound (s .args .f .head) (s .args .rows .now) (s .args .stored .now) (s .args .requests .now) (s .args .r) (m .m .given .0 .0)
-          (sym (g .measured .ensures) ∙ m .m .given .1) (t .known-told .given .0 .1) (rd .sited) st,
+          (sym (g .measured .ensures) ∙ m .m .given .1) (t .known-told .given .0 .1) (rd .sited) stores asks within,
       rd .totals,
     )
 

@@ -10,10 +10,11 @@ ask-requires c κs = search needs
 
 give-all-requires : tie.Need-give-all-requires
 give-all-requires c κs =
-    let a = c .before .before .before .before in
-    let s = a .before .before .before .before .before in
-    let (rd, (st, f)) = s .pre in
-    (rd, (asked-held (siteIn (s .args .f) (s .args .rows .now)) (s .args .stored .now) (s .args .requests .now) (s .args .s) (a .ask .last .1 .1 .1 .1 .0) (a .ask .ensures) st, f))
+    let k = c .before .before .before .before .before in
+    let s = k .before .before .before .before .before in
+    let a = s .args in
+    let (rd, (st, (y, f))) = s .pre in
+    (rd, (asked-held (siteIn (a .f) (a .rows .now)) (a .m) (a .stored .now) (a .requests .now) (a .vars .now) (k .ask .last .1 .1 .1 .1 .0) (k .ask .ensures) st, (y, f)))
 
 same-length : tie.Need-same-length
 same-length c = search needs
@@ -24,24 +25,35 @@ same-length-2 c = search needs
 same-length-3 : tie.Need-same-length-3
 same-length-3 c = search needs
 
+same-length-4 : tie.Need-same-length-4
+same-length-4 c = search needs
+
 returns : tie.Need-returns
 returns c =
-    let g = c .before .before .before .before in
-    let a = g .before .before .before .before .before in
-    let s = a .before .before .before .before .before in
-    let (rd, (st, f)) = s .pre in
-    let site = siteIn (s .args .f) (s .args .rows .now) in
-    let asked = a .ask .last .1 .1 .1 .1 .0 in
+    let g = c .before .before .before .before .before in
+    let k = g .before .before .before .before .before .before in
+    let s = k .before .before .before .before .before in
+    let a = s .args in
+    let (rd, (st, (y, f))) = s .pre in
+    let site = siteIn (a .f) (a .rows .now) in
+    let asked = k .ask .last .1 .1 .1 .1 .0 in
     let left = g .give-all .last .1 .1 .1 .1 in
-    let (es, er) = g .give-all .ensures in (
-      step-standing site (s .args .stored .now) (s .args .requests .now) (s .args .s) asked (a .ask .ensures) (left .0) es,
+    let (es, (ev, er)) = g .give-all .ensures in (
+      step-standing site (a .m) (a .stored .now) (a .requests .now) (a .vars .now) asked (k .ask .ensures) (left .0) es (left .1 .0) ev,
       (
-        step-laid site (s .args .stored .now) (s .args .requests .now) (s .args .s) asked (a .ask .ensures) (s .args .k) (s .args .at) (s .args .room .now) (left .1 .0) er,
-        step-held site (s .args .stored .now) (s .args .requests .now) (s .args .s) asked (a .ask .ensures) (left .0) es (rd .sited) st,
+        step-laid site (a .m) (a .stored .now) (a .requests .now) (a .vars .now) asked (k .ask .ensures) (a .room .now) (left .1 .1 .0) er,
+        step-held site (a .m) (a .stored .now) (a .requests .now) (a .vars .now) asked (k .ask .ensures) (left .0) es (left .1 .0) ev (rd .sited) y st,
       ),
     )
 
 pub step-spec : {M : Type 1} → statement M
 step-spec =
     tie.close
-    (tie.spec ask-requires give-all-requires same-length same-length-2 same-length-3 returns)
+    (tie.spec
+    ask-requires
+    give-all-requires
+    same-length
+    same-length-2
+    same-length-3
+    same-length-4
+    returns)

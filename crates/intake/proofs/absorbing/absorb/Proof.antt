@@ -11,7 +11,7 @@ use Rattle.octets.specs.BigEndian.{laid}
 use Rattle.records.proofs.LayLaws.{nothing}
 use Rattle.kept.specs.declared.Mark.{Mark}
 use Rattle.kept.specs.Kept.{begun}
-use Rattle.kept.specs.Layout.{sitePlace, placeIn, tailBytes, sunKept, stateIn, topOf, standsOf, markIn, keptIn, bytesFor}
+use Rattle.kept.specs.Layout.{sitePlace, placeIn, tailBytes, stateIn, topOf, standsOf, markIn, keptIn, bytesFor}
 use Rattle.taking.specs.Chunk.{headIn, absorbed, resultsBy}
 use Rattle.taking.proofs.LeadLaws.{before-too}
 use Rattle.intake.specs.Posts.{Grown, Ahead, markAfter, leftBy, recordsOver}
@@ -156,7 +156,7 @@ returns-2 c =
       omega (arith, ap length none),
       (
         z .wait .ensures
-            ∙ ap (λ (x : Mark). topOf (markAfter x (a .next) (g .grow .result) (x .sun) (length w)) [] ++ standsOf [] [] [] ++ drop sitePlace (g .grow .last .0)) (mark-is k)
+            ∙ ap (λ (x : Mark). topOf (markAfter x (a .next) (g .grow .result) (x .due) (length w)) [] ++ standsOf [] [] [] [] ++ drop sitePlace (g .grow .last .0)) (mark-is k)
             ∙ waits-same (a .s .now) o w (a .next) l (g .grow .last .0) (g .grow .result) (grown g) f y,
         nothing (a .room .now) (a .out) ∙ ap (laid (a .room .now) (a .out)) (sym none),
       ),

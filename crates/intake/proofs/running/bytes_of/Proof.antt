@@ -1,6 +1,5 @@
 -- A site has at most 64 units and 64 inverters, so that the number of bytes fits.
 use native.Mathlib.Omega.{arith}
-use Rattle.stick.specs.Site.{siteOf, roofsOf}
 use Rattle.stretch.proofs.SiteLaws.{few-units, few-roofs, few-bytes}
 use Rattle.intake.proofs.SiteLaws.{bytes-are}
 use borrow.Author.Needs.{needs}
@@ -32,7 +31,7 @@ mul-result c =
 returns : tie.Need-returns
 returns c =
     let s = c .before .before .before in
-    bytes-are (siteOf (s .args .site .now)) (roofsOf (s .args .site .now)) (c .before .units .result) (c .roofs .result) (s .args .steps) (c .before .units .ensures) (c .roofs .ensures)
+    bytes-are (s .args .site .now) (c .before .units .result) (c .roofs .result) (s .args .steps) (c .before .units .ensures) (c .roofs .ensures)
 
 pub bytes-of-spec : {M : Type 1} → statement M
 bytes-of-spec =

@@ -19,8 +19,8 @@ returns c =
     let e = p .before .before .before .before in
     let s = e .before .before .before .before .before .before in
     let a = s .args in
-    let (long, (site, (tail, (few, (same, fewer))))) = s .pre in
-    kept-after (a .s .now) (a .k) (a .bytes .now) (a .stored .now) (a .requests .now) (a .on .now) long few fewer (e .put-stands .last .0) (p .put-top .last .0) (e .put-stands .ensures) (p .put-top .ensures)
+    let (long, (site, (tail, (few, (same, (many, fewer)))))) = s .pre in
+    kept-after (a .s .now) (a .k) (a .bytes .now) (a .stored .now) (a .requests .now) (a .vars .now) (a .on .now) long few many fewer (e .put-stands .last .0) (p .put-top .last .0) (e .put-stands .ensures) (p .put-top .ensures)
 
 pub keep-spec : {M : Type 1} → statement M
 keep-spec = tie.close (tie.spec put-stands-requires put-top-requires same-length returns)

@@ -1,16 +1,15 @@
--- The rows and the site's head are the site that its bytes say, and its inverters lie where the code finds them, so that the stretch is run over that site.
-use mathlib.Core.Path.{_≡_, ap, ap₂, _∙_}
-use mathlib.Core.List.{List}
+-- The rows and the site's head are the site that its bytes say, and its inverters and its function lie where the code finds them, so that the stretch is run
+-- over that plant.
+use mathlib.Core.Path.{_≡_, ap, _∙_}
 use lib.ListN.{length}
 use Rattle.octets.specs.BigEndian.{laid}
-use Rattle.solar.specs.Roof.{Roof}
-use Rattle.site.specs.Site.{Site}
-use Rattle.stick.specs.Site.{siteOf, roofsOf, stepsFrom}
-use Rattle.roofs.specs.Posts.{roofsHere}
-use Rattle.fleet.specs.Step.{standing}
+use Rattle.site.specs.Site.{Plant}
+use Rattle.stick.specs.Site.{siteOf, plantOf, stepsFrom}
 use Rattle.fleet.specs.Posts.{siteIn}
-use Rattle.stretch.specs.Stretch.{standsAfter, onsAfter, recordsFrom}
-use Rattle.stretch.proofs.RoofLaws.{roofs-there, roofs-read}
+use Rattle.stretch.specs.declared.Track.{Track}
+use Rattle.stretch.specs.Stretch.{standsAfter, recordsFrom}
+use Rattle.stretch.specs.Posts.{plantBy, standsBy}
+use Rattle.stretch.proofs.RoofLaws.{plant-read, planted}
 use Rattle.stretch.proofs.SiteLaws.{loaded-sited, frame-site}
 use Rattle.intake.proofs.SiteLaws.{held-alike, fit-alike}
 use borrow.Author.Needs.{needs}
@@ -24,6 +23,38 @@ head-requires c κs = search needs
 abbrev start : tie.After-head → tie.Start
 start h = h .before .before .before .before .before .before
 
+abbrev headed : tie.After-is-guided → tie.After-head
+headed g = g .before .before .before .before
+
+-- the track that the stretch takes, and the site that it has
+abbrev track : tie.After-is-guided → Track
+track g =
+    let c = start (headed g) .args .c in
+    record {
+      frame = g .before .before .before .framed .result;
+      first = g .before .before .roofs-place .result;
+      led = g .is-guided .result;
+      function = g .before .function-place .result;
+      at = c .head;
+      out = c .out;
+      way = record { step = c .mark .state .steps; due = c .mark .due };
+    }
+
+same-site : (g : tie.After-is-guided) → siteIn (track g .frame) (start (headed g) .args .rows .now) ≡ siteOf (start (headed g) .args .site .now)
+same-site g =
+    let m = g .before .before .before in
+    let h = m .before in
+    let s = start h in
+    frame-site (s .args .site .now) (s .args .rows .now) (s .pre .1 .0) (h .head .result) (h .head .ensures) (m .framed .result) (m .framed .ensures .0)
+
+same-plant : (g : tie.After-is-guided)
+    → let a = start (headed g) .args in plantBy (track g) (a .rows .now) (a .site .now) (length (a .on .now)) ≡ plantOf (a .site .now)
+same-plant g =
+    let s = start (headed g) in
+    let a = s .args in
+    let (ok, (eu, (rests, (held, (el, more))))) = s .pre in
+    plant-read (a .site .now) ok (track g) (a .rows .now) (length (a .on .now)) el (g .before .before .roofs-place .ensures) (g .is-guided .ensures) (g .before .function-place .ensures) (same-site g)
+
 framed-requires : tie.Need-framed-requires
 framed-requires c κs =
     let s = start c in
@@ -33,34 +64,34 @@ framed-requires c κs =
 roofs-place-requires : tie.Need-roofs-place-requires
 roofs-place-requires c κs = search needs
 
+function-place-requires : tie.Need-function-place-requires
+function-place-requires c κs = search needs
+
+is-guided-requires : tie.Need-is-guided-requires
+is-guided-requires c κs = search needs
+
 along-requires : tie.Need-along-requires
 along-requires c κs =
-    let p = c .before .before .before .before .before in
-    let m = p .before in
-    let h = m .before in
-    let s = start h in
+    let g = c .before .before .before .before .before .before in
+    let s = start (headed g) in
     let a = s .args in
     let (ok, (eu, (rests, (held, (el, (upto, (there, (shines, (few, fits))))))))) = s .pre in
     let site = a .site .now in
-    let rows = a .rows .now in
-    let (ef, rd) = m .framed .ensures in
-    let same : siteIn (m .framed .result) rows ≡ siteOf site = frame-site site rows eu (h .head .result) (h .head .ensures) (m .framed .result) ef in (
-      rd,
+    let rows = a .rows .now in (
+      planted site ok (track g) rows (length (a .on .now)) el (g .before .before .roofs-place .ensures) (g .is-guided .ensures) (g .before .function-place .ensures)
+          (g .before .before .before .framed .ensures .1),
       (
-        held-alike (siteIn (m .framed .result) rows) (siteOf site) (a .stored .now) (a .requests .now) same held,
+        held-alike (siteIn (track g .frame) rows) (siteOf site) (a .stored .now) (a .requests .now) (a .vars .now) (a .on .now) (same-site g) held,
         (
-          roofs-there site ok (length (a .on .now)) (p .roofs-place .result) el (p .roofs-place .ensures),
+          upto,
           (
-            upto,
+            there,
             (
-              there,
+              shines,
               (
-                shines,
-                (
-                  few,
-                  fit-alike (siteIn (m .framed .result) rows) (siteOf site) (roofsOf site) (length (a .on .now)) (a .c .out)
-                      (length (stepsFrom (a .bytes .now) (a .c .mark .sun) (a .c .head))) (length (a .room .now)) same el fits,
-                ),
+                few,
+                fit-alike site (siteIn (track g .frame) rows) (length (a .on .now)) (a .c .out) (length (stepsFrom (a .bytes .now) (a .c .mark .due) (a .c .head)))
+                    (length (a .room .now)) (same-site g) el fits,
               ),
             ),
           ),
@@ -80,32 +111,23 @@ same-length-3 c = search needs
 same-length-4 : tie.Need-same-length-4
 same-length-4 c = search needs
 
+same-length-5 : tie.Need-same-length-5
+same-length-5 c = search needs
+
 returns : tie.Need-returns
 returns c =
-    let w = c .before .before .before .before .before .before .before in
-    let p = w .before .before .before .before .before .before in
-    let m = p .before in
-    let h = m .before in
-    let s = start h in
-    let a = s .args in
-    let (ok, (eu, (rests, (held, (el, more))))) = s .pre in
-    let site = a .site .now in
-    let rows = a .rows .now in
-    let (ef, rd) = m .framed .ensures in
-    let same : siteIn (m .framed .result) rows ≡ siteOf site = frame-site site rows eu (h .head .result) (h .head .ensures) (m .framed .result) ef in
-    let here : roofsHere site (p .roofs-place .result) (length (a .on .now)) ≡ roofsOf site = roofs-read site ok (length (a .on .now)) (p .roofs-place .result) el (p .roofs-place .ensures) in
-    let steps = stepsFrom (a .bytes .now) (a .c .mark .sun) (a .c .head) in
-    let now = standing (a .stored .now) (a .requests .now) in
-    let (ek, (es, (eh, (et, (eo, er))))) = w .along .ensures in (
+    let w = c .before .before .before .before .before .before .before .before in
+    let g = w .before .before .before .before .before .before .before in
+    let a = start (headed g) .args in
+    let steps = stepsFrom (a .bytes .now) (a .c .mark .due) (a .c .head) in
+    let now = standsBy (a .stored .now) (a .requests .now) (a .vars .now) (a .on .now) in
+    let (ek, (ed, (eh, (et, er)))) = w .along .ensures in (
       ek,
       (
-        es,
+        ed,
         (
-          et ∙ ap (λ (x : Site). standsAfter x now steps) same,
-          (
-            eo ∙ ap (λ (r : List Roof). onsAfter r (a .on .now) steps) here,
-            er ∙ ap₂ (λ (x : Site) (r : List Roof). laid (a .room .now) (a .c .out) (recordsFrom x r (a .c .mark .state .steps) now (a .on .now) steps)) same here,
-          ),
+          et ∙ ap (λ (p : Plant). standsAfter p now steps) (same-plant g),
+          er ∙ ap (λ (p : Plant). laid (a .room .now) (a .c .out) (recordsFrom p (a .c .mark .state .steps) now steps)) (same-plant g),
         ),
       ),
     )
@@ -117,9 +139,12 @@ over-spec =
     head-requires
     framed-requires
     roofs-place-requires
+    function-place-requires
+    is-guided-requires
     along-requires
     same-length
     same-length-2
     same-length-3
     same-length-4
+    same-length-5
     returns)

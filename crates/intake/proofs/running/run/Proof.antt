@@ -158,26 +158,42 @@ part-requests-start c = search needs
 part-requests-end : tie.Need-part-requests-end
 part-requests-end c = units-are (counted (sized (c .before .before .before))) .1
 
+add-run-with : tie.Need-add-run-with
+add-run-with c =
+    let r = sized (c .before .before .before .before) in
+    omega (arith, units-are (counted r) .1, roofs-are r .1)
+
 sub-run-with-4 : tie.Need-sub-run-with-4
 sub-run-with-4 c = search needs
+
+part-vars-start : tie.Need-part-vars-start
+part-vars-start c = search needs
+
+part-vars-end : tie.Need-part-vars-end
+part-vars-end c =
+    let r = sized (c .before .before .before .before) in
+    omega (arith, units-are (counted r) .1, roofs-are r .1)
+
+sub-run-with-5 : tie.Need-sub-run-with-5
+sub-run-with-5 c = search needs
 
 part-on-start : tie.Need-part-on-start
 part-on-start c = search needs
 
 part-on-end : tie.Need-part-on-end
-part-on-end c = roofs-are (sized (c .before .before .before .before)) .1
+part-on-end c = roofs-are (sized (c .before .before .before .before .before)) .1
 
 run-with-requires : tie.Need-run-with-requires
 run-with-requires c κs =
-    let r = sized (c .before .before .before .before .before .before) in
+    let r = sized (c .before .before .before .before .before .before .before) in
     let (h, f) = start (counted r) .pre in
     let (e, l) = units-are (counted r) in
     let (d, m) = roofs-are r in
-    (h, (simp length-take (omega (arith, e, l)), (simp length-take (omega (arith, l)), (simp length-take (omega (arith, l)), (simp length-take (omega (arith, d, m)), f)))))
+    (h, (simp length-take (omega (arith, e, l)), (simp length-take (omega (arith, l)), (simp length-take (omega (arith, l)), (simp length-take (omega (arith, d, m)), (simp length-take (omega (arith, l, m)), f))))))
 
 add-result : tie.Need-add-result
 add-result c =
-    let b = c .before .before .before .before .before .before .before .before .before .before .before .before .before .before .before in
+    let b = c .before .before .before .before .before .before .before .before .before .before .before .before .before .before .before .before .before in
     let s = start (counted (sized b)) in
     omega (arith, size-known b, s .pre .1, s .good .1 .1 .1 .1 .1 .1 .0)
 
@@ -189,8 +205,8 @@ same-length-2 c = search needs
 
 returns : tie.Need-returns
 returns c =
-    let w = c .before .before .before .before .before .before .before .before in
-    let b = w .before .before .before .before .before .before .before in
+    let w = c .before .before .before .before .before .before .before .before .before in
+    let b = w .before .before .before .before .before .before .before .before in
     let out = start (counted (sized b)) .args .out in
     (ap (λ (k : ℕ). out + k) (size-known b), (w .run-with .ensures .0, w .run-with .ensures .1))
 
@@ -223,7 +239,11 @@ run-spec =
     sub-run-with-3
     part-requests-start
     part-requests-end
+    add-run-with
     sub-run-with-4
+    part-vars-start
+    part-vars-end
+    sub-run-with-5
     part-on-start
     part-on-end
     run-with-requires

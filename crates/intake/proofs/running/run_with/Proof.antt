@@ -5,7 +5,7 @@ use mathlib.Core.List.{List}
 use Prim.Native.Nat.{ℕ, _+_, _-_}
 use native.Mathlib.Omega.{arith}
 use lib.ListN.{length, take, drop}
-use Rattle.stick.specs.Site.{roofsOf}
+use Rattle.stick.specs.Site.{siteOf, roofsOf}
 use Rattle.kept.specs.declared.Mark.{Mark}
 use Rattle.kept.specs.Layout.{sitePlace}
 use Rattle.kept.proofs.NumberLaws.{part-is}
@@ -19,23 +19,26 @@ abbrev start : tie.After-load → tie.Start
 start l = l .before .before .before .before .before .before .before .before .before .before .before
 
 abbrev loaded : tie.After-stand → tie.After-load
-loaded t = t .before .before .before .before .before .before .before
+loaded t = t .before .before .before .before .before .before .before .before
 
 abbrev stood : tie.After-over → tie.After-stand
-stood o = o .before .before .before .before .before .before .before .before .before .before .before .before .before
+stood o = o .before .before .before .before .before .before .before .before .before .before .before .before .before .before .before
 
 abbrev gone : tie.After-mark-after → tie.After-over
-gone k = k .before .before .before .before .before .before .before .before
+gone k = k .before .before .before .before .before .before .before .before .before
 
 -- what the lists hold is as long as they came
 stores-kept : (o : tie.After-over) → length (o .over .last .1 .1 .1 .1 .0) ≡ length (start (loaded (stood o)) .args .stored .now)
-stores-kept o = o .over .kept .1 .1 .1 .1 .0 ∙ stood o .stand .kept .1 .1 .1 .0
+stores-kept o = o .over .kept .1 .1 .1 .1 .0 ∙ stood o .stand .kept .1 .1 .1 .1 .0
 
 asks-kept : (o : tie.After-over) → length (o .over .last .1 .1 .1 .1 .1 .0) ≡ length (start (loaded (stood o)) .args .requests .now)
-asks-kept o = o .over .kept .1 .1 .1 .1 .1 .0 ∙ stood o .stand .kept .1 .1 .1 .1 .0
+asks-kept o = o .over .kept .1 .1 .1 .1 .1 .0 ∙ stood o .stand .kept .1 .1 .1 .1 .1 .0
 
-flags-kept : (o : tie.After-over) → length (o .over .last .1 .1 .1 .1 .1 .1 .0) ≡ length (start (loaded (stood o)) .args .on .now)
-flags-kept o = o .over .kept .1 .1 .1 .1 .1 .1 .0 ∙ stood o .stand .kept .1 .1 .1 .1 .1 .0
+vars-kept : (o : tie.After-over) → length (o .over .last .1 .1 .1 .1 .1 .1 .0) ≡ length (start (loaded (stood o)) .args .vars .now)
+vars-kept o = o .over .kept .1 .1 .1 .1 .1 .1 .0 ∙ stood o .stand .kept .1 .1 .1 .1 .1 .1 .0
+
+flags-kept : (o : tie.After-over) → length (o .over .last .1 .1 .1 .1 .1 .1 .1 .0) ≡ length (start (loaded (stood o)) .args .on .now)
+flags-kept o = o .over .kept .1 .1 .1 .1 .1 .1 .1 .0 ∙ stood o .stand .kept .1 .1 .1 .1 .1 .1 .1 .0
 
 add-load : tie.Need-add-load
 add-load c = search needs
@@ -53,7 +56,7 @@ load-requires : tie.Need-load-requires
 load-requires c κs =
     let s = c .before .before .before .before .before .before .before .before .before .before in
     let a = s .args in
-    let (h, (er, (es, (eq, (eo, f))))) = s .pre in
+    let (h, (er, (es, (eq, (eo, (ev, f)))))) = s .pre in
     let state = a .s .now in
     let part = take (sitePlace + a .c .site - sitePlace) (drop sitePlace state) in
     let ep = part-is sitePlace (a .c .site) state in
@@ -61,17 +64,27 @@ load-requires c κs =
 
 stand-requires : tie.Need-stand-requires
 stand-requires c κs =
-    let l = c .before .before .before .before .before .before in
+    let l = c .before .before .before .before .before .before .before in
     let s = start l in
     let a = s .args in
-    let (h, (er, (es, (eq, (eo, f))))) = s .pre in
+    let (h, (er, (es, (eq, (eo, (ev, f)))))) = s .pre in
     let state = a .s .now in
     let part = take (sitePlace + a .c .site - sitePlace) (drop sitePlace state) in
     let ep = part-is sitePlace (a .c .site) state in
-    let few = few state (a .c .mark) (a .c .site) (a .bytes .now) (a .c .head) (a .c .next) h part ep in
-    let fewer = fewer state (a .c .mark) (a .c .site) (a .bytes .now) (a .c .head) (a .c .next) h part ep in
     let same = l .load .kept .1 .0 in
-    (h .long, (omega (arith, same, er, few), (es ∙ sym same, (eq ∙ sym same, omega (arith, eo, fewer)))))
+    let (eu, rests) = l .load .ensures in (
+      h .long,
+      (
+        h .fits,
+        (
+          h .accepted,
+          (
+            eu ∙ ap (λ (b : List ℕ). siteOf b .units) ep,
+            (es ∙ sym same, (eq ∙ sym same, (eo, ev ∙ ap (λ (k : ℕ). k + length (a .on .now)) (sym same)))),
+          ),
+        ),
+      ),
+    )
 
 add-over : tie.Need-add-over
 add-over c = search needs
@@ -87,19 +100,19 @@ part-over-end c = search needs
 
 over-requires : tie.Need-over-requires
 over-requires c κs =
-    let p = c .before .before .before .before .before .before .before .before .before .before .before .before in
+    let p = c .before .before .before .before .before .before .before .before .before .before .before .before .before .before in
     let l = loaded p in
     let s = start l in
     let a = s .args in
-    let (h, (er, (es, (eq, (eo, f))))) = s .pre in
+    let (h, (er, (es, (eq, (eo, (ev, f)))))) = s .pre in
     let state = a .s .now in
     let part = take (sitePlace + a .c .site - sitePlace) (drop sitePlace state) in
     let ep = part-is sitePlace (a .c .site) state in
-    let rows = l .load .last .1 .0 in
     let (eu, rests) = l .load .ensures in
-    let stored = p .stand .last .1 .1 .1 .0 in
-    let rs = p .stand .last .1 .1 .1 .1 .0 in
-    let on = p .stand .last .1 .1 .1 .1 .1 .0 in
+    let stored = p .stand .last .1 .1 .1 .1 .0 in
+    let rs = p .stand .last .1 .1 .1 .1 .1 .0 in
+    let vs = p .stand .last .1 .1 .1 .1 .1 .1 .0 in
+    let on = p .stand .last .1 .1 .1 .1 .1 .1 .1 .0 in
     let fits = fit state (a .c .mark) (a .c .site) (a .bytes .now) (a .c .head) (a .c .next) h part ep (a .c .out) (length (a .room .now)) f in (
       part-accepted state (a .c .mark) (a .c .site) (a .bytes .now) (a .c .head) (a .c .next) h part ep,
       (
@@ -107,9 +120,9 @@ over-requires c κs =
         (
           rests,
           (
-            first-held state (a .c .mark) (a .c .site) (a .bytes .now) (a .c .head) (a .c .next) h part ep rows eu stored rs (p .stand .ensures .0) (length (a .on .now)) eo on (p .stand .ensures .1),
+            first-held state (a .c .mark) (a .c .site) (a .bytes .now) (a .c .head) (a .c .next) h part ep stored rs vs on (p .stand .ensures),
             (
-              p .stand .kept .1 .1 .1 .1 .1 .0 ∙ eo ∙ ap (λ (b : List ℕ). length (roofsOf b)) (sym ep),
+              p .stand .kept .1 .1 .1 .1 .1 .1 .1 .0 ∙ eo ∙ ap (λ (b : List ℕ). length (roofsOf b)) (sym ep),
               (h .upto, (h .there, (h .shines, (omega (arith, h .counted, h .few), fits)))),
             ),
           ),
@@ -119,17 +132,17 @@ over-requires c κs =
 
 mark-after-requires : tie.Need-mark-after-requires
 mark-after-requires c κs =
-    let s = start (loaded (stood (c .before .before .before .before .before .before .before))) in
+    let s = start (loaded (stood (c .before .before .before .before .before .before .before .before))) in
     let (h, more) = s .pre in
     (h .place-there, h .place-fits)
 
 keep-requires : tie.Need-keep-requires
 keep-requires c κs =
-    let k = c .before .before .before .before in
+    let k = c .before .before .before .before .before in
     let o = gone k in
     let s = start (loaded (stood o)) in
     let a = s .args in
-    let (h, (er, (es, (eq, (eo, f))))) = s .pre in
+    let (h, (er, (es, (eq, (eo, (ev, f)))))) = s .pre in
     let state = a .s .now in
     let part = take (sitePlace + a .c .site - sitePlace) (drop sitePlace state) in
     let ep = part-is sitePlace (a .c .site) state in
@@ -140,7 +153,13 @@ keep-requires c κs =
       h .long,
       (
         omega (arith, site, h .fits),
-        (tail, (omega (arith, stores-kept o, es, er, few), (asks-kept o ∙ eq ∙ sym (stores-kept o ∙ es), omega (arith, flags-kept o, eo, fewer)))),
+        (
+          tail,
+          (
+            omega (arith, stores-kept o, es, er, few),
+            (asks-kept o ∙ eq ∙ sym (stores-kept o ∙ es), (omega (arith, vars-kept o, ev, er, few, eo, fewer), omega (arith, flags-kept o, eo, fewer))),
+          ),
+        ),
       ),
     )
 
@@ -148,44 +167,46 @@ same-length : tie.Need-same-length
 same-length c = search needs
 
 same-length-2 : tie.Need-same-length-2
-same-length-2 c = loaded (stood (gone (c .before .before .before .before .before .before .before))) .load .kept .1 .0
+same-length-2 c = loaded (stood (gone (c .before .before .before .before .before .before .before .before))) .load .kept .1 .0
 
 same-length-3 : tie.Need-same-length-3
-same-length-3 c = stores-kept (gone (c .before .before .before .before .before .before .before))
+same-length-3 c = stores-kept (gone (c .before .before .before .before .before .before .before .before))
 
 same-length-4 : tie.Need-same-length-4
-same-length-4 c = asks-kept (gone (c .before .before .before .before .before .before .before))
+same-length-4 c = asks-kept (gone (c .before .before .before .before .before .before .before .before))
 
 same-length-5 : tie.Need-same-length-5
-same-length-5 c = flags-kept (gone (c .before .before .before .before .before .before .before))
+same-length-5 c = vars-kept (gone (c .before .before .before .before .before .before .before .before))
 
 same-length-6 : tie.Need-same-length-6
-same-length-6 c = search needs
+same-length-6 c = flags-kept (gone (c .before .before .before .before .before .before .before .before))
+
+same-length-7 : tie.Need-same-length-7
+same-length-7 c = search needs
 
 returns : tie.Need-returns
 returns c =
     let w = c .before .before in
-    let k = w .before .before .before .before .before in
+    let k = w .before .before .before .before .before .before in
     let o = gone k in
     let p = stood o in
     let l = loaded p in
     let s = start l in
     let a = s .args in
-    let (h, (er, (es, (eq, (eo, f))))) = s .pre in
+    let (h, (er, (es, (eq, (eo, (ev, f)))))) = s .pre in
     let state = a .s .now in
     let part = take (sitePlace + a .c .site - sitePlace) (drop sitePlace state) in
     let ep = part-is sitePlace (a .c .site) state in
-    let rows = l .load .last .1 .0 in
-    let (eu, rests) = l .load .ensures in
-    let stored = p .stand .last .1 .1 .1 .0 in
-    let rs = p .stand .last .1 .1 .1 .1 .0 in
-    let on = p .stand .last .1 .1 .1 .1 .1 .0 in
-    let (ek, (esun, (et, (eo′, ew)))) = o .over .ensures in (
+    let stored = p .stand .last .1 .1 .1 .1 .0 in
+    let rs = p .stand .last .1 .1 .1 .1 .1 .0 in
+    let vs = p .stand .last .1 .1 .1 .1 .1 .1 .0 in
+    let on = p .stand .last .1 .1 .1 .1 .1 .1 .1 .0 in
+    let (ek, (ed, (et, ew))) = o .over .ensures in (
       w .keep .ensures
-          ∙ all-left state (a .c .mark) (a .c .site) (a .bytes .now) (a .c .head) (a .c .next) h part ep rows eu stored rs (p .stand .ensures .0) (length (a .on .now)) eo on (p .stand .ensures .1)
-          (k .mark-after .result) (o .over .result .sun) (o .over .last .1 .1 .1 .1 .0) (o .over .last .1 .1 .1 .1 .1 .0) (o .over .last .1 .1 .1 .1 .1 .1 .0) (k .mark-after .ensures) esun et eo′,
-      ew ∙ all-written state (a .c .mark) (a .c .site) (a .bytes .now) (a .c .head) (a .c .next) h part ep rows eu stored rs (p .stand .ensures .0)
-          (length (a .on .now)) eo on (p .stand .ensures .1) (a .room .now) (a .c .out),
+          ∙ all-left state (a .c .mark) (a .c .site) (a .bytes .now) (a .c .head) (a .c .next) h part ep stored rs vs on (p .stand .ensures)
+          (k .mark-after .result) (o .over .result .due) (o .over .last .1 .1 .1 .1 .0) (o .over .last .1 .1 .1 .1 .1 .0) (o .over .last .1 .1 .1 .1 .1 .1 .0) (o .over .last .1 .1 .1 .1 .1 .1 .1 .0)
+          (k .mark-after .ensures) ed et,
+      ew ∙ all-written state (a .c .mark) (a .c .site) (a .bytes .now) (a .c .head) (a .c .next) h part ep stored rs vs on (p .stand .ensures) (a .room .now) (a .c .out),
     )
 
 pub run-with-spec : {M : Type 1} → statement M
@@ -211,4 +232,5 @@ run-with-spec =
     same-length-4
     same-length-5
     same-length-6
+    same-length-7
     returns)

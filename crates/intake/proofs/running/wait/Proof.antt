@@ -35,8 +35,8 @@ returns c =
     let s = e .before .before .before .before in
     let a = s .args in
     let first = a .s .now in
-    kept-after first (k .mark-after .result) (a .bytes .now) [] [] [] (s .pre .0) (omega arith) (omega arith) (e .clear-stands .last .0) (p .put-top .last .0) (e .clear-stands .ensures) (p .put-top .ensures)
-    ∙ ap (λ (x : Mark). topOf x [] ++ standsOf [] [] [] ++ drop sitePlace first) (k .mark-after .ensures)
+    kept-after first (k .mark-after .result) (a .bytes .now) [] [] [] [] (s .pre .0) (omega arith) (omega arith) (omega arith) (e .clear-stands .last .0) (p .put-top .last .0) (e .clear-stands .ensures) (p .put-top .ensures)
+    ∙ ap (λ (x : Mark). topOf x [] ++ standsOf [] [] [] [] ++ drop sitePlace first) (k .mark-after .ensures)
 
 pub wait-spec : {M : Type 1} → statement M
 wait-spec =

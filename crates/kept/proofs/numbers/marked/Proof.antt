@@ -1,8 +1,5 @@
 -- Each number stands where it is read; the state is the one that the site part leads to, with the stage and the steps that are kept.
 use borrow.Author.Needs.{needs}
-use mathlib.Core.Path.{_∙_}
-use mir.Syntax.{w32}
-use Rattle.whole.proofs.SignLaws.{read}
 use Rattle.kept.proofs.NumberLaws.{mark-is}
 use Rattle.kept.proofs.numbers.marked.Statement.{statement}
 use Rattle.kept.proofs.numbers.marked.Tie as tie
@@ -19,34 +16,30 @@ u32-at-requires c κs = search needs
 gone-to-requires : tie.Need-gone-to-requires
 gone-to-requires c κs = search needs
 
+due-at-requires : tie.Need-due-at-requires
+due-at-requires c κs = search needs
+
 u64-at-requires : tie.Need-u64-at-requires
 u64-at-requires c κs = search needs
 
 u16-at-requires : tie.Need-u16-at-requires
 u16-at-requires c κs = search needs
 
-cast-t8 : tie.Need-cast-t8
-cast-t8 c = search needs
+cast-t9 : tie.Need-cast-t9
+cast-t9 c = search needs
 
 u8-at-requires-2 : tie.Need-u8-at-requires-2
 u8-at-requires-2 c κs = search needs
 
-cast-t9 : tie.Need-cast-t9
-cast-t9 c = search needs
-
-u32-at-requires-2 : tie.Need-u32-at-requires-2
-u32-at-requires-2 c κs = search needs
-
-i32-at-requires : tie.Need-i32-at-requires
-i32-at-requires c κs = search needs
+cast-t10 : tie.Need-cast-t10
+cast-t10 c = search needs
 
 returns : tie.Need-returns
 returns c =
-    let light = c .before in
-    let tail = light .before in
-    let site = tail .before in
+    let site = c .before in
     let place = site .before in
-    let gone = place .before in
+    let due = place .before in
+    let gone = due .before in
     let steps = gone .before in
     let stage = steps .before in
     let known = stage .before in
@@ -58,18 +51,16 @@ returns c =
     (stage .u8-at .result)
     (steps .u32-at .result)
     (site .u16-at .result)
-    (tail .u8-at2 .result)
-    (light .u32-at2 .result)
-    _
+    (c .u8-at2 .result)
+    (due .due-at .result)
     (known .known .ensures)
     (stage .u8-at .ensures)
     (steps .u32-at .ensures)
     (gone .gone-to .ensures)
     (place .u64-at .ensures)
     (site .u16-at .ensures)
-    (tail .u8-at2 .ensures)
-    (light .u32-at2 .ensures)
-    (read w32 (c .i32-at .result) (c .i32-at .ok) ∙ c .i32-at .ensures)
+    (c .u8-at2 .ensures)
+    (due .due-at .ensures)
 
 pub marked-spec : {M : Type 1} → statement M
 marked-spec =
@@ -79,11 +70,10 @@ marked-spec =
     u8-at-requires
     u32-at-requires
     gone-to-requires
+    due-at-requires
     u64-at-requires
     u16-at-requires
-    cast-t8
-    u8-at-requires-2
     cast-t9
-    u32-at-requires-2
-    i32-at-requires
+    u8-at-requires-2
+    cast-t10
     returns)

@@ -1,7 +1,7 @@
 -- Each number is laid right behind the ones before it, so that all of them are laid whole.
 use borrow.Author.Needs.{needs}
 use native.Mathlib.Omega.{arith}
-use Prim.Native.Nat.{_≤_}
+use Prim.Native.Nat.{ℕ, _≤_}
 use mathlib.Core.Path.{ap, _∙_}
 use mathlib.Core.List.{_++_}
 use lib.IntN.{ℤ}
@@ -12,7 +12,7 @@ use Rattle.whole.proofs.SignLaws.{read}
 use Rattle.octets.specs.BigEndian.{bytesOf, laid}
 use Rattle.octets.proofs.ByteLaws.{bytes-length}
 use Rattle.records.proofs.LayLaws.{behind, longer}
-use Rattle.kept.specs.Layout.{partsOf}
+use Rattle.kept.specs.Layout.{voltsOf, partsOf}
 use Rattle.kept.proofs.numbers.put_parts.Statement.{statement}
 use Rattle.kept.proofs.numbers.put_parts.Tie as tie
 
@@ -34,35 +34,49 @@ put-u32-requires c κs = search needs
 put-i32-requires : tie.Need-put-i32-requires
 put-i32-requires c κs = search needs
 
+volts-requires : tie.Need-volts-requires
+volts-requires c κs = search needs
+
+put-u16-requires-2 : tie.Need-put-u16-requires-2
+put-u16-requires-2 c κs = search needs
+
 same-length : tie.Need-same-length
 same-length c = search needs
 
 returns : tie.Need-returns
 unfolding partsOf
 returns c =
-    let fourth = c .before .before in
+    let fifth = c .before .before in
+    let volts = fifth .before in
+    let fourth = volts .before .before .before .before in
     let third = fourth .before .before .before .before .before in
-    let second = third .before .before .before .before in
+    let second = third .before .before .before .before .before in
     let first = second .before .before .before .before .before in
     let start = first .before .before .before .before in
     let s = start .args .s .now in
     let (long, rest) = start .pre in
     let h : 14 ≤ length s = omega (arith, long) in
     let m = start .args .m in
+    let sun = m .due .sun in
     let a = bytesOf 2 (m .site) in
     let b = a ++ bytesOf 1 (m .tail) in
-    let d = b ++ bytesOf 4 (m .sun .irradiance) in
+    let d = b ++ bytesOf 4 (sun .irradiance) in
+    let e = d ++ bytesOf 4 (ofZ w32 (sun .temperature)) in
     let t₁ = first .put-u16 .last .0 in
     let t₂ = second .put-u8 .last .0 in
     let t₃ = third .put-u32 .last .0 in
+    let t₄ = fourth .put-i32 .last .0 in
     let la = bytes-length 2 (m .site) in
     let lb = longer a 2 1 (m .tail) la in
-    let ld = longer b 3 4 (m .sun .irradiance) lb in
+    let ld = longer b 3 4 (sun .irradiance) lb in
+    let le = longer d 7 4 (ofZ w32 (sun .temperature)) ld in
     let told = fourth .before .struct-told .given in
-    let warm = fourth .put-i32 .ensures ∙ ap (λ (z : ℤ). laid t₃ 21 (bytesOf 4 (ofZ w32 z))) (read w32 (m .sun .temperature) (told .1 .1 .1 .1 .0 .1 .1 .1 .0 .1)) in
+    let warm = fourth .put-i32 .ensures ∙ ap (λ (z : ℤ). laid t₃ 21 (bytesOf 4 (ofZ w32 z))) (read w32 (sun .temperature) (told .0 .1 .1 .1 .0 .1)) in
+    let last = fifth .put-u162 .ensures ∙ ap (λ (n : ℕ). laid t₄ 25 (bytesOf 2 n)) (volts .volts .ensures) in
     let two = behind s 14 h a (bytesOf 1 (m .tail)) 2 la t₁ t₂ (first .put-u16 .ensures) (second .put-u8 .ensures) in
-    let three = behind s 14 h b (bytesOf 4 (m .sun .irradiance)) 3 lb t₂ t₃ two (third .put-u32 .ensures) in
-    behind s 14 h d (bytesOf 4 (ofZ w32 (m .sun .temperature))) 7 ld t₃ (fourth .put-i32 .last .0) three warm
+    let three = behind s 14 h b (bytesOf 4 (sun .irradiance)) 3 lb t₂ t₃ two (third .put-u32 .ensures) in
+    let four = behind s 14 h d (bytesOf 4 (ofZ w32 (sun .temperature))) 7 ld t₃ t₄ three warm in
+    behind s 14 h e (bytesOf 2 (voltsOf (m .due .voltage))) 11 le t₄ (fifth .put-u162 .last .0) four last
 
 pub put-parts-spec : {M : Type 1} → statement M
 put-parts-spec =
@@ -74,5 +88,7 @@ put-parts-spec =
     put-u8-requires
     put-u32-requires
     put-i32-requires
+    volts-requires
+    put-u16-requires-2
     same-length
     returns)

@@ -2,15 +2,16 @@
 use borrow.Author.Needs.{needs}
 use native.Mathlib.Omega.{arith}
 use Prim.Native.Nat.{ℕ, _+_, _-_, _≤_}
-use mathlib.Core.Path.{sym, ap, ap₂, _∙_, subst⁻¹}
+use mathlib.Core.Path.{_≡_, sym, ap, ap₂, _∙_, subst⁻¹}
 use mathlib.Core.List.{List}
 use lib.IntN.{ℤ}
 use lib.ListN.{length, take, drop}
+use Rattle.whole.specs.Over.{allOf}
 use Rattle.stick.specs.Site.{siteOf}
 use Rattle.site.specs.Site.{count}
 use Rattle.stick.specs.Posts.{Accepted}
 use Rattle.kept.specs.Layout.{sitePlace, sitePart, storeAt, requestAt}
-use Rattle.kept.specs.Formed.{heldFits}
+use Rattle.kept.specs.Formed.{heldFits, varFits}
 use Rattle.kept.proofs.StandLaws.{upTo-length}
 use Rattle.kept.proofs.ListLaws.{site-part-is, few-units, few-roofs, loaded-is}
 use Rattle.kept.proofs.tests.loaded_fit.Statement.{statement}
@@ -62,6 +63,25 @@ flags-fit-requires c κs =
     let (z, (e, (a, (p, (q, r))))) = s .pre in
     (z .long, fewer s)
 
+-- there are as many stores as there were
+still : (c : tie.After-load) → length (c .load .last .1 .0) ≡ length (c .before .before .before .before .before .args .stored .now)
+still c =
+    let s = c .before .before .before .before .before in
+    ap length (c .load .ensures .0) ∙ upTo-length (length (s .args .stored .now)) (storeAt (s .args .s .now))
+
+add-vars-fit : tie.Need-add-vars-fit
+add-vars-fit c =
+    let l = c .before .before .before .before .before .before .before .before in
+    let s = l .before .before .before .before .before in
+    omega (arith, still l, few s, fewer s)
+
+vars-fit-requires : tie.Need-vars-fit-requires
+vars-fit-requires c κs =
+    let l = c .before .before .before .before .before .before .before .before in
+    let s = l .before .before .before .before .before in
+    let (z, (e, (a, (p, (q, r))))) = s .pre in
+    (z .long, omega (arith, still l, few s, fewer s))
+
 same-length : tie.Need-same-length
 same-length c = search needs
 
@@ -70,7 +90,8 @@ same-length-2 c = search needs
 
 returns : tie.Need-returns
 returns c =
-    let h = c .before in
+    let f = c .before in
+    let h = f .before in
     let l = h .before .before .before .before .before .before .before in
     let s = l .before .before .before .before .before in
     let (z, (e, (a, (p, (q, r))))) = s .pre in
@@ -82,10 +103,12 @@ returns c =
     lent
     (s .args .roofs)
     (h .held-fits .result)
-    (c .flags-fit .result)
+    (f .flags-fit .result)
+    (c .vars-fit .result)
     part
     (h .held-fits .ensures ∙ ap₂ (λ (x : List ℕ) (y : List ℤ). heldFits (siteOf lent) x y) (l .load .ensures .0) (l .load .ensures .1))
-    (c .flags-fit .ensures)
+    (f .flags-fit .ensures)
+    (c .vars-fit .ensures ∙ ap (λ (n : ℕ). allOf (n + s .args .roofs) (varFits (s .args .s .now))) (still l))
 
 pub loaded-fit-spec : {M : Type 1} → statement M
 loaded-fit-spec =
@@ -98,6 +121,8 @@ loaded-fit-spec =
     part-held-fits-end
     held-fits-requires
     flags-fit-requires
+    add-vars-fit
+    vars-fit-requires
     same-length
     same-length-2
     returns)

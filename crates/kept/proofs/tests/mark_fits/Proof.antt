@@ -1,4 +1,4 @@
--- The three tests are the definition's, since the mark is what the bytes say.
+-- The four tests are the definition's, since the mark is what the bytes say.
 use borrow.Author.Needs.{needs}
 use native.Mathlib.Omega.{arith}
 use Prim.Native.Nat.{_≤_}
@@ -15,13 +15,19 @@ tail-small : (c : tie.Start) → c .args .m .tail ≤ tailMost
 tail-small c = let (z, e) = c .pre in omega (arith, z .tail-fits, mark-tail (c .args .s .now) (c .args .m) e)
 
 place-fits-requires : tie.Need-place-fits-requires
-place-fits-requires c κs = let s = c .before .before in (site-small s, tail-small s)
+place-fits-requires c κs = let s = c .before .before .before in (site-small s, tail-small s)
 
 sun-fits-requires : tie.Need-sun-fits-requires
 sun-fits-requires c κs = search needs
 
+u16-at-requires : tie.Need-u16-at-requires
+u16-at-requires c κs = search needs
+
+volt-fits-requires : tie.Need-volt-fits-requires
+volt-fits-requires c κs = search needs
+
 add-tail-fits : tie.Need-add-tail-fits
-add-tail-fits c = omega (arith, tail-small (c .before .before .before .before))
+add-tail-fits c = omega (arith, tail-small (c .before .before .before .before .before .before .before))
 
 sub-tail-fits : tie.Need-sub-tail-fits
 sub-tail-fits c = search needs
@@ -30,18 +36,33 @@ part-tail-fits-start : tie.Need-part-tail-fits-start
 part-tail-fits-start c = search needs
 
 part-tail-fits-end : tie.Need-part-tail-fits-end
-part-tail-fits-end c = let s = c .before .before .before .before in let (z, e) = s .pre in omega (arith, z .long, tail-small s)
+part-tail-fits-end c = let s = c .before .before .before .before .before .before .before in let (z, e) = s .pre in omega (arith, z .long, tail-small s)
 
 tail-fits-requires : tie.Need-tail-fits-requires
 tail-fits-requires c κs = search needs
 
 returns : tie.Need-returns
 returns c =
-    let sun = c .before .before in
+    let volts = c .before .before in
+    let read = volts .before in
+    let sun = read .before in
     let place = sun .before in
-    let s = place .before .before .before in
+    let s = place .before .before .before .before in
     let (z, e) = s .pre in
-    mark-fits-is (s .args .s .now) (s .args .m) (place .place-fits .result) (sun .sun-fits .result) (c .tail-fits .result) e (place .place-fits .ensures) (sun .sun-fits .ensures) (c .tail-fits .ensures)
+    mark-fits-is
+    (s .args .s .now)
+    (s .args .m)
+    (read .u16-at .result)
+    (place .place-fits .result)
+    (sun .sun-fits .result)
+    (volts .volt-fits .result)
+    (c .tail-fits .result)
+    e
+    (read .u16-at .ensures)
+    (place .place-fits .ensures)
+    (sun .sun-fits .ensures)
+    (volts .volt-fits .ensures)
+    (c .tail-fits .ensures)
 
 pub mark-fits-spec : {M : Type 1} → statement M
 mark-fits-spec =
@@ -49,6 +70,8 @@ mark-fits-spec =
     (tie.spec
     place-fits-requires
     sun-fits-requires
+    u16-at-requires
+    volt-fits-requires
     add-tail-fits
     sub-tail-fits
     part-tail-fits-start

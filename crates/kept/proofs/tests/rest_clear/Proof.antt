@@ -1,4 +1,4 @@
--- The four tests are the definition's.
+-- The five tests are the definition's.
 use borrow.Author.Needs.{needs}
 use Rattle.kept.proofs.FitLaws.{rest-is}
 use Rattle.kept.proofs.tests.rest_clear.Statement.{statement}
@@ -40,12 +40,25 @@ is-clear-requires-3 c κs = search needs
 add-is-clear-4 : tie.Need-add-is-clear-4
 add-is-clear-4 c = search needs
 
+mul-is-clear-2 : tie.Need-mul-is-clear-2
+mul-is-clear-2 c = search needs
+
+add-is-clear-5 : tie.Need-add-is-clear-5
+add-is-clear-5 c = search needs
+
 is-clear-requires-4 : tie.Need-is-clear-requires-4
 is-clear-requires-4 c κs = search needs
 
+add-is-clear-6 : tie.Need-add-is-clear-6
+add-is-clear-6 c = search needs
+
+is-clear-requires-5 : tie.Need-is-clear-requires-5
+is-clear-requires-5 c κs = search needs
+
 returns : tie.Need-returns
 returns c =
-    let third = c .before in
+    let fourth = c .before in
+    let third = fourth .before in
     let second = third .before in
     let first = second .before in
     let tail = first .before in
@@ -60,13 +73,15 @@ returns c =
     (first .is-clear .result)
     (second .is-clear2 .result)
     (third .is-clear3 .result)
-    (c .is-clear4 .result)
+    (fourth .is-clear4 .result)
+    (c .is-clear5 .result)
     (site .u16-at .ensures)
     (tail .u8-at .ensures)
     (first .is-clear .ensures)
     (second .is-clear2 .ensures)
     (third .is-clear3 .ensures)
-    (c .is-clear4 .ensures)
+    (fourth .is-clear4 .ensures)
+    (c .is-clear5 .ensures)
 
 pub rest-clear-spec : {M : Type 1} → statement M
 rest-clear-spec =
@@ -84,5 +99,9 @@ rest-clear-spec =
     add-is-clear-3
     is-clear-requires-3
     add-is-clear-4
+    mul-is-clear-2
+    add-is-clear-5
     is-clear-requires-4
+    add-is-clear-6
+    is-clear-requires-5
     returns)

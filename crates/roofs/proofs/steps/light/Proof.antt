@@ -1,24 +1,36 @@
--- In the dark an inverter that is off gives nothing by `night`. Otherwise its values are read where its field stands, and its curves lie behind it.
-use mathlib.Core.Path.{ap, subst⁻¹, _∙_}
-use mathlib.Core.Bool.{not}
+-- In the dark an inverter that is off and not led gives nothing by `night`. Otherwise its values are read where its field stands, and its curves lie behind it.
+use mathlib.Core.Path.{subst⁻¹}
+use mathlib.Core.Bool.{false, not, _&&_, _||_}
 use Prim.Native.Nat.{_+_}
 use lib.Dec.{eqb}
+use lib.IntN.{pos}
+use borrow.Author.Needs.{needs}
 use borrow.Author.Tests.{eqb-true, not-true}
 use Rattle.whole.proofs.OverLaws.{and-parts}
 use Rattle.solar.specs.declared.Inverter.{Inverter}
-use Rattle.solar.specs.Step.{stepOf}
-use Rattle.solar.specs.Posts.{roofBy, Roofed}
+use Rattle.solar.specs.Step.{given}
+use Rattle.solar.specs.Posts.{Roofed}
+use Rattle.guided.specs.Posts.{Guiding}
+use Rattle.guided.proofs.SharedLaws.{last-back}
+use Rattle.guided.proofs.RoofLaws.{unled-step, unled-kept}
 use Rattle.roofs.specs.Posts.{roofHere}
-use Rattle.roofs.proofs.LoopLaws.{night}
-use borrow.Author.Needs.{needs}
+use Rattle.roofs.proofs.LightLaws.{night, step-here, kept-here}
 use Rattle.roofs.proofs.steps.light.Statement.{statement}
 use Rattle.roofs.proofs.steps.light.Tie as tie
 
 returns : tie.Need-returns
+unfolding roofHere
 returns c =
-    let a = c .before .before .before .args in
-    let t = and-parts (not (a .on)) (eqb (a .s .irradiance) 0) (c .if1 .taken) in
-    night (roofHere (a .bytes .now) (a .at)) (a .on) (a .s) (not-true (a .on) (t .0)) (eqb-true (a .s .irradiance) 0 (t .1))
+    let s = c .before .before .before .before .before in
+    let a = s .args in
+    let l = a .l in
+    let r = roofHere (a .bytes .now) (a .at) in
+    let t = and-parts (not (l .leads || l .after || l .fresh)) (not (a .on) && eqb (a .s .irradiance) 0) (c .if1 .taken) in
+    let d = and-parts (not (a .on)) (eqb (a .s .irradiance) 0) (t .1) in (
+      unled-step l r (a .last) (a .on) (a .s) (s .pre .0 .roof-in) (s .pre .1 .1 .1) (t .0) (given false (pos 0) (pos 0) 0)
+          (night r (a .on) (a .s) (not-true (a .on) (d .0)) (eqb-true (a .s .irradiance) 0 (d .1))),
+      unled-kept l r (a .last) (a .on) (a .s) (s .pre .0 .roof-in) (s .pre .1 .1 .1) (t .0),
+    )
 
 add-inverter-at : tie.Need-add-inverter-at
 add-inverter-at c = search needs
@@ -26,24 +38,30 @@ add-inverter-at c = search needs
 inverter-at-requires : tie.Need-inverter-at-requires
 inverter-at-requires c κs = search needs
 
-add-step-within : tie.Need-add-step-within
-add-step-within c = search needs
+add-light : tie.Need-add-light
+add-light c = search needs
 
-add-step-within-2 : tie.Need-add-step-within-2
-add-step-within-2 c = search needs
+add-light-2 : tie.Need-add-light-2
+add-light-2 c = search needs
 
-step-within-requires : tie.Need-step-within-requires
-step-within-requires c κs =
-    let s = c .before .before .before .before in
+light-requires : tie.Need-light-requires
+light-requires c κs =
+    let s = c .before .before .before .before .before .before in
     let a = s .args in
-    (subst⁻¹ (λ (v : Inverter). Roofed v (a .bytes .now) (a .at + 25) (a .at + 157)) (c .inverter-at .ensures) (s .pre .0), s .pre .1 .1)
+    let g = s .pre .1 .1 .1 in (
+      subst⁻¹ (λ (v : Inverter). Roofed v (a .bytes .now) (a .at + 25) (a .at + 157)) (c .inverter-at .ensures) (s .pre .0),
+      (s .pre .1 .1 .0, subst⁻¹ (Guiding (a .l)) (last-back (a .l) (a .last) g) g),
+    )
 
 returns-2 : tie.Need-returns-2
-unfolding roofHere
 returns-2 c =
     let v = c .before in
-    let a = v .before .before .before .before .args in
-    c .step-within .ensures ∙ ap (λ (u : Inverter). stepOf (roofBy u (a .bytes .now) (a .at + 25) (a .at + 157)) (a .on) (a .s)) (v .inverter-at .ensures)
+    let s = v .before .before .before .before .before .before in
+    let a = s .args in
+    let x = c .light in (
+      step-here (a .bytes .now) (a .at) (v .inverter-at .result) (v .inverter-at .ensures) (a .l) (a .last) (s .pre .1 .1 .1) (a .on) (a .s) (x .result .given) (x .ensures .0),
+      kept-here (a .bytes .now) (a .at) (v .inverter-at .result) (v .inverter-at .ensures) (a .l) (a .last) (s .pre .1 .1 .1) (a .on) (a .s) (x .result .vars) (x .ensures .1),
+    )
 
 pub light-spec : {M : Type 1} → statement M
 light-spec =
@@ -52,7 +70,7 @@ light-spec =
     returns
     add-inverter-at
     inverter-at-requires
-    add-step-within
-    add-step-within-2
-    step-within-requires
+    add-light
+    add-light-2
+    light-requires
     returns-2)

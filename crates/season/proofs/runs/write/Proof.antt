@@ -1,4 +1,4 @@
--- A site has at most 64 units and 64 inverters, so that a part of each array holds a value for every one.
+-- A site has at most 64 units and 64 inverters, so that a part of each array holds a value for every one, and a part of the vars one for each of both.
 use Prim.Native.Nat.{_≤_}
 use native.Mathlib.Nat.{le-trans, le-of-eq}
 use native.Mathlib.Omega.{arith}
@@ -54,18 +54,30 @@ part-requests-start c = search needs
 part-requests-end : tie.Need-part-requests-end
 part-requests-end c = few (c .before .before .before)
 
+add-write-with : tie.Need-add-write-with
+add-write-with c = let r = c .before .before .before in omega (arith, few (r .before), fewer r)
+
 sub-write-with-4 : tie.Need-sub-write-with-4
 sub-write-with-4 c = search needs
+
+part-vars-start : tie.Need-part-vars-start
+part-vars-start c = search needs
+
+part-vars-end : tie.Need-part-vars-end
+part-vars-end c = let r = c .before .before .before in omega (arith, few (r .before), fewer r)
+
+sub-write-with-5 : tie.Need-sub-write-with-5
+sub-write-with-5 c = search needs
 
 part-on-start : tie.Need-part-on-start
 part-on-start c = search needs
 
 part-on-end : tie.Need-part-on-end
-part-on-end c = fewer (c .before .before .before)
+part-on-end c = fewer (c .before .before .before .before)
 
 write-with-requires : tie.Need-write-with-requires
 write-with-requires c κs =
-    let r = c .before .before .before .before .before in
+    let r = c .before .before .before .before .before .before in
     let u = r .before in
     let (n, f) = u .before .before .before .pre in
     let e = u .units .ensures in
@@ -79,6 +91,7 @@ write-with-requires c κs =
           stored-there = simp length-take (omega (arith, e, l));
           requests-there = simp length-take (omega (arith, e, l));
           flags-there = simp length-take (omega (arith, d, m));
+          vars-there = simp length-take (omega (arith, e, d, l, m));
         },
         f,
       ),
@@ -105,7 +118,11 @@ write-spec =
     sub-write-with-3
     part-requests-start
     part-requests-end
+    add-write-with
     sub-write-with-4
+    part-vars-start
+    part-vars-end
+    sub-write-with-5
     part-on-start
     part-on-end
     write-with-requires
