@@ -366,20 +366,20 @@ static void test_no_address(void)
     end_whole();
 }
 
-/* A file of the most steps, each with a weather and a power, which is longer than the other calls take; and one with a
-** step more.
+/* A file of the most steps, each with a weather, a voltage and a power, which is longer than the other calls take; and
+** one with a step more.
 */
-enum { STEP = 19 + 27, STEPS_END = 76 + STEP * YB_MOST_STEPS, LONG = STEPS_END + LAST };
+enum { STEPS_BEGIN = 212, STEP = 19 + 5 + 27, STEPS_END = STEPS_BEGIN + STEP * YB_MOST_STEPS, LONG = STEPS_END + LAST };
 
 static uint8_t *make_long(void)
 {
-    uint8_t *file = malloc(LONG), roof[ROOF_LEN];
+    uint8_t *file = malloc(LONG), led[LED_LEN];
     if (file == NULL)
         give_up("no memory for a large file");
-    put_roof(roof);
-    memcpy(file, complete, 76);
-    for (size_t at = 76; at < STEPS_END; at += STEP)
-        memcpy(file + at, roof + 384, STEP);
+    put_led(led);
+    memcpy(file, led, STEPS_BEGIN);
+    for (size_t at = STEPS_BEGIN; at < STEPS_END; at += STEP)
+        memcpy(file + at, led + 220, STEP);
     memcpy(file + STEPS_END, "\x7F\0\4\0\0\xFF\xFF", LAST);
     return file;
 }
@@ -411,8 +411,8 @@ static void test_long(void)
     check_at(STEPS_END, YB_MOST_STEPS);
     uint8_t before[STATE];
     memcpy(before, kept, STATE);
-    feed(file + 76, STEP, 40, 12, NULL, 0);
-    check_over(12, STEPS_END + 19, YB_MOST_STEPS);
+    feed(file + STEPS_BEGIN, STEP, 40, 12, NULL, 0);
+    check_over(12, STEPS_END + 19 + 5, YB_MOST_STEPS);
     memcpy(kept, before, STATE);
     feed(file + STEPS_END, LAST, 0, 0, NULL, 0);
     end(LAST, 0, (const uint8_t *)"\x1F\0\4\0\0\xFF\xFF");
