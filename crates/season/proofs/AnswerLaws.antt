@@ -13,6 +13,7 @@ use Rattle.stick.specs.declared.Answer.{Answer}
 use Rattle.stick.specs.Check.{answer, checkOf}
 use Rattle.stick.specs.Site.{siteOf, roofsOf, plantOf, stepsOf}
 use Rattle.stick.proofs.SiteProved.{steps-count, steps-most}
+use Rattle.stretch.specs.Stretch.{allBytes}
 use Rattle.stretch.proofs.SiteLaws.{few-units as units-few, few-roofs as roofs-few, few-bytes as bytes-few}
 use Rattle.season.specs.Run.{resultOf}
 use Rattle.season.specs.Answers.{needed, roomOf, runAnswer, runLeaves}
@@ -29,8 +30,13 @@ over : (bs room : List ℕ) (n : ℕ) → length bs ≡ n → laid room 0 bs ≡
 unfolding laid
 over bs room n e = ap (λ (k : ℕ). bs ++ drop k room) (zero-add (length bs) ∙ e)
 
+-- a step's records have so many bytes
+pub all-bytes : (file : List ℕ) {n m : ℕ} → n ≡ count (siteOf file) → m ≡ length (roofsOf file) → 40 * n + 29 * m ≡ allBytes (plantOf file)
+unfolding plantOf
+all-bytes file e d = ap₂ (λ (u v : ℕ). 40 * u + 29 * v) e d
+
 -- ---- the size of the room needed: no number on the way to it is near the end of its type
-module _ (file : List ℕ) (steps : ℕ) (c : Counted file steps) where
+module _ {file : List ℕ} {steps : ℕ} (c : Counted file steps) where
   pub few-steps : steps ≤ 65535
   few-steps = le-trans (le-of-eq (sym (c .counted))) (steps-most file)
 
@@ -40,15 +46,15 @@ module _ (file : List ℕ) (steps : ℕ) (c : Counted file steps) where
   pub few-roofs : length (roofsOf file) ≤ 64
   few-roofs = roofs-few file (c .accepted)
 
-  pub few-bytes : (n m : ℕ) → n ≡ count (siteOf file) → m ≡ length (roofsOf file) → (40 * n + 29 * m) * steps ≤ (40 * 64 + 29 * 64) * 65535
-  few-bytes n m e d = bytes-few file (c .accepted) n m steps e d few-steps
+  pub few-bytes : {n m : ℕ} → n ≡ count (siteOf file) → m ≡ length (roofsOf file) → (40 * n + 29 * m) * steps ≤ (40 * 64 + 29 * 64) * 65535
+  few-bytes {n} {m} e d = bytes-few file (c .accepted) n m steps e d few-steps
 
   pub same-steps : length (stepsOf file) ≡ steps
   same-steps = steps-count file (c .accepted) ∙ c .counted
 
-  pub bytes-needed : (n m : ℕ) → n ≡ count (siteOf file) → m ≡ length (roofsOf file) → (40 * n + 29 * m) * steps + 7 ≡ needed file
-  unfolding needed plantOf
-  bytes-needed n m e d = ap₂ (λ (u v : ℕ). (40 * u + 29 * v) * steps + 7) e d ∙ ap (λ (k : ℕ). (40 * count (siteOf file) + 29 * length (roofsOf file)) * k + 7) (sym same-steps)
+  pub bytes-needed : {n m : ℕ} → n ≡ count (siteOf file) → m ≡ length (roofsOf file) → (40 * n + 29 * m) * steps + 7 ≡ needed file
+  unfolding needed
+  bytes-needed e d = ap₂ (λ (size k : ℕ). size * k + 7) (all-bytes file e d) (sym same-steps)
 
 -- ---- what is answered and left, by what the tests give
 module _ (file : List ℕ) where

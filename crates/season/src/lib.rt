@@ -3,3 +3,4 @@ mod runs;
 
 pub use runs::room;
 pub use runs::run;
+pub use runs::set_out;

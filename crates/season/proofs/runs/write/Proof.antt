@@ -10,16 +10,10 @@ use Rattle.season.proofs.runs.write.Tie as tie
 
 -- no more units, and no more inverters, than an array has elements
 few : (c : tie.After-units) → c .units .result ≤ 64
-few c =
-    let s = c .before .before .before in
-    let (n, f) = s .pre in
-    le-trans (le-of-eq (c .units .ensures)) (few-units (s .args .file .now) (s .args .count) n)
+few c = let (n, f) = c .before .before .before .pre in le-trans (le-of-eq (c .units .ensures)) (few-units n)
 
 fewer : (c : tie.After-roofs) → c .roofs .result ≤ 64
-fewer c =
-    let s = c .before .before .before .before in
-    let (n, f) = s .pre in
-    le-trans (le-of-eq (c .roofs .ensures)) (few-roofs (s .args .file .now) (s .args .count) n)
+fewer c = let (n, f) = c .before .before .before .before .pre in le-trans (le-of-eq (c .roofs .ensures)) (few-roofs n)
 
 units-requires : tie.Need-units-requires
 units-requires c κs = let (n, f) = c .before .before .pre in n .accepted

@@ -1,95 +1,51 @@
--- The rows hold what the file says of its units, and what stands is what the file says of its plant at first, so that all steps from there write the result.
-use mathlib.Core.Path.{sym, ap, ap₂, _∙_}
-use Prim.Native.Nat.{_+_}
+-- A run sets out from what stands at first, and along the stretch of the file's steps, to the file's end, all their records are laid; behind them comes the end record, and the result is whole.
+use mathlib.Core.Path.{ap}
+use Prim.Native.Nat.{ℕ, _+_, _*_}
 use native.Mathlib.Omega.{arith}
 use lib.ListN.{length}
-use Rattle.octets.specs.BigEndian.{laid}
-use Rattle.stretch.proofs.RoofLaws.{roofs-there}
-use Rattle.stretch.proofs.SiteLaws.{rows-there, loaded-sited}
-use Rattle.season.proofs.LoadLaws.{Begun, all-loaded, loaded-fits, all-written}
+use Rattle.season.proofs.AnswerLaws.{few-units, few-roofs, few-bytes, all-bytes, bytes-needed}
+use Rattle.season.proofs.StepsLaws.{goes, all-written}
 use borrow.Author.Needs.{needs}
 use Rattle.season.proofs.runs.write_with.Statement.{statement}
 use Rattle.season.proofs.runs.write_with.Tie as tie
 
--- where the rows are filled, seen from where the roofs' place is known and from where a run has begun; and where the function starts
-abbrev loaded : tie.After-roofs-place → tie.After-load
-loaded q = q .before .before .before .before .before
+-- where the function starts, where a run has set out, and where its steps are done
+abbrev start : tie.After-set-out → tie.Start
+start o = o .before .before .before .before .before .before .before .before .before .before
 
-abbrev placed : tie.After-begin → tie.After-roofs-place
-placed b = b .before .before .before .before .before .before
+abbrev away : tie.After-along → tie.After-set-out
+away w = w .before .before .before .before .before .before .before .before .before .before .before .before .before .before
 
-abbrev start : tie.After-load → tie.Start
-start o = o .before .before .before .before .before .before
+abbrev done : tie.After-put-end-arg → tie.After-along
+done e = e .before .before .before .before .before .before .before .before .before
 
--- where a run has begun, seen from behind its steps
-abbrev began : tie.After-all-steps → tie.After-begin
-began w = w .before .before .before .before .before .before .before .before .before .before .before .before .before
+mul-size : tie.Need-mul-size
+mul-size c = let (n, (ls, f)) = c .before .before .before .before .pre in omega (arith, ls .requests-there, few-units n)
 
--- what then stands
-begun : (b : tie.After-begin) → let q = placed b in let o = loaded q in let s = start o in let last = b .begin .last .1 .1 .1 in
-    Begun (s .args .file .now) (o .load .last .1 .0) (q .roofs-place .result) (length (s .args .on .now)) (last .0) (last .1 .0) (last .1 .1 .0) (last .1 .1 .1 .0)
-begun b =
-    let q = placed b in
-    let (n, (ls, f)) = start (loaded q) .pre in
-    let (es, (ev, (eh, eo))) = b .begin .ensures in
-    record { count = ls .flags-there; place = q .roofs-place .ensures; units = es; own = ev; held = eh; off = eo }
+mul-size-2 : tie.Need-mul-size-2
+mul-size-2 c = let (n, (ls, f)) = c .before .before .before .before .pre in omega (arith, ls .flags-there, few-roofs n)
 
-load-requires : tie.Need-load-requires
-load-requires c κs = let (n, (ls, f)) = c .before .before .before .before .before .pre in (n .accepted, ls .rows-there)
+add-size : tie.Need-add-size
+add-size c = let (n, (ls, f)) = c .before .before .before .before .pre in omega (arith, ls .requests-there, few-units n, ls .flags-there, few-roofs n)
 
-head-requires : tie.Need-head-requires
-head-requires c κs = let (n, (ls, f)) = c .before .before .before .before .before .before .before .pre in n .accepted
+set-out-requires : tie.Need-set-out-requires
+set-out-requires c κs = let (n, (ls, f)) = c .before .before .before .before .before .before .before .before .before .pre in (n .accepted, ls)
 
-framed-requires : tie.Need-framed-requires
-framed-requires c κs =
-    let h = c .before in
-    let o = h .before .before in
-    let s = start o in
-    let (n, (ls, f)) = s .pre in
-    let (eu, rs) = o .load .ensures in
-    (loaded-sited (s .args .file .now) (o .load .last .1 .0) eu (h .head .result) (h .head .ensures) (n .accepted), rs)
+along-requires : tie.Need-along-requires
+along-requires c κs =
+    let o = c .before .before .before .before .before .before .before .before .before .before .before .before .before in
+    let (n, (ls, f)) = start o .pre in
+    let out = o .set-out .ensures in
+    (out .planted, (out .held, goes n out (length (start o .args .room .now)) f))
 
-roofs-place-requires : tie.Need-roofs-place-requires
-roofs-place-requires c κs = search needs
+mul-put-end : tie.Need-mul-put-end
+mul-put-end c = let (n, (ls, f)) = start (away (done c)) .pre in omega (arith, few-bytes n (ls .requests-there) (ls .flags-there))
 
-begin-requires : tie.Need-begin-requires
-begin-requires c κs =
-    let q = c .before .before .before .before .before in
-    let o = loaded q in
-    let s = start o in
-    let (n, (ls, f)) = s .pre in
-    let file = s .args .file .now in
-    let (eu, rs) = o .load .ensures in
-    let there = rows-there file (o .load .last .1 .0) eu in (
-      roofs-there file (n .accepted) (length (s .args .on .now)) (q .roofs-place .result) (ls .flags-there) (q .roofs-place .ensures),
-      (ls .stored-there ∙ sym there, (ls .requests-there ∙ sym there, ls .vars-there ∙ sym (ap₂ _+_ there (ls .flags-there)))),
-    )
-
-all-steps-requires : tie.Need-all-steps-requires
-all-steps-requires c κs =
-    let b = c .before .before .before .before .before .before .before .before .before .before .before .before in
-    let q = placed b in
-    let m = q .before in
-    let h = m .before .before in
-    let o = h .before .before in
-    let s = start o in
-    let (n, (ls, f)) = s .pre in
-    let file = s .args .file .now in
-    let rows = o .load .last .1 .0 in
-    let (eu, rs) = o .load .ensures in
-    let last = b .begin .last .1 .1 .1 in
-    let frame = m .framed .result in
-    let (ef, rd) = m .framed .ensures in (
-      n,
-      (
-        all-loaded file rows eu (h .head .result) (h .head .ensures) frame ef (n .accepted) (q .roofs-place .result) (length (s .args .on .now)) (last .0) (last .1 .0) (last .1 .1 .0) (last .1 .1 .1 .0) (begun b) rd,
-        loaded-fits file rows eu (h .head .result) (h .head .ensures) frame ef (s .args .count) (length (s .args .room .now)) n f,
-      ),
-    )
+put-end-requires : tie.Need-put-end-requires
+put-end-requires c κs = let (n, (ls, f)) = start (away (done c)) .pre in omega (arith, bytes-needed n (ls .requests-there) (ls .flags-there), f, done c .along .kept)
 
 same-length : tie.Need-same-length
-same-length c =
-    omega (arith, loaded (placed (began (c .before .before .before .before .before .before .before .before))) .load .kept)
+same-length c = search needs
 
 same-length-2 : tie.Need-same-length-2
 same-length-2 c = search needs
@@ -108,32 +64,26 @@ same-length-6 c = search needs
 
 returns : tie.Need-returns
 returns c =
-    let w = c .before .before .before .before .before .before .before .before in
-    let b = began w in
-    let q = placed b in
-    let m = q .before in
-    let h = m .before .before in
-    let o = h .before .before in
-    let s = start o in
-    let (n, (ls, f)) = s .pre in
-    let (eu, rs) = o .load .ensures in
-    let last = b .begin .last .1 .1 .1 in
-    let (ef, rd) = m .framed .ensures in
-    w .all-steps .ensures
-    ∙ ap (laid (s .args .room .now) 0)
-    (all-written (s .args .file .now) (o .load .last .1 .0) eu (h .head .result) (h .head .ensures) (m .framed .result) ef (n .accepted) (q .roofs-place .result) (length (s .args .on .now)) (last .0) (last .1 .0)
-    (last .1 .1 .0) (last .1 .1 .1 .0) (begun b))
+    let e = c .before .before in
+    let w = done (e .before) in
+    let o = away w in
+    let a = start o .args in
+    let (n, (ls, f)) = start o .pre in
+    let (ek, (ed, (eh, (es, er)))) = w .along .ensures in
+    all-written n (o .set-out .ensures) (a .room .now) (w .along .last .1 .1 .1 .1 .1 .1 .1 .1 .0) (e .put-end .last .0) ((40 * length (a .requests .now) + 29 * length (a .on .now)) * a .count)
+    (ap (λ (k : ℕ). k * a .count) (all-bytes (a .file .now) (ls .requests-there) (ls .flags-there))) er (e .put-end .ensures)
 
 pub write-with-spec : {M : Type 1} → statement M
 write-with-spec =
     tie.close
     (tie.spec
-    load-requires
-    head-requires
-    framed-requires
-    roofs-place-requires
-    begin-requires
-    all-steps-requires
+    mul-size
+    mul-size-2
+    add-size
+    set-out-requires
+    along-requires
+    mul-put-end
+    put-end-requires
     same-length
     same-length-2
     same-length-3
