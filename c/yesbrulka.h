@@ -417,6 +417,27 @@ uint64_t yb_rescue_changes(const uint8_t *file, size_t file_len);
 uint32_t yb_rescue_steps(const uint8_t *file, size_t file_len);
 uint32_t yb_rescue(const uint8_t *file, size_t file_len, uint8_t *out, size_t out_len, uint8_t *list, size_t list_len);
 
+/* The verdict on a partner's result: it is right; some of it is wrong; it lacks what a field of the run file asks for.
+*/
+enum { YB_RIGHT = 0, YB_WRONG = 1, YB_LACKING = 2 };
+
+/* Judge a partner's result: hold it beside what the run of a file writes.
+**
+** A result is right if it has just the bytes that yb_run writes. Else what is shown is the first field that is wrong:
+** the first record of the run, of 40, 29 or 7 bytes, that does not stand in its place in the result. The bytes there
+** are shown as they are, as many as the record has, or fewer where the result ends. If there are none, the field of the
+** run file is shown that asks for the record, with its tag and length: the step's reading, a missing one too, or for
+** the end record the end field. If all records stand there and bytes follow, these are shown.
+**
+** Stores in *verdict 0 if the result is right, 1 if bytes of the result are shown and 2 if a field of the run file is;
+** in *start the place of the first byte that is shown, in that file, and in *len how many they are. For a right result
+** both are 0.
+**
+** Returns 0, or the number of yb_check for the run file. *verdict, *start and *len are written only when 0 is returned.
+*/
+uint32_t yb_partner(const uint8_t *run, size_t run_len, const uint8_t *result, size_t result_len, uint8_t *verdict,
+    uint64_t *start, uint64_t *len);
+
 #ifdef __cplusplus
 }
 #endif

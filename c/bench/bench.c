@@ -14,7 +14,7 @@
 ** file.
 **
 ** The first of these fleets, with inverters and without, are run once more by the archive alone: fed in chunks of
-** 65,536 bytes, beside the run of the whole file.
+** 65,536 bytes, beside the run of the whole file; and their results are judged as a partner's, beside the run.
 **
 ** Exit status 0 if both checks gave the right number, place and steps for each file and all runs the same result, 1
 ** if one did not, 2 if there is no clock or the lines cannot be written. The times do not matter for it.
@@ -409,6 +409,21 @@ static double time_feed(void)
     return time_one_run(feed_run);
 }
 
+/* The verdict on the archive's own result, which is right. */
+static double time_partner(void)
+{
+    uint8_t verdict = 1;
+    uint64_t shown = 0, len = 0;
+    double start = now();
+    uint32_t number = yb_partner(file, file_len, kept, room_len, &verdict, &shown, &len);
+    double end = now();
+    if (number != 0 || verdict != YB_RIGHT) {
+        printf("WRONG: the archive's own result is not right\n");
+        exit(1);
+    }
+    return end - start;
+}
+
 static int by_size(const void *a, const void *b)
 {
     double x = *(const double *)a, y = *(const double *)b;
@@ -571,6 +586,16 @@ static int show_runs(void)
     return right;
 }
 
+static void show_pair(int units, int inverters, size_t bytes, struct pair pair)
+{
+    double steps = (double)(units + inverters) * YEAR;
+    printf("%5d  %9d  %8zu", units, inverters, bytes);
+    printf("  |  %8.1f  %9.1f  %7.4f", pair.archive.median / steps, pair.reference.median / steps, pair.ratio);
+    printf("  |  %8.1f  %9.1f  %7.4f\n", pair.archive.least / steps, pair.reference.least / steps,
+        pair.archive.least / pair.reference.least);
+    fflush(stdout);
+}
+
 /* The archive's run of a year, fed and whole. */
 static int show_fed(int units, int inverters)
 {
@@ -584,32 +609,51 @@ static int show_fed(int units, int inverters)
             memcmp(room, kept, room_len) == 0 ? "the same" : "not the same");
         return 0;
     }
-    struct pair pair = measure(time_feed, time_run);
-    double steps = (double)(units + inverters) * YEAR;
-    printf("%5d  %9d  %8zu", units, inverters, file_len);
-    printf("  |  %8.1f  %9.1f  %7.4f", pair.archive.median / steps, pair.reference.median / steps, pair.ratio);
-    printf("  |  %8.1f  %9.1f  %7.4f\n", pair.archive.least / steps, pair.reference.least / steps,
-        pair.archive.least / pair.reference.least);
-    fflush(stdout);
+    show_pair(units, inverters, file_len, measure(time_feed, time_run));
     return 1;
+}
+
+/* The verdict on its result, and the run. */
+static int show_judged(int units, int inverters)
+{
+    make_year(units, inverters, 1, 0);
+    if (yb_run(file, file_len, kept, room_len) != 0) {
+        printf("WRONG: the run of %d units and %d inverters is refused\n", units, inverters);
+        return 0;
+    }
+    show_pair(units, inverters, room_len, measure(time_partner, time_run));
+    return 1;
+}
+
+/* Lines of the archive beside its own run, for each fleet. */
+static int show_beside_run(const char *what, int (*show_one)(int units, int inverters))
+{
+    static const int fleets[] = {1, 8, 64}, roofs[] = {8, 64};
+    int right = 1;
+    printf("%26s  |  %-28s  |  least\n", "", "median");
+    printf("%5s  %9s  %8s", "units", "inverters", "bytes");
+    for (int i = 0; i < 2; i++)
+        printf("  |  %8s  %9s  %7s", what, "run", "ratio");
+    printf("\n");
+    for (size_t i = 0; i < sizeof fleets / sizeof fleets[0]; i++)
+        right &= show_one(fleets[i], 0);
+    for (size_t i = 0; i < sizeof roofs / sizeof roofs[0]; i++)
+        right &= show_one(roofs[i], roofs[i]);
+    return right;
 }
 
 static int show_feeds(void)
 {
-    static const int fleets[] = {1, 8, 64}, roofs[] = {8, 64};
-    int right = 1;
     printf("\nThe archive's run of %d steps, fed in chunks of %d bytes and whole: ns for each step of a unit or an\n"
-        "inverter, of %d rounds; the ratio is fed / whole.\n\n", YEAR, CHUNK, ROUNDS);
-    printf("%26s  |  %-28s  |  least\n", "", "median");
-    printf("%5s  %9s  %8s", "units", "inverters", "bytes");
-    for (int i = 0; i < 2; i++)
-        printf("  |  %8s  %9s  %7s", "fed", "whole", "ratio");
-    printf("\n");
-    for (size_t i = 0; i < sizeof fleets / sizeof fleets[0]; i++)
-        right &= show_fed(fleets[i], 0);
-    for (size_t i = 0; i < sizeof roofs / sizeof roofs[0]; i++)
-        right &= show_fed(roofs[i], roofs[i]);
-    return right;
+        "inverter, of %d rounds; the ratio is fed / run.\n\n", YEAR, CHUNK, ROUNDS);
+    return show_beside_run("fed", show_fed);
+}
+
+static int show_verdicts(void)
+{
+    printf("\nThe archive's verdict on the right result of %d steps, of so many bytes, and the run that writes it: ns\n"
+        "for each step of a unit or an inverter, of %d rounds; the ratio is judged / run.\n\n", YEAR, ROUNDS);
+    return show_beside_run("judged", show_judged);
 }
 
 int main(void)
@@ -627,6 +671,7 @@ int main(void)
     }
     right &= show_runs();
     right &= show_feeds();
+    right &= show_verdicts();
     printf("\nThe reference here is ordinary Rust written to be quick (reference/bench/src/tight.rs, run.rs).\n");
     if (fflush(stdout) != 0 || ferror(stdout))
         give_up("the lines cannot be written");

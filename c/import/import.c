@@ -1,9 +1,10 @@
 /* import: checks the run files of sticks, in bulk, and shows what is wrong with one; keeps what can be kept of a
-** damaged one; runs a season into a result file, and shows what came out; studies where a fleet settles.
+** damaged one; runs a season into a result file, shows what came out, and judges a result that a partner made; studies
+** where a fleet settles.
 **
 ** The file's bytes are fed to the library; this program only reads, asks, writes and prints. Exit status 0 if
-** all files are complete and what was asked for is done, 1 if something was refused, 2 for a wrong call, a file
-** that cannot be read or written, or lines that cannot be written.
+** all files are complete and what was asked for is done, 1 if something was refused or a result is wrong, 2 for a wrong
+** call, a file that cannot be read or written, or lines that cannot be written.
 */
 #include <inttypes.h>
 #include <string.h>
@@ -19,6 +20,7 @@ static const char usage[] =
     "       import show FILE                  check one, and show the value bytes of the field that was refused\n"
     "       import run FILE RESULT            check one and run it; RESULT is written whole or not at all\n"
     "       import rescue FILE OUT            keep what can be kept of a damaged one, as a complete one in OUT\n"
+    "       import partner FILE RESULT        say whether a partner's result is right, or where it is wrong\n"
     "       import settle FILE LOAD [BUDGET]  study where the file's fleet settles over a fixed load of LOAD watts\n"
     "       import table FILE RESULT          show a result as a table, a line for each step and unit or inverter\n"
     "       import summary FILE RESULT        show a result as a planner reads it, a line for each unit and inverter\n"
@@ -28,10 +30,12 @@ static const char meanings[] =
     "\n"
     "FILE is a run file as it is on a stick, RESULT the result file that run made of it. Steps, units and inverters\n"
     "are counted from 0, as in RESULT; only the advice on a refused FILE counts them as people do: the 1st unit is\n"
-    "unit 0. Power is positive when a unit or an inverter gives and negative when a unit takes.\n"
+    "unit 0. Of a wrong RESULT both are said. Power is positive when a unit or an inverter gives and negative when a\n"
+    "unit takes.\n"
     "\n"
-    "FILE may come through a pipe; - is standard input. It is read piece by piece, however long it is, and at a\n"
-    "terminal a line says how far that is where FILE has more than 2097152 bytes. rescue takes no more than these.\n"
+    "FILE may come through a pipe, and so may RESULT where it is read; - is standard input. FILE is read piece by\n"
+    "piece, however long it is, and at a terminal a line says how far that is where FILE has more than 2097152 bytes.\n"
+    "rescue and partner take no more than these.\n"
     "\n"
     "A FILE of edition 3 is a plan made with the older storage model: a unit draws its idle loss at the grid, in\n"
     "every step. Its power is then that at the grid: what its own inverter gives less the idle loss, and negative if\n"
@@ -51,6 +55,11 @@ static const char meanings[] =
     "         stick ends, with a new end field that counts the steps before it. What is kept is as it was, byte for\n"
     "         byte. OUT is written whole or not at all, as RESULT is; a complete FILE is written as it is. A rescued\n"
     "         stick has lost data: keep the damaged one.\n"
+    "partner  A RESULT is right if it is, byte for byte, what run gives. Of another one the first field that is wrong\n"
+    "         is shown: what is due there, and each value of theirs and of ours, with its bytes: same, differs, cut\n"
+    "         short (RESULT ends within it) or missing. If RESULT ends before the field, the reading or the end field\n"
+    "         of FILE is shown that asks for it; if it goes on behind its end, the first bytes that follow. table and\n"
+    "         summary say the same of a RESULT that is wrong, and show nothing else of it.\n"
     "settle   LOAD is 0 to 100000000, BUDGET the most passes, 1 to 10000; without it 10000. Target, band and factor\n"
     "         are the file's, and the mode is 1 (PeakShave), whatever the file's: it studies by watts, and takes a\n"
     "         target and band in mA as W. The reading left is the load less all requests. Of a study that its budget\n"
@@ -85,8 +94,8 @@ static const char meanings[] =
     "         high_var   the largest vars of a step, and low_var the smallest, by their signs: vars are positive if\n"
     "                    they are provided; at_step is the first step that had them. Without a step all are -.\n"
     "\n"
-    "Exit status: 0 all files are complete or, with rescue, OUT is written, 1 a file or a value was refused, or\n"
-    "RESULT is not the result of FILE, 2 a wrong call, or a file that cannot be read or written.\n";
+    "Exit status: 0 all files are complete or, with rescue, OUT is written or, with partner, RESULT is right, 1 a file\n"
+    "or a value was refused, or RESULT is wrong, 2 a wrong call, or a file that cannot be read or written.\n";
 
 /* The progress line comes after each file's lines and goes before the next ones. */
 static void files_progress(int done, int all)
@@ -159,6 +168,12 @@ static int rescue_words(int count, char **words)
     return rescue_command(words[0], words[1]);
 }
 
+static int partner_words(int count, char **words)
+{
+    (void)count;
+    return partner_command(words[0], words[1]);
+}
+
 static int settle_words(int count, char **words)
 {
     return settle_command(words[0], words[1], count > 2 ? words[2] : "10000");
@@ -193,6 +208,7 @@ static const struct {
     {"show", 1, 1, show_command, "show needs one FILE"},
     {"run", 2, 2, run_words, "run needs a FILE and a RESULT"},
     {"rescue", 2, 2, rescue_words, "rescue needs a FILE and an OUT"},
+    {"partner", 2, 2, partner_words, "partner needs a FILE and a RESULT"},
     {"settle", 2, 3, settle_words, "settle needs a FILE, a LOAD and perhaps a BUDGET"},
     {"table", 2, 2, table_words, "table needs a FILE and its RESULT"},
     {"summary", 2, 2, summary_words, "summary needs a FILE and its RESULT"},

@@ -48,9 +48,9 @@ struct before {
 int is_by_current(unsigned mode);
 int is_reading(uint8_t tag);
 
-/* A stick as far as it was fed to the library, and the library's answer. A caller gives its name; and says whether the
-** bytes of a refused field are to be shown, and whether all bytes are to be kept, to be fed again. All else is the
-** feed's, and what it points to is there until the next stick is fed.
+/* A stick as far as it was fed to the library, and the library's answer. A caller gives its name, and that of a result
+** that was given with it; and says whether the bytes of a refused field are to be shown, and whether all bytes are to
+** be kept, to be fed again. All else is the feed's, and what it points to is there until the next stick is fed.
 **
 ** The head is a file by itself: the fields before the first step, and an end field. It is complete where the stick is,
 ** and what a stick says is asked of it. The window is a part of the file from a place on, and has what is known of the
@@ -58,7 +58,7 @@ int is_reading(uint8_t tag);
 ** was asked for as a complete one.
 */
 struct stick {
-    const char *name;
+    const char *name, *result;
     int is_shown, is_kept;
     uint64_t len, place;
     uint32_t number, steps;
@@ -115,8 +115,15 @@ int is_standard_input(const char *name);
 FILE *open_input(const char *name);
 void close_input(FILE *in);
 
-/* Why reading went wrong just now. */
+/* The bytes of an open file, or 0 where nobody knows them. */
+uint64_t input_size(FILE *in);
+
+/* Why reading went wrong just now; and there is no memory for something, which is told. Gives FAILED. */
 const char *reading_fault(void);
+int no_memory(const char *name, const char *what);
+
+/* Read a file into a room, as much of it as the room holds. Gives COMPLETE, or FAILED, which is told. */
+int read_input(const char *name, uint8_t *room, size_t room_len, size_t *len);
 
 /* Feed a file to the library, as much of it as is needed, and hand on what the run gives as it comes; there may be no
 ** taker. Gives what came of it; where it FAILED, that is told.
@@ -165,8 +172,13 @@ void end_progress(void);
 /* Print a name as a part of one line. */
 void print_name(FILE *out, const char *name);
 
-/* Print a number, its thousands parted by commas. */
+/* Print a number, its thousands parted by commas; and so many of something, with the word that follows one or several.
+*/
 void print_commas(uint64_t number);
+void print_many(uint64_t number, const char *what, const char *of_one, const char *of_many);
+
+/* Print bytes, 16 a row, each row with the place of its first byte. */
+void print_bytes(const uint8_t *bytes, uint64_t count, uint64_t place);
 
 /* Say on standard error what is the matter with a file; give FAILED. */
 int failed(const char *name, const char *what, const char *why);
@@ -186,8 +198,14 @@ unsigned fleet_units(const struct stick *stick);
 /* What a mode is called, in brackets behind its number; nothing for a number that is no mode. */
 const char *mode_name(unsigned mode);
 
+/* Whether the first bytes of a file are those that every stick begins with. */
+int begins_like_a_stick(const uint8_t *bytes, size_t len);
+
 /* Print a file's line and, of a refused one, what to do; and the refused field's bytes where they are shown. */
 void print_answer(const struct stick *stick);
+
+/* The same of a refused one, and on standard error what was not done; give REFUSED. */
+int refused(const struct stick *stick, const char *not_done);
 
 /* Feed a file that has to be complete; of a refused one print the answer, and on standard error what was not done. */
 int ask_complete(struct stick *stick, const struct taker *taker, const char *not_done);
@@ -233,6 +251,7 @@ void drop_whole(struct whole *whole);
 /* The commands, with the words that follow them. */
 int run_command(const char *file, const char *result);
 int rescue_command(const char *file, const char *out);
+int partner_command(const char *file, const char *result);
 int settle_command(const char *file, const char *load, const char *budget);
 int table_command(const char *file, const char *result);
 int summary_command(const char *file, const char *result);

@@ -58,7 +58,8 @@ static const struct words refusals[] = {
 /* A file that is too long to be lent as a whole is refused at its first byte, and one of too many steps never is. */
 static const struct words too_long = {"too many bytes or steps",
     "The file has more than the 2,097,152 bytes that are taken as a whole. Check it with import check, which takes any "
-    "length: if it is complete it needs no rescue; else copy the stick again or ask the manager for a new one."};
+    "length: if it is complete it needs no rescue, and import summary judges its result too; else copy the stick again "
+    "or ask the manager for a new one."};
 
 /* What more is known where a refusal is about the edition or about a unit, whose length and limits go by it. */
 static const struct words bad_fleet = {"value out of range",

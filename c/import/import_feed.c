@@ -48,9 +48,20 @@ const char *reading_fault(void)
     return errno == EISDIR ? "it is a folder" : strerror(errno);
 }
 
-static int no_memory(const char *name, const char *what)
+int no_memory(const char *name, const char *what)
 {
     return failed(name, what, "close other programs and call again");
+}
+
+int read_input(const char *name, uint8_t *room, size_t room_len, size_t *len)
+{
+    FILE *in = open_input(name);
+    if (in == NULL)
+        return failed(name, "cannot be read: ", reading_fault());
+    *len = fread(room, 1, room_len, in);
+    int outcome = ferror(in) ? failed(name, "cannot be read: ", reading_fault()) : COMPLETE;
+    close_input(in);
+    return outcome;
 }
 
 static int make_room(const char *name, uint64_t asked)
@@ -166,7 +177,7 @@ static void tell_progress(const struct stick *stick, uint64_t size)
     show_progress(text);
 }
 
-static uint64_t size_of(FILE *in)
+uint64_t input_size(FILE *in)
 {
     struct stat there;
     return fstat(fileno(in), &there) == 0 && S_ISREG(there.st_mode) ? (uint64_t)there.st_size : 0;
@@ -193,7 +204,7 @@ static int next_chunk(struct stick *stick, const struct taker *taker, FILE *in, 
 
 static int feed_all(struct stick *stick, const struct taker *taker, FILE *in)
 {
-    uint64_t size = size_of(in);
+    uint64_t size = input_size(in);
     size_t count = CHUNK;
     int outcome = start_feed(stick->name);
     while (outcome == COMPLETE && count == CHUNK) {

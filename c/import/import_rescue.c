@@ -40,18 +40,6 @@ static struct change change_at(size_t which)
     return (struct change){number_at(bytes, CHANGE_KIND), number_at(bytes + CHANGE_DROPPED, 8), bytes[CHANGE_KIND]};
 }
 
-static int read_file(struct rescue *rescue)
-{
-    const char *name = rescue->stick.name;
-    FILE *in = open_input(name);
-    if (in == NULL)
-        return failed(name, "cannot be read: ", reading_fault());
-    rescue->len = fread(file, 1, sizeof file, in);
-    int outcome = ferror(in) ? failed(name, "cannot be read: ", reading_fault()) : COMPLETE;
-    close_input(in);
-    return outcome;
-}
-
 /* The rooms that are lent are those that the library asks for, if a rescue of FILE can need them. */
 static int ask_rescue(struct rescue *rescue)
 {
@@ -216,13 +204,6 @@ static int print_refused(const struct rescue *rescue)
     return REFUSED;
 }
 
-/* So many of something, and the word that follows one or several. */
-static void print_many(uint64_t number, const char *what, const char *of_one, const char *of_many)
-{
-    print_commas(number);
-    printf(" %s%s%s", what, number == 1 ? "" : "s", number == 1 ? of_one : of_many);
-}
-
 /* What the check finds where an end was put in; the place follows at the mark. */
 static const char *const endings[] = {
     "the stick is not good at byte #",
@@ -323,7 +304,7 @@ static void print_rescued(const struct rescue *rescue, const char *out)
 static int rescue_into(struct rescue *rescue, const char *out, const char *target)
 {
     struct whole whole;
-    if (read_file(rescue) != COMPLETE || ask_all(rescue) != COMPLETE)
+    if (read_input(rescue->stick.name, file, sizeof file, &rescue->len) != COMPLETE || ask_all(rescue) != COMPLETE)
         return FAILED;
     if (rescue->number != 0)
         return print_refused(rescue);

@@ -10,8 +10,7 @@ size_t step_bytes(unsigned units, unsigned inverters)
     return (size_t)RECORD_BYTES * units + (size_t)SOLAR_BYTES * inverters;
 }
 
-/* A signed number of four bytes, and a double. */
-static int32_t signed_at(const uint8_t *bytes)
+int32_t signed_at(const uint8_t *bytes)
 {
     uint32_t number = (uint32_t)number_at(bytes, 4);
     return number <= INT32_MAX ? (int32_t)number : -(int32_t)(UINT32_MAX - number) - 1;
@@ -105,6 +104,19 @@ void kw_text(char *text, int64_t watts)
 {
     int64_t size = watts < 0 ? -watts : watts;
     snprintf(text, KW_TEXT, "%s%" PRId64 ".%03d", watts < 0 ? "-" : "", size / 1000, (int)(size % 1000));
+}
+
+/* A power of a run has just the bits of its watts divided by one thousand. */
+void power_text(char *text, const uint8_t *kw)
+{
+    int32_t watts = 0;
+    double number = double_at(kw), whole = watts_at(&watts, kw) ? watts / 1000.0 : 0;
+    if (memcmp(&whole, &number, sizeof whole) == 0)
+        kw_text(text, watts);
+    else if (number != number)
+        strcpy(text, "no number");
+    else
+        snprintf(text, KW_TEXT, "%.17g", number);
 }
 
 static void print_unit(const struct run *run, uint32_t step, unsigned unit)

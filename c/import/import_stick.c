@@ -1,5 +1,8 @@
 /* Sticks: asking the library what one says, and the lines that say what came of it. */
+#define _POSIX_C_SOURCE 200809L /* for stat */
 #include <inttypes.h>
+#include <string.h>
+#include <sys/stat.h>
 
 #include "import.h"
 #include "import_result.h"
@@ -19,6 +22,21 @@ void print_commas(uint64_t number)
         printf(",%03u", (unsigned)(number % 1000));
     } else {
         printf("%u", (unsigned)number);
+    }
+}
+
+void print_many(uint64_t number, const char *what, const char *of_one, const char *of_many)
+{
+    print_commas(number);
+    printf(" %s%s%s", what, number == 1 ? "" : "s", number == 1 ? of_one : of_many);
+}
+
+void print_bytes(const uint8_t *bytes, uint64_t count, uint64_t place)
+{
+    for (uint64_t at = 0; at < count; at++) {
+        if (at % 16 == 0)
+            printf("    %8" PRIu64 " ", place + at);
+        printf(" %02X%s", bytes[at], at % 16 == 15 || at + 1 == count ? "\n" : "");
     }
 }
 
@@ -66,7 +84,6 @@ static const char *no_value(const struct stick *stick)
     return said_length(stick) != 0 ? "the file ends after its tag and length" : "its length is 0";
 }
 
-/* The value bytes of the refused field, 16 a row, each row with the place of its first byte. */
 static void print_value(const struct stick *stick)
 {
     uint64_t place = stick->place - stick->window_from;
@@ -80,18 +97,48 @@ static void print_value(const struct stick *stick)
         printf("    The field's %" PRIu64 " value bytes:\n", count);
     else
         printf("    The %" PRIu64 " value bytes that are there, of %u:\n", count, said_length(stick));
-    for (uint64_t at = 0; at < count; at++) {
-        if (at % 16 == 0)
-            printf("    %8" PRIu64 " ", stick->window_from + start + at);
-        printf(" %02X%s", stick->window[start + at], at % 16 == 15 || at + 1 == count ? "\n" : "");
-    }
+    print_bytes(stick->window + start, count, stick->window_from + start);
 }
 
-/* A result in the stick's place is told from other bytes that are no stick. */
+/* A result in the stick's place is told from other bytes that are no stick, and from a stick that is too long. */
 static int looks_like_a_result(const struct stick *stick)
 {
-    return stick->number == YB_UNKNOWN_TAG && stick->place == 0 && refused_len(stick) != 0 &&
+    return (stick->number == YB_UNKNOWN_TAG || stick->number == YB_TOO_MANY) && stick->place == 0 &&
+        refused_len(stick) != 0 &&
         (*refused_bytes(stick) == RECORD_TAG || *refused_bytes(stick) == RESULT_END_TAG);
+}
+
+int begins_like_a_stick(const uint8_t *bytes, size_t len)
+{
+    static const uint8_t fleet[] = {FLEET_TAG, 0, 6};
+    return len >= sizeof fleet && memcmp(bytes, fleet, sizeof fleet) == 0;
+}
+
+/* Whether the result that was given with the stick is one itself. Only of a plain file the first bytes can be read for
+** that and nothing waits.
+*/
+static int has_stick_for_result(const struct stick *stick)
+{
+    uint8_t first[HEADER];
+    struct stat there;
+    if (stick->result == NULL || stat(stick->result, &there) != 0 || !S_ISREG(there.st_mode))
+        return 0;
+    FILE *in = fopen(stick->result, "rb");
+    size_t len = in == NULL ? 0 : fread(first, 1, sizeof first, in);
+    if (in != NULL)
+        fclose(in);
+    return begins_like_a_stick(first, len);
+}
+
+static void print_exchanged(const struct stick *stick)
+{
+    if (has_stick_for_result(stick)) {
+        printf("    It looks like a result file, and ");
+        print_name(stdout, stick->result);
+        printf(" like a stick: they may have been exchanged; the stick's file comes first.\n");
+    } else {
+        printf("    It looks like a result file; where a command takes both, the stick's file comes first.\n");
+    }
 }
 
 void print_answer(const struct stick *stick)
@@ -105,19 +152,24 @@ void print_answer(const struct stick *stick)
         refusal_name(stick), stick->place, stick->steps);
     print_advice(stick);
     if (looks_like_a_result(stick))
-        printf("    It looks like a result file; where a command takes both, the stick's file comes first.\n");
+        print_exchanged(stick);
     if (stick->is_shown)
         print_value(stick);
+}
+
+int refused(const struct stick *stick, const char *not_done)
+{
+    print_answer(stick);
+    failed(stick->name, "refused; ", not_done);
+    return REFUSED;
 }
 
 int ask_complete(struct stick *stick, const struct taker *taker, const char *not_done)
 {
     int outcome = feed_file(stick, taker);
-    if (outcome != REFUSED)
-        return outcome == COMPLETE ? ask_site(stick) : outcome;
-    print_answer(stick);
-    failed(stick->name, "refused; ", not_done);
-    return REFUSED;
+    if (outcome == REFUSED)
+        return refused(stick, not_done);
+    return outcome == COMPLETE ? ask_site(stick) : outcome;
 }
 
 int ask_settings(struct settings *settings, const struct stick *stick)

@@ -125,7 +125,7 @@ enum { FIRST = LISTS, SECOND, THIRD, FOURTH, FIFTH, TWELFTH = FIRST + 11, ALL_LE
 
 static const size_t widths[LISTS] = {8, 8, 8, 4, 2, 1, 2, 4};
 static struct lent lent[ALL_LENT];
-static struct lent lent_file, lent_room, lent_list, lent_state;
+static struct lent lent_file, lent_result, lent_room, lent_list, lent_state;
 
 /* Memory of a length between guards; what it holds is still to be filled in and then kept. */
 static uint8_t *between_guards(struct lent *lent, size_t length)
@@ -425,11 +425,17 @@ static void call_solar(const uint8_t *payload, size_t length)
     }
 }
 
-/* The file of a call, a length u32 and that many bytes, lent; its length is that of what was lent. */
-static const uint8_t *take_file(struct rest *rest)
+/* A file of a call, a length u32 and that many bytes, lent; its length is that of what was lent. */
+static const uint8_t *take_file_into(struct rest *rest, struct lent *lent)
 {
     uint64_t length = take_number(rest, 4);
-    return lend(&lent_file, take(rest, length), length);
+    return lend(lent, take(rest, length), length);
+}
+
+/* The same of the one file of a call, or of its run file. */
+static const uint8_t *take_file(struct rest *rest)
+{
+    return take_file_into(rest, &lent_file);
 }
 
 /* 'C': any number of files. For each the check's number u32, place u64 and steps u32; 1 if anything was
@@ -739,6 +745,25 @@ static void call_rescue(const uint8_t *payload, size_t length)
     }
 }
 
+/* 'J': any number of run files, each with a partner's result behind it, of both the length u32 and that many bytes; for
+** each the number u32; 1 if either file or a guard was written, u8; and what yb_partner left: verdict u8, start and
+** len u64.
+*/
+static void call_partner(const uint8_t *payload, size_t length)
+{
+    struct rest rest = {payload, length, "op J: the payload is no row of run files and results"};
+    while (rest.length != 0) {
+        const uint8_t *run = take_file(&rest);
+        const uint8_t *result = take_file_into(&rest, &lent_result);
+        uint8_t *verdict = lend_number(&lent[FIRST], sizeof *verdict);
+        uint64_t *start = lend_number(&lent[SECOND], sizeof *start);
+        uint64_t *len = lend_number(&lent[THIRD], sizeof *len);
+        put(yb_partner(run, lent_file.length, result, lent_result.length, verdict, start, len), 4);
+        put((uint64_t)(disturbed_one(&lent_file, 1) || disturbed_one(&lent_result, 1) || disturbed(FIRST, THIRD)), 1);
+        put_numbers(THIRD);
+    }
+}
+
 static const struct {
     uint8_t op;
     void (*call)(const uint8_t *payload, size_t length);
@@ -759,6 +784,7 @@ static const struct {
     {'R', call_run},
     {'E', call_feed},
     {'H', call_rescue},
+    {'J', call_partner},
 };
 
 static void dispatch(uint8_t op, const uint8_t *payload, size_t length)

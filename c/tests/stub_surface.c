@@ -18,6 +18,9 @@
 ** where the variable CANNED_RESCUE is set answers with its numbers: the refusal's, or 0, the room, how many changes,
 ** the steps, and for each change place, kind and bytes dropped. What it writes is then the file with these changes, as
 ** far as there are room and bytes. With CANNED_SPOILED set, the byte at that place of what it writes is another.
+**
+** A result is compared with the row of numbers, or where the variable CANNED_PARTNER is set the answers are its
+** numbers: the refusal's, or 0, the verdict, the start and the length of what is shown.
 */
 #include <stdlib.h>
 #include <string.h>
@@ -353,6 +356,75 @@ uint32_t yb_rescue(const uint8_t *file, size_t file_len, uint8_t *out, size_t ou
     put_up_to(&kept, file, file_len, from, file_len);
     if (getenv("CANNED_SPOILED") != NULL && told("CANNED_SPOILED", 0) < out_len)
         out[told("CANNED_SPOILED", 0)] ^= 1;
+    return 0;
+}
+
+/* The bytes of a field. */
+static size_t field_len(const uint8_t *field)
+{
+    return 3 + ((size_t)field[1] << 8 | field[2]);
+}
+
+/* What a stick's run gives, to be freed. */
+static uint8_t *whole_run(const uint8_t *run, size_t run_len, size_t *len)
+{
+    uint32_t steps = steps_in(run, run_len);
+    *len = (40 * (size_t)run[4] + 29 * (size_t)run[5]) * steps + 7;
+    uint8_t *all = malloc(*len), *end = all;
+    if (all == NULL)
+        abort();
+    for (uint32_t step = 0; step < steps; step++)
+        end = put_step(end, yb_seconds(run, run_len), run[4], run[5], step);
+    put_number(&(struct room){end, 7, 0}, UINT64_C(0x1F000400000000) + steps, 7);
+    return all;
+}
+
+/* The place of a step's reading, or of the end. */
+static size_t asking_place(const uint8_t *run, size_t run_len, uint32_t step)
+{
+    size_t at = 0;
+    while (run_len - at > 7 && (steps_in(run, at) != step || (run[at] != 0x04 && run[at] != 0x05)))
+        at += field_len(run + at);
+    return at;
+}
+
+/* What is shown of a field that is wrong, or of what is behind all of them. */
+static uint8_t show(const uint8_t *run, size_t run_len, const uint8_t *field, size_t size, size_t there,
+    uint64_t *start, uint64_t *len)
+{
+    *len = there < size ? there : size;
+    if (there != 0)
+        return 1;
+    *start = asking_place(run, run_len, field[0] == 0x1F ? UINT32_MAX : number_at(field + 3));
+    *len = field_len(run + *start);
+    return 2;
+}
+
+uint32_t yb_partner(const uint8_t *run, size_t run_len, const uint8_t *result, size_t result_len, uint8_t *verdict,
+    uint64_t *start, uint64_t *len)
+{
+    static const char partner[] = "CANNED_PARTNER";
+    size_t all, at = 0;
+    if (getenv(partner) != NULL) {
+        *verdict = (uint8_t)told(partner, 1);
+        *start = told(partner, 2);
+        *len = told(partner, 3);
+        return (uint32_t)told(partner, 0);
+    }
+    if (run_len > YB_MOST_FILE_BYTES || !is_stick(run, run_len))
+        return run_len > YB_MOST_FILE_BYTES ? 12 : (uint32_t)canned(run, run_len, 0);
+    uint8_t *ours = whole_run(run, run_len, &all);
+    while (at < all && result_len - at >= field_len(ours + at) &&
+        memcmp(ours + at, result + at, field_len(ours + at)) == 0)
+        at += field_len(ours + at);
+    *start = at;
+    if (at < all)
+        *verdict = show(run, run_len, ours + at, field_len(ours + at), result_len - at, start, len);
+    else
+        *verdict = (*len = result_len - at) != 0;
+    if (*verdict == 0)
+        *start = 0;
+    free(ours);
     return 0;
 }
 

@@ -1,6 +1,7 @@
 /* Faults for the test of the import tool's reading and writing: linked with the linker's --wrap, these stand between
-** the tool and the calls that read a stick and write a result. The variable IMPORT_FAULTS says which of them goes
-** wrong, and how, as a list of CALL:TIME:WHAT parted by blanks: of that call's first, second.. time, counted from 1,
+** the tool and the calls that read a stick, make room for one and write a result. The variable IMPORT_FAULTS says which
+** of them goes wrong, and how, as a list of CALL:TIME:WHAT parted by blanks: of that call's first, second.. time,
+** counted from 1,
 **
 **     a number     it fails with that error
 **     half         it is made for half of the bytes (write)
@@ -17,6 +18,7 @@
 
 size_t __real_fread(void *to, size_t size, size_t count, FILE *from);
 int __real_ferror(FILE *of);
+void *__real_realloc(void *of, size_t len);
 int __real_openat(int folder, const char *name, int how, ...);
 ssize_t __real_write(int to, const void *bytes, size_t len);
 int __real_fsync(int of);
@@ -65,6 +67,12 @@ size_t __wrap_fread(void *to, size_t size, size_t count, FILE *from)
 int __wrap_ferror(FILE *of)
 {
     return of == unreadable || __real_ferror(of);
+}
+
+void *__wrap_realloc(void *of, size_t len)
+{
+    static int time;
+    return fails("realloc", ++time) ? NULL : __real_realloc(of, len);
 }
 
 int __wrap_openat(int folder, const char *name, int how, mode_t mode)

@@ -144,8 +144,8 @@ small_sticks() {
 }
 
 # The suites, each in a part of its own.
-for part in check run faults settle result limits older roof current advice voltage feed rescue rescue_out canned \
-    rescue_canned; do
+for part in check run faults settle result limits older roof current advice voltage feed rescue rescue_out partner \
+    canned rescue_canned partner_canned; do
     # shellcheck disable=SC1090 # one of the parts beside this
     . "c/tests/test_import_$part.sh" || exit 1
 done
@@ -164,6 +164,12 @@ all_suites() {
     result_suite
     other_result_suite
     no_result_suite
+    partner_suite
+    partner_bytes_suite
+    partner_powers_suite
+    partner_behind_suite
+    partner_refused_suite
+    partner_pipe_suite
     limits_suite
     limits_words_suite
     older_suite
@@ -199,12 +205,13 @@ small_sticks
 called='' status='' output='' error=''
 # shellcheck disable=SC2086 # YB_STATIC may be no word
 good "$YB_CC" -O2 -Wall -Wextra -Werror -std=c11 $YB_STATIC -Ic -Wl,--wrap=openat,--wrap=write,--wrap=fsync \
-    -Wl,--wrap=close,--wrap=renameat,--wrap=fread,--wrap=ferror -o build/x86_64/import_faults c/import/*.c \
-    c/tests/test_faults.c "$YB_ARCHIVE"
+    -Wl,--wrap=close,--wrap=renameat,--wrap=fread,--wrap=ferror,--wrap=realloc -o build/x86_64/import_faults \
+    c/import/*.c c/tests/test_faults.c "$YB_ARCHIVE"
 fault_suite
 ended_suite
 feed_fault_suite
 rescue_fault_suite
+partner_fault_suite
 largest_suite
 largest_roof_suite
 all_suites
@@ -224,6 +231,7 @@ if yb_compiles gcc $sanitizers; then
     canned_run_suite
     canned_feed_suite
     canned_rescue_suite
+    canned_partner_suite
     if [ "$(uname -m)" = x86_64 ]; then
         import=build/sanitized/import
         good gcc $flags -o "$import" c/import/*.c "$YB_ARCHIVE"

@@ -98,10 +98,10 @@ gap left 998 W: no further pass changes a request (every unit above reserve is a
         cp "$result" "$work/bad"
         patch "$work/bad" "$place" EE
         call table "$stick" "$work/bad"
-        good like "$status $output" "1 *: byte $place (*) is EE and not *"
+        good like "$status $output" "1 *, from byte $(commas $((place - place % 40))) on"$'\n*\ndiffers *'
         head -c "$place" "$result" >"$work/bad"
         call summary "$stick" "$work/bad"
-        good like "$status $output" "1 *: byte $place (*) is not there*"
+        good like "$status $output" "1 *, from byte $(commas $((place - place % 40))) on"$'\n*'" missing*"
     done
     # The same with two inverters, which the highest byte of the seconds says.
     patch "$stick" 5 02
@@ -122,10 +122,10 @@ gap left 998 W: no further pass changes a request (every unit above reserve is a
         cp "$result" "$work/bad"
         patch "$work/bad" "$place" EE
         call summary "$stick" "$work/bad"
-        good like "$status $output" "1 *: byte $place (*) is EE and not *"
+        good like "$status $output" "1 *: wrong: *"$'\n*\ndiffers *'
         head -c "$place" "$result" >"$work/bad"
         call table "$stick" "$work/bad"
-        good like "$status $output" "1 *: byte $place (*) is not there*"
+        good like "$status $output" "1 *: wrong: *"$'\n*'" missing*"
     done
     # The same in edition 2, with the stand-in's limits and its largest vars.
     patch "$stick" 3 02
@@ -224,7 +224,8 @@ canned_feed_suite() {
     # One byte is another, far behind.
     patch "$work/long.result" 2000000 EE
     call summary "$work/long" "$work/long.result"
-    good like "$status $output" '1 *: byte 2000000 (step 50000, unit 0, tag) is EE and not 11*'
+    good like "$status $output" "1 *, from byte 2,000,000 on
+    $(due Step 50000 unit 0) is due there. What differs: tag.*"
     # A field that no chunk holds, which the stand-in takes.
     { head -c 76 "$work/long" && bytes 09 FFFF && head -c 200000 /dev/zero; } >"$work/stick"
     check 2 '' "import: $work/stick: $fault"$'\n''import: 1 of 1 files not checked' check "$work/stick"

@@ -107,15 +107,21 @@ $(sed -n 2p <<<"$roof_summary")"
     rm "$work/longest"
 
     # Results that are not those of a long stick.
-    cp "$work/long.result" "$work/bad"
-    patch "$work/bad" 2600011 EE
-    not_shown "$work/long" "$work/bad" 'byte 2600011 (step 65000, unit 0, request) is EE and not 00'
-    head -c 2600011 "$work/long.result" >"$work/bad"
-    not_shown "$work/long" "$work/bad" \
-        'byte 2600011 (step 65000, unit 0, request) is not there, and 2621407 bytes are due'
+    other_byte "$work/long" "$work/long.result" 2600011 2600000 40 'request W' "$(due Step 65000 unit 0)"
+    other_byte "$work/long" "$work/long.result" 2621406 2621400 7 'number of steps' 'The end'
+    # Where the records of one chunk end and those of the next begin.
+    other_byte "$work/long" "$work/long.result" $((40 * 1423 - 1)) $((40 * 1422)) 40 'loss J' "$(due Step 1422 unit 0)"
+    other_byte "$work/long" "$work/long.result" $((40 * 1423)) $((40 * 1423)) 40 tag "$(due Step 1423 unit 0)"
+    cut_result "$work/long" "$work/long.result" 2600011 2600000 40 "$(due Step 65000 unit 0)"
+    lacking "$work/long" "$work/long.result" 2600000 $((76 + 46 * 65000 + 19)) 27 "$(due step 65000 unit 0)"
+    lacking "$work/long" "$work/long.result" 2621400 3014686 7 'the end'
+    not_shown "$work/long" /dev/null 0 "The result ends there: $(due step 0 unit 0) is missing. *"
+    not_shown "$work/long" /dev/zero 0 "$(due Step 0 unit 0) is due there. What differs: tag, *"
     { cat "$work/long.result" && printf '\0'; } >"$work/bad"
-    not_shown "$work/long" "$work/bad" 'it goes on after its 2621407 bytes'
-    not_shown "$work/above" "$work/just.result" "byte $((40 * 45589)) (the end's tag) is 11 and not 1F"
+    not_shown "$work/long" "$work/bad" 2621407 'All that is due is there, and behind it 1 byte:'
+    not_shown "$work/above" "$work/just.result" $((40 * 45589)) 'The end is due there. What differs: tag, length.'
+    other_byte "$work/roofs" "$work/roofs.result" $((207 * 60000 + 178 + 8)) $((207 * 60000 + 178)) 29 on \
+        "$(due Step 60000 inverter 2)"
     check 2 '' 'import: none: cannot be read: No such file or directory' table "$work/long" none
 }
 

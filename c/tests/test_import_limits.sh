@@ -135,7 +135,8 @@ unit	request W	rating W
 1	1000	1000
 sum of requests 2000 W, reading left 1000 W: not within half the band (0 W) of the target (0 W)" '' \
         settle "$work/two" 3000
-    not_shown "$work/provide" "$work/absorb.result" 'byte 13 (step 0, unit 0, delivered kW) is EE and not E9'
+    not_shown "$work/provide" "$work/absorb.result" 0 \
+        "$(due Step 0 unit 0) is due there. What differs: delivered kW, vars, stored J."
 }
 
 # length_advised FILE PLACE WORDS: a unit's length is refused, with these words.

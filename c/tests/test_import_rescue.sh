@@ -267,8 +267,8 @@ at byte 1,769,521 after as many steps as there can be: $(ended '65,535 steps') a
     old
     call rescue "$stick" "$work/out/result"
     good like "$status|$output|$error" "1|$too_long"$'\n'"    The file has more than the 2,097,152 bytes that are \
-taken as a whole. Check it *: if it is complete it needs no rescue; else copy the stick again or ask the manager for a \
-new one.|import: $stick: cannot be rescued: it is longer than a rescue takes; nothing is written"
+taken as a whole. Check it *: if it is complete it needs no rescue, and *; else copy the stick again or ask the \
+manager for a new one.|import: $stick: cannot be rescued: it is longer than a rescue takes; nothing is written"
     good lines 2
     good kept
     { bytes "$head_d" && repeated "$row" 45588 && bytes "$clear $missing $(end 45589)"; } >"$stick"

@@ -157,71 +157,51 @@ unit  high_var  at_step  low_var  at_step
    1     -8000        0    -8000        0
    2         0        0        0        0'
 
-# not_shown FILE RESULT WHY: both commands say what is wrong with the result, and show nothing of it.
-not_shown() {
-    local command lines
-    lines="$2: not the result of $1: $3
-    It was changed or cut, or is another file's. Make it again: import run FILE RESULT"
-    for command in table summary; do
-        check 1 "$lines" "import: $2: not shown; it is not what the run gives" "$command" "$1" "$2"
-    done
-}
-
 other_result_suite() {
-    local stick=examples/season.stick bad=$work/bad place part byte
+    local stick=examples/season.stick place part
     # One byte changed, in every part of a record and of the end: that of step 111, unit 2 begins at 13400.
+    other_byte "$stick" "$work/season.result" 0 0 40 tag "$(due Step 0 unit 0)"
     while read -r place part; do
-        cp "$work/season.result" "$bad"
-        byte=$(od -An -v -tu1 -j "$place" -N 1 "$bad")
-        patch "$bad" "$place" "$(printf %02X $((byte ^ 0x81)))"
-        not_shown "$stick" "$bad" "byte $place ($part) is $(printf '%02X and not %02X' $((byte ^ 0x81)) "$byte")"
+        other_byte "$stick" "$work/season.result" "$place" 13400 40 "$part" "$(due Step 111 unit 2)"
     done <<END
-0 step 0, unit 0, tag
-13400 step 111, unit 2, tag
-13401 step 111, unit 2, length
-13402 step 111, unit 2, length
-13403 step 111, unit 2, step
-13406 step 111, unit 2, step
-13407 step 111, unit 2, unit
-13408 step 111, unit 2, request
-13411 step 111, unit 2, request
-13412 step 111, unit 2, delivered kW
-13419 step 111, unit 2, delivered kW
-13420 step 111, unit 2, vars
-13424 step 111, unit 2, stored energy
-13431 step 111, unit 2, stored energy
-13432 step 111, unit 2, loss
-13439 step 111, unit 2, loss
-40319 step 335, unit 2, loss
-40320 the end's tag
-40321 the end's length
-40323 the end's number of steps
-40326 the end's number of steps
+13400 tag
+13401 length
+13402 length
+13403 step
+13406 step
+13407 unit
+13408 request W
+13411 request W
+13412 delivered kW
+13419 delivered kW
+13420 vars
+13424 stored J
+13431 stored J
+13432 loss J
+13439 loss J
 END
-    # Cut, longer, empty, another file's, and a stick.
+    # What is ours, beside what other means make of it.
+    good test "$(column 4 | tail -n +3 | tr '\n' '\t')" = \
+        "$(decoded "$work/season.result" | grep $'^111\t2\t')"$'\t'
+    other_byte "$stick" "$work/season.result" 40319 40280 40 'loss J' "$(due Step 335 unit 2)"
     while read -r place part; do
-        head -c "$place" "$work/season.result" >"$bad"
-        not_shown "$stick" "$bad" "byte $place ($part) is not there, and 40327 bytes are due"
-    done <<'END'
-0 step 0, unit 0, tag
-1 step 0, unit 0, length
-40 step 0, unit 1, tag
-20000 step 166, unit 2, tag
-40320 the end's tag
-40326 the end's number of steps
+        other_byte "$stick" "$work/season.result" "$place" 40320 7 "$part" 'The end'
+    done <<END
+40320 tag
+40321 length
+40323 number of steps
+40326 number of steps
 END
-    cp "$work/season.result" "$bad"
-    printf '\0' >>"$bad"
-    not_shown "$stick" "$bad" 'it goes on after its 40327 bytes'
-    cat "$work/season.result" >>"$bad"
-    not_shown "$stick" "$bad" 'it goes on after its 40327 bytes'
-    not_shown "$work/giving" "$work/taking.result" 'byte 8 (step 0, unit 0, request) is FF and not 00'
-    not_shown "$work/giving" "$work/none.result" 'byte 0 (step 0, unit 0, tag) is 1F and not 11'
-    not_shown "$work/none" "$work/giving.result" "byte 0 (the end's tag) is 11 and not 1F"
-    not_shown "$stick" "$work/giving.result" 'byte 10 (step 0, unit 0, request) is 03 and not 00'
-    not_shown "$stick" "$stick" 'byte 0 (step 0, unit 0, tag) is 01 and not 11'
-    not_shown "$stick" /dev/null 'byte 0 (step 0, unit 0, tag) is not there, and 40327 bytes are due'
-    not_shown "$stick" /dev/zero 'byte 0 (step 0, unit 0, tag) is 00 and not 11'
+    # Cut, and other files'.
+    lacking "$stick" "$work/season.result" 0 180 27 "$(due step 0 unit 0)"
+    cut_result "$stick" "$work/season.result" 1 0 40 "$(due Step 0 unit 0)"
+    lacking "$stick" "$work/season.result" 40 180 27 "$(due step 0 unit 1)"
+    cut_result "$stick" "$work/season.result" 20001 20000 40 "$(due Step 166 unit 2)"
+    lacking "$stick" "$work/season.result" 40320 9036 7 'the end'
+    cut_result "$stick" "$work/season.result" 40326 40320 7 'The end'
+    not_shown "$work/giving" "$work/none.result" 0 "$(due Step 0 unit 0) is due there, and is cut short: 7 of its 40 *"
+    not_shown "$work/none" "$work/giving.result" 0 'The end is due there. What differs: tag, length.'
+    not_shown "$stick" "$work/giving.result" 0 "$(due Step 0 unit 0) is due there. What differs: request W, *"
 }
 
 # What is refused or cannot be read or written.

@@ -190,66 +190,59 @@ inverter 0         -        -        -        -" '' \
 }
 
 other_roof_suite() {
-    local stick=examples/roof.stick bad=$work/bad place part byte
+    local stick=examples/roof.stick right=$work/roof.result place from len part due
     # One byte changed, in every part of an inverter's record and beside it: that of step 50, inverter 1 begins at
     # 10499.
-    while read -r place part; do
-        cp "$work/roof.result" "$bad"
-        byte=$(od -An -v -tu1 -j "$place" -N 1 "$bad")
-        patch "$bad" "$place" "$(printf %02X $((byte ^ 0x81)))"
-        not_shown "$stick" "$bad" "byte $place ($part) is $(printf '%02X and not %02X' $((byte ^ 0x81)) "$byte")"
+    while read -r place from len due part; do
+        # shellcheck disable=SC2086 # step, whose and which are words
+        other_byte "$stick" "$right" "$place" "$from" "$len" "$part" "$(due Step ${due//:/ })"
     done <<'END'
-0 step 0, unit 0, tag
-119 step 0, unit 2, loss
-120 step 0, inverter 0, tag
-149 step 0, inverter 1, tag
-206 step 0, inverter 2, DC power
-207 step 1, unit 0, tag
-10469 step 50, unit 2, loss
-10470 step 50, inverter 0, tag
-10498 step 50, inverter 0, DC power
-10499 step 50, inverter 1, tag
-10500 step 50, inverter 1, length
-10501 step 50, inverter 1, length
-10502 step 50, inverter 1, step
-10505 step 50, inverter 1, step
-10506 step 50, inverter 1, inverter
-10507 step 50, inverter 1, on
-10508 step 50, inverter 1, delivered kW
-10515 step 50, inverter 1, delivered kW
-10516 step 50, inverter 1, vars
-10519 step 50, inverter 1, vars
-10520 step 50, inverter 1, DC power
-10527 step 50, inverter 1, DC power
-10528 step 50, inverter 2, tag
-19871 step 95, inverter 2, DC power
-19872 the end's tag
-19873 the end's length
-19875 the end's number of steps
-19878 the end's number of steps
+0 0 40 0:unit:0 tag
+119 80 40 0:unit:2 loss J
+120 120 29 0:inverter:0 tag
+149 149 29 0:inverter:1 tag
+206 178 29 0:inverter:2 DC W
+207 207 40 1:unit:0 tag
+10469 10430 40 50:unit:2 loss J
+10470 10470 29 50:inverter:0 tag
+10498 10470 29 50:inverter:0 DC W
+10499 10499 29 50:inverter:1 tag
+10500 10499 29 50:inverter:1 length
+10501 10499 29 50:inverter:1 length
+10502 10499 29 50:inverter:1 step
+10505 10499 29 50:inverter:1 step
+10506 10499 29 50:inverter:1 inverter
+10507 10499 29 50:inverter:1 on
+10508 10499 29 50:inverter:1 delivered kW
+10515 10499 29 50:inverter:1 delivered kW
+10516 10499 29 50:inverter:1 vars
+10519 10499 29 50:inverter:1 vars
+10520 10499 29 50:inverter:1 DC W
+10527 10499 29 50:inverter:1 DC W
+10528 10528 29 50:inverter:2 tag
+19871 19843 29 95:inverter:2 DC W
 END
-    # Cut, longer, and other files'.
-    while read -r place part; do
-        head -c "$place" "$work/roof.result" >"$bad"
-        not_shown "$stick" "$bad" "byte $place ($part) is not there, and 19879 bytes are due"
-    done <<'END'
-0 step 0, unit 0, tag
-120 step 0, inverter 0, tag
-128 step 0, inverter 0, on
-207 step 1, unit 0, tag
-10527 step 50, inverter 1, DC power
-19872 the end's tag
-19878 the end's number of steps
-END
-    cp "$work/roof.result" "$bad"
-    printf '\0' >>"$bad"
-    not_shown "$stick" "$bad" 'it goes on after its 19879 bytes'
-    not_shown "$stick" "$work/season.result" 'byte 13 (step 0, unit 0, delivered kW) is D7 and not D3'
-    not_shown examples/season.stick "$work/roof.result" 'byte 13 (step 0, unit 0, delivered kW) is D3 and not D7'
-    not_shown "$work/sunny" "$work/sunny2.result" 'byte 69 (step 1, unit 0, tag) is 12 and not 11'
-    not_shown "$work/sunny2" "$work/sunny.result" 'byte 69 (step 0, inverter 1, tag) is 11 and not 12'
-    not_shown "$work/sunny0" "$work/sunny.result" "byte 0 (the end's tag) is 11 and not 1F"
-    not_shown "$work/sunny" "$work/sunny0.result" 'byte 0 (step 0, unit 0, tag) is 1F and not 11'
+    # What is ours, beside what other means make of it.
+    good test "$(column 4 | sed -n '3p; 4s/^/inverter /p; 6,7p; 5p; 8p' | tr '\n' '\t')" = \
+        "$(decoded "$right" | grep $'^95\tinverter 2\t' | cut -f 1,2,4,5,8,9 | awk -F '\t' -v OFS='\t' \
+            '{ print $1, $2, $5, $3, $4, $6 }')"$'\t'
+    for place in '19872 tag' '19873 length' '19875 number of steps' '19878 number of steps'; do
+        other_byte "$stick" "$right" "${place%% *}" 19872 7 "${place#* }" 'The end'
+    done
+    # Cut, and other files'.
+    lacking "$stick" "$right" 0 1057 27 "$(due step 0 unit 0)"
+    lacking "$stick" "$right" 120 1057 27 "$(due step 0 inverter 0)"
+    cut_result "$stick" "$right" 128 120 29 "$(due Step 0 inverter 0)"
+    lacking "$stick" "$right" 207 1103 27 "$(due step 1 unit 0)"
+    cut_result "$stick" "$right" 10527 10499 29 "$(due Step 50 inverter 1)"
+    lacking "$stick" "$right" 19872 5153 7 'the end'
+    cut_result "$stick" "$right" 19878 19872 7 'The end'
+    not_shown "$stick" "$work/season.result" 0 "$(due Step 0 unit 0) is due there. What differs: *delivered kW*"
+    not_shown examples/season.stick "$right" 0 "$(due Step 0 unit 0) is due there. What differs: *delivered kW*"
+    not_shown "$work/sunny" "$work/sunny2.result" 69 "$(due Step 1 unit 0) is due there. What differs: tag, length, *"
+    not_shown "$work/sunny2" "$work/sunny.result" 69 "$(due Step 0 inverter 1) is due there. What differs: tag, length*"
+    not_shown "$work/sunny0" "$work/sunny.result" 0 'The end is due there. What differs: tag, length.'
+    not_shown "$work/sunny" "$work/sunny0.result" 0 "$(due Step 0 unit 0) is due there, and is cut short: 7 of its 40*"
     # The two in the wrong order.
     call table "$work/roof.result" "$stick"
     good like "$status $output" $'1 *: refused 2 (unknown tag) at byte 0 after 0 steps\n*\n    It looks like a result *'

@@ -65,7 +65,7 @@ voltage_suite() {
     good test "$(ends_of led_none)" = '0 - - - -'
     # A function changes nothing before the first voltage.
     good cmp "$work/not_led.result" "$work/plain.result"
-    not_shown "$work/led0" "$work/led1.result" 'byte 63 (step 1, unit 0, vars) is B1 and not F4'
+    not_shown "$work/led0" "$work/led1.result" 40 "$(due Step 1 unit 0) is due there. What differs: vars."
 
     # The sample: the vars beside what other means make of them.
     check 0 "$stick: complete, 48 steps" '' check "$stick"

@@ -668,6 +668,58 @@ static void call_led_rescue(void)
     put_file(1);
 }
 
+/* The verdict on the file's result, or its first bytes, or more. */
+static void expect_verdict(size_t len, size_t result_len, uint8_t due, uint64_t due_start, uint64_t due_shown)
+{
+    uint8_t verdict;
+    uint64_t start, shown;
+    expect(yb_partner(file, len, result, result_len, &verdict, &start, &shown), 0);
+    expect(verdict, due);
+    expect(start, due_start);
+    expect(shown, due_shown);
+}
+
+/* A result that is right, that ends before its end and before its last record, of so many bytes, and in which that one
+** is another; and a file that is refused.
+*/
+static void expect_partner(size_t len, size_t result_len, size_t record)
+{
+    uint8_t verdict;
+    uint64_t start, shown;
+    size_t end = result_len - 7;
+    expect(yb_run(file, len, result, result_len), 0);
+    expect_verdict(len, result_len, 0, 0, 0);
+    expect_verdict(len, end, 2, len - 7, 7);
+    expect_verdict(len, end - record, 2, len - 34, 27);
+    result[end - 1] ^= 1;
+    expect_verdict(len, result_len, 1, end - record, record);
+    expect(yb_partner(file, len - 8, result, result_len, &verdict, &start, &shown), 1);
+    expect(yb_partner(file, TOO_LONG, result, result_len, &verdict, &start, &shown), 12);
+}
+
+static void call_partner(void)
+{
+    put_file(1);
+    expect_partner(FILE_LEN, RESULT_LEN, 40);
+    result[RESULT_LEN - 8] ^= 1;
+    expect_verdict(FILE_LEN, RESULT_LEN + 9, 1, RESULT_LEN, 9);
+}
+
+/* The same with 64 inverters, and led by a voltage. */
+static void call_roof_partner(void)
+{
+    put_roof_file(1);
+    expect_partner(ROOF_LEN, ROOF_RESULT_LEN, 29);
+    put_file(1);
+}
+
+static void call_led_partner(void)
+{
+    put_led_file(1, 1);
+    expect_partner(LED_LEN, ROOF_RESULT_LEN, 29);
+    put_file(1);
+}
+
 static void call_watts(void)
 {
     static const double powers[] = {0, 1.5, -0.0625, 0x1p-1074, 99999.9999, 1e300, -1e300 * 1e300};
@@ -837,6 +889,9 @@ static const struct {
     {"yb_rescue", call_rescue},
     {"yb_rescue and the calls beside it, with 64 inverters", call_roof_rescue},
     {"yb_rescue and the calls beside it, led by a voltage", call_led_rescue},
+    {"yb_partner", call_partner},
+    {"yb_partner with 64 inverters", call_roof_partner},
+    {"yb_partner with 64 inverters, led by a voltage", call_led_partner},
     {"yb_watts", call_watts},
     {"yb_pass", call_pass},
     {"yb_pass_current", call_pass_current},

@@ -34,7 +34,8 @@ static void test_choices(void)
     check_names((const struct name[]){NAME(YB_PEAK_SHAVE, 1), NAME(YB_SUPPORT, 2), NAME(YB_PEAK_SHAVE_LOW, 3),
         NAME(YB_PHASE_SUM, 0), NAME(YB_PHASE_1, 1), NAME(YB_PHASE_2, 2), NAME(YB_PHASE_3, 3),
         NAME(YB_PHASE_LARGEST, 4), NAME(YB_PHASE_SMALLEST, 5), NAME(YB_WATTS_FIRST, 0), NAME(YB_VARS_FIRST, 1),
-        NAME(YB_MADE_MISSING, 1), NAME(YB_ENDED_HERE, 2), NAME(YB_LEFT_OUT, 3), {NULL, 0, 0}});
+        NAME(YB_MADE_MISSING, 1), NAME(YB_ENDED_HERE, 2), NAME(YB_LEFT_OUT, 3), NAME(YB_RIGHT, 0),
+        NAME(YB_WRONG, 1), NAME(YB_LACKING, 2), {NULL, 0, 0}});
 }
 
 static void test_limits(void)
@@ -50,7 +51,7 @@ static void test_limits(void)
 
 const struct test header_tests[] = {
     {"the header's refusals", test_refusals},
-    {"the header's modes, phases, priorities and changes", test_choices},
+    {"the header's modes, phases, priorities, changes and verdicts", test_choices},
     {"the header's limits", test_limits},
     {NULL, NULL},
 };

@@ -10,6 +10,7 @@ pub mod curve;
 pub mod feed;
 pub mod natural;
 pub mod octets;
+pub mod partner;
 pub mod ranges;
 pub mod reading;
 pub mod rescue;

@@ -1,7 +1,7 @@
 -- Every row is as it is stated: the definitions compute it. Assumes nothing.
 use mathlib.Core.List.{List, _++_, map}
 use mathlib.Core.Path.{_≡_, refl}
-use lib.Ieee.{toBits, div, ofInt}
+use lib.Ieee.{ofBits, toBits, div, ofInt}
 use Rattle.reading.specs.Conversion.{wattsOf}
 use Rattle.reading.specs.Choice.{choiceOf}
 use Rattle.figures.specs.Rows.{Row}
@@ -11,6 +11,7 @@ use Rattle.figures.specs.Roofs.{roofs}
 use Rattle.figures.specs.Limits.{limits}
 use Rattle.figures.specs.Currents.{currents}
 use Rattle.figures.specs.Voltages.{voltages}
+use Rattle.figures.specs.Partners.{partners}
 
 abbrev all : List Row
 all = table ++ further ++ roofs ++ limits ++ currents ++ voltages
@@ -18,3 +19,8 @@ all = table ++ further ++ roofs ++ limits ++ currents ++ voltages
 pub figures-hold : map (λ (r : Row). r .given) all ≡ map (λ (r : Row). r .stated) all
 unfolding table further roofs limits currents voltages toBits div ofInt wattsOf choiceOf
 figures-hold = refl
+
+-- and those about a partner's result, each of which is a check and a run of its own
+pub partners-hold : map (λ (r : Row). r .given) partners ≡ map (λ (r : Row). r .stated) partners
+unfolding partners ofBits toBits div ofInt wattsOf choiceOf
+partners-hold = refl

@@ -6,3 +6,4 @@ pub mod Roofs
 pub mod Limits
 pub mod Currents
 pub mod Voltages
+pub mod Partners

@@ -1,4 +1,4 @@
--- What a C caller sees of a call (rules C1 to C31): the number that is returned, and each lent number afterwards, which is what the call gives or, on a
+-- What a C caller sees of a call (rules C1 to C32): the number that is returned, and each lent number afterwards, which is what the call gives or, on a
 -- refusal, what it held.
 use Prim.Native.Nat.{ℕ}
 use mathlib.Core.Bool.{Bool, cond}
@@ -27,6 +27,8 @@ use Rattle.storage.specs.declared.Stepped.{Stepped}
 use Rattle.storage.specs.Answers.{stepCall}
 use Rattle.storage.specs.Step.{steppedAs}
 use Rattle.site.specs.declared.Head.{Head}
+use Rattle.partner.specs.declared.Verdict.{Verdict}
+use Rattle.partner.specs.Verdict.{partnerAnswer, partnerCall}
 use Rattle.ask.specs.declared.Connection.{Connection}
 use Rattle.ask.specs.Says.{headAnswer, headCall, unitAnswer, unitCall, connectionAnswer, connectionCall}
 
@@ -150,3 +152,7 @@ unitSaid file i = unitCall file (unitAnswer file i)
 
 abbrev pub connectionTold : List ℕ → ℕ → Call Connection
 connectionTold file i = connectionCall file (connectionAnswer file i)
+
+-- yb_partner
+abbrev pub partnerTold : List ℕ → List ℕ → Call Verdict
+partnerTold run result = partnerCall (partnerAnswer run result)

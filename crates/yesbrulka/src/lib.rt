@@ -18,14 +18,16 @@ ghost use Rattle.season.specs.Answers.{roomOf, runAnswer, runLeaves};
 ghost use Rattle.kept.specs.Layout.{stateSize};
 ghost use Rattle.feed.specs.Answers.{startNumber, startLeaves, roomFor, feedNumber, feedLeaves, feedWrites, endNumber, endLeaves, endWrites, placeTold, stepsTold};
 ghost use Rattle.rescue.specs.Answers.{rescueOf, outputRoom, changesTold, rescueAnswer, rescueWrites, rescueLists};
+ghost use Rattle.partner.specs.declared.Verdict.{Verdict};
 ghost use Rattle.ask.specs.declared.Connection.{Connection};
 ghost use Rattle.ask.specs.Says.{unitsSaid, invertersSaid, secondsSaid, fileStudy, fileStudyLeaves, fileStudyCall};
-ghost use Rattle.yesbrulka.specs.Calls.{held, left, fleetLent, fleetJoined, connectionTold, settingsOf, PassTold, trialOf, StudyTold, unitOf, StepTold, inverterOf, litLent, LitTold, headSaid, unitSaid};
+ghost use Rattle.yesbrulka.specs.Calls.{held, left, fleetLent, fleetJoined, connectionTold, partnerTold, settingsOf, PassTold, trialOf, StudyTold, unitOf, StepTold, inverterOf, litLent, LitTold, headSaid, unitSaid};
 use ask::ConnectionAnswer;
 use ask::HeadAnswer;
 use ask::UnitAnswer;
 use controller::Aim;
 use controller::PassAnswer;
+use partner::PartnerAnswer;
 use reading::Watts;
 use rules::Settings;
 use settling::StudyAnswer;
@@ -683,4 +685,30 @@ pub extern "C" fn yb_rescue(file: &[u8], out: &mut [u8], list: &mut [u8]) -> u32
     ensures { λ _. ⌜ now (list .exit) ≡ rescueLists (now (file .entry)) (length (now (out .entry))) (now (list .entry)) ⌝ }
 {
     rescue::rescue(file, out, list).number as u32
+}
+
+// A partner's result beside the run file: 0 and the verdict, with the place of what is shown and its
+// bytes; or the check's number of the run file.
+#[no_mangle]
+pub extern "C" fn yb_partner(
+    run: &[u8],
+    result: &[u8],
+    verdict: &mut u8,
+    start: &mut u64,
+    len: &mut u64,
+) -> u32
+    ensures { λ r. ⌜ r ≡ numberOf (partnerTold (now (run .entry)) (now (result .entry))) ⌝ }
+    ensures { λ _. ⌜ now (verdict .exit) ≡ heldAfter (partnerTold (now (run .entry)) (now (result .entry))) (λ (v : Verdict). v .number) (now (verdict .entry)) ⌝ }
+    ensures { λ _. ⌜ now (start .exit) ≡ heldAfter (partnerTold (now (run .entry)) (now (result .entry))) (λ (v : Verdict). v .start) (now (start .entry)) ⌝ }
+    ensures { λ _. ⌜ now (len .exit) ≡ heldAfter (partnerTold (now (run .entry)) (now (result .entry))) (λ (v : Verdict). v .len) (now (len .entry)) ⌝ }
+{
+    match partner::judge(run, result) {
+        PartnerAnswer::Judged(v) => {
+            *verdict = v.number;
+            *start = v.start;
+            *len = v.len;
+            0
+        }
+        PartnerAnswer::Unjudged(a) => a.number as u32,
+    }
 }
