@@ -17,13 +17,13 @@ use Rattle.site.specs.declared.Due.{Due}
 use Rattle.fields.specs.declared.State.{State}
 use Rattle.fields.specs.Fields.{atEnd, atFleet, atUnits, atSettings, atSteps, atInverters, atTemperature, atEfficiency, atConnections, atVoltVar, atLed, begins, unitSize, kinds, sizeIn}
 use Rattle.fields.specs.Fields.{sizeOf, headOf, standsIn, allowed, isReading, valueOf, refusedBy, Flags, flags, flagsOf, stateOf, goneTo, roofAfter, stateAfter, takenBy}
-use Rattle.fields.proofs.FieldLaws.{fleet-alone, units-alone, settings-alone, connections-alone, warm-alone, efficiency-alone, volt-var-alone, weather-or-end, fewer, fewer-more}
+use Rattle.fields.proofs.FieldLaws.{fleet-alone, units-alone, settings-alone, connections-alone, warm-alone, efficiency-alone, volt-var-alone, fewer, fewer-more}
 use Rattle.stick.specs.declared.Answer.{Answer}
 use Rattle.stick.specs.declared.Reached.{Reached}
 use Rattle.stick.specs.Check.{answer, fieldAt, reached, reachOf, ends, start}
 use Rattle.stick.specs.Site.{stepsFrom, ofSteps, headFrom}
 use Rattle.stick.specs.Posts.{answered, Accepted, fleetBytes, roofBytes, wide, editionAt, unitsAt, unitBytes, unitPlace, settingsPlace, connectionsPlace, connected, roofPlace, functionBytes, stepsPlace}
-use Rattle.stick.proofs.StepLaws.{of-steps}
+use Rattle.stick.proofs.StepLaws.{steps-only}
 use Rattle.stick.proofs.WalkLaws.{whole, OnTheWay, way-starts, not-too-large}
 use Rattle.stick.proofs.ReachLaws.{walk-reach}
 use Rattle.stick.proofs.PlaceLaws.{from-field, closes-none}
@@ -59,9 +59,6 @@ steps-head file d (suc k) at = go (leb (length file) at) refl (ofSteps (tagAt fi
         closes-none file (record { tagged = refl; followed = from-field file at (leb-false (length file) at e) }) d (n .0) (n .1 .0) (n .1 .1) ∙ more
 
 -- ---- the head of an accepted walk, field by field
-pub steps-only : (edition count left steps : ℕ) (said : Flags) (tag : ℕ) → allowed (stateOf atSteps edition count left steps said) tag ≡ true → ofSteps tag ≡ true
-steps-only edition count left steps said tag a = of-steps tag (weather-or-end edition count left steps said tag a)
-
 module _ (file : List ℕ) where
   head-passes : (tag at next : ℕ) → ofSteps tag ≡ false → at < length file → tagAt file at ≡ tag → past file at ≡ next → headEnd file at ≡ headEnd file next
   head-passes tag at next o l t p =

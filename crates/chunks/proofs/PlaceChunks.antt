@@ -3,7 +3,7 @@
 use mathlib.Core.Path.{_≡_, refl, sym, ap, ap₂, _∙_, subst, subst⁻¹}
 use mathlib.Core.Bool.{Bool, true, false, cond}
 use mathlib.Core.List.{List, [], _∷_, _++_, map}
-use Prim.Native.Nat.{ℕ, zero, suc, _+_, _≤_, _<_}
+use Prim.Native.Nat.{ℕ, zero, suc, _+_, _≤_}
 use native.Mathlib.Nat.{add-zero}
 use native.Mathlib.Omega.{arith}
 use lib.Dec.{leb, lit≤}
@@ -21,7 +21,7 @@ use Rattle.fields.proofs.FieldLaws.{by-tag, size-else}
 use Rattle.stick.specs.Check.{fieldAt, start}
 use Rattle.stick.specs.Site.{placesFrom, readingAt, dueAfter, stepsIn, dueIn, stepsFrom, dueFrom}
 use Rattle.stick.proofs.WalkLaws.{field-cases}
-use Rattle.stick.proofs.PlaceLaws.{from, from-over, from-field}
+use Rattle.stick.proofs.PlaceLaws.{from, from-over, from-field, steps-over, due-over, steps-first, due-first}
 use Rattle.stick.proofs.PlaceLaws.{same as places-fuel}
 use Rattle.chunks.proofs.SameLaws.{Same, reading-same, due-same}
 use Rattle.chunks.proofs.FieldChunks.{same-behind, same-before, tag-shift, past-shift, tag-append, past-append}
@@ -127,26 +127,7 @@ module _ (a b : List ℕ) where
       let s : sizeOf start (tagAt (a ++ b) i) ≤ lengthAt (a ++ b) i = omega arith in
       whole-field (record { size = s; all = l }) (subst⁻¹ (Whole (a ++ b)) p (whole-append w v))
 
--- ---- the steps and what the step under way has, one field after another
-module _ (file : List ℕ) where
-  pub steps-over : (d : Due) (at : ℕ) → length file ≤ at → stepsFrom file d at ≡ []
-  unfolding stepsFrom stepsIn
-  steps-over d at h = ap (stepsIn file d) (from-over file at h)
-
-  pub due-over : (d : Due) (at : ℕ) → length file ≤ at → dueFrom file d at ≡ d
-  unfolding dueFrom dueIn
-  due-over d at h = ap (dueIn file d) (from-over file at h)
-
-  pub steps-field : (d : Due) (at : ℕ) → at < length file
-      → stepsFrom file d at
-      ≡ cond (isReading (tagAt file at)) (stepWith (readingAt file at) d ∷ stepsFrom file (dueAfter file d at) (past file at)) (stepsFrom file (dueAfter file d at) (past file at))
-  unfolding stepsFrom stepsIn
-  steps-field d at h = ap (stepsIn file d) (from-field file at h)
-
-  pub due-field : (d : Due) (at : ℕ) → at < length file → dueFrom file d at ≡ dueFrom file (dueAfter file d at) (past file at)
-  unfolding dueFrom dueIn
-  due-field d at h = ap (dueIn file d) (from-field file at h)
-
+-- ---- the steps and what the step under way has
 module _ (a b : List ℕ) where
   -- ---- behind other bytes
   after-moved : (d : Due) (i : ℕ) → dueAfter (a ++ b) d (length a + i) ≡ dueAfter b d i
@@ -201,16 +182,16 @@ module _ (a b : List ℕ) where
   pub steps-append : {i : ℕ} → Whole a i → (d : Due) → stepsFrom (a ++ b) d i ≡ stepsFrom a d i ++ stepsFrom b (dueFrom a d i) 0
   steps-append {i} (whole-end e) d =
       at-end a b (stepsFrom (a ++ b) d) i e ∙ steps-shift d 0
-      ∙ sym (ap₂ (λ (l : List Step) (d : Due). l ++ stepsFrom b d 0) (steps-over a d i (omega arith)) (due-over a d i (omega arith)))
+      ∙ sym (ap₂ (λ (l : List Step) (d : Due). l ++ stepsFrom b d 0) (steps-over a i (omega arith) d) (due-over a i (omega arith) d))
   steps-append {i} (whole-field f w) d =
       let below : i + 3 ≤ length a = there-below f in
       let tag = there-tag f in
       let reading = there-reading f in
       let more = ap₂ (stepsFrom (a ++ b)) (there-due f d) (there-past f) ∙ steps-append w (dueAfter a d i) in
-      steps-field (a ++ b) d i (omega (arith, length-append a b))
+      steps-first (a ++ b) i (omega (arith, length-append a b)) d
       ∙ (λ j. cond (isReading (tag j)) (stepWith (reading j) d ∷ more j) (more j))
       ∙ go (isReading (tagAt a i)) (stepWith (readingAt a i) d) (stepsFrom a (dueAfter a d i) (past a i)) (stepsFrom b (dueFrom a (dueAfter a d i) (past a i)) 0)
-      ∙ sym (ap₂ (λ (l : List Step) (d : Due). l ++ stepsFrom b d 0) (steps-field a d i (omega arith)) (due-field a d i (omega arith)))
+      ∙ sym (ap₂ (λ (l : List Step) (d : Due). l ++ stepsFrom b d 0) (steps-first a i (omega arith) d) (due-first a i (omega arith) d))
     where
       go : (r : Bool) (s : Step) (xs ys : List Step) → cond r (s ∷ (xs ++ ys)) (xs ++ ys) ≡ cond r (s ∷ xs) xs ++ ys
       go true s xs ys = refl
@@ -218,10 +199,10 @@ module _ (a b : List ℕ) where
 
   pub due-append : {i : ℕ} → Whole a i → (d : Due) → dueFrom (a ++ b) d i ≡ dueFrom b (dueFrom a d i) 0
   due-append {i} (whole-end e) d =
-      at-end a b (dueFrom (a ++ b) d) i e ∙ due-shift d 0 ∙ sym (ap (λ (d : Due). dueFrom b d 0) (due-over a d i (omega arith)))
+      at-end a b (dueFrom (a ++ b) d) i e ∙ due-shift d 0 ∙ sym (ap (λ (d : Due). dueFrom b d 0) (due-over a i (omega arith) d))
   due-append {i} (whole-field f w) d =
       let below : i + 3 ≤ length a = there-below f in
-      due-field (a ++ b) d i (omega (arith, length-append a b))
+      due-first (a ++ b) i (omega (arith, length-append a b)) d
       ∙ ap₂ (dueFrom (a ++ b)) (there-due f d) (there-past f)
       ∙ due-append w (dueAfter a d i)
-      ∙ sym (ap (λ (d : Due). dueFrom b d 0) (due-field a d i (omega arith)))
+      ∙ sym (ap (λ (d : Due). dueFrom b d 0) (due-first a i (omega arith) d))

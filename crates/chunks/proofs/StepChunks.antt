@@ -26,7 +26,8 @@ use Rattle.stick.proofs.ReachLaws.{walk-reach}
 use Rattle.stick.proofs.SaidLaws.{most-steps}
 use Rattle.stick.proofs.StepLaws.{of-steps, usable, no-other, sized-alike, Amid, amid-others}
 use Rattle.chunks.proofs.ReachChunks.{Went, there, passing, far}
-use Rattle.chunks.proofs.PlaceChunks.{reach-whole, steps-over, steps-field, steps-append, due-append}
+use Rattle.stick.proofs.PlaceLaws.{steps-over, steps-first}
+use Rattle.chunks.proofs.PlaceChunks.{reach-whole, steps-append, due-append}
 use Rattle.chunks.proofs.HeadChunks.{headEnd, headFrom-field, FieldTaken, accepted-field}
 use Rattle.chunks.proofs.HeadFile.{steps-kept, headFrom-least}
 
@@ -124,12 +125,12 @@ module _ (a : List ℕ) where
 
   pub went-counted : {s st : State} {j i : ℕ} → Went a s j st i → j ≡ length a → (d : Due) → s .steps ≡ st .steps + length (stepsFrom a d i)
   went-counted {s} {st} {j} {i} (there e f) h d =
-      let none : length (stepsFrom a d i) ≡ 0 = ap length (steps-over a d i (omega arith)) in
+      let none : length (stepsFrom a d i) ≡ 0 = ap length (steps-over a i (omega arith) d) in
       let same : st .steps ≡ s .steps = ap (λ (s : State). s .steps) e in
       omega arith
   went-counted {s} {st} {j} {i} (passing m l e f w more) h d =
       let t : FieldTaken a st m i = accepted-field a st m i (omega arith) f in
-      go (isReading (tagAt a i)) (stepsFrom a (dueAfter a d i) (past a i)) (counts st m i t (isReading (tagAt a i)) refl) (ap length (steps-field a d i l)) (went-counted more h (dueAfter a d i))
+      go (isReading (tagAt a i)) (stepsFrom a (dueAfter a d i) (past a i)) (counts st m i t (isReading (tagAt a i)) refl) (ap length (steps-first a i l d)) (went-counted more h (dueAfter a d i))
     where
       go : (r : Bool) (later : List Step) → m .steps ≡ st .steps + cond r 1 0 → length (stepsFrom a d i) ≡ length (cond r (stepWith (readingAt a i) d ∷ later) later)
           → s .steps ≡ m .steps + length later → s .steps ≡ st .steps + length (stepsFrom a d i)

@@ -7,7 +7,7 @@ use Prim.Native.Nat.{ℕ, zero, suc, _+_, _-_, _≤_, _<_}
 use native.Mathlib.Nat.{le-antisymm}
 use native.Mathlib.Omega.{arith}
 use lib.Dec.{T, ltb, le→leb, leb→le, ltb→lt}
-use lib.IntN.{ℤ, pos, negsuc, negℤ, subℕ, _+ℤ_, _-ℤ_, +ℤ-assoc, +ℤ-comm, +ℤ-idl, +ℤ-invr, +ℤ-negℤ-cancel, -ℤ-+ℤ-cancel, negℤ-+ℤ}
+use lib.IntN.{ℤ, pos, negsuc, natAbs, negℤ, subℕ, _+ℤ_, _-ℤ_, +ℤ-assoc, +ℤ-comm, +ℤ-idl, +ℤ-invr, +ℤ-negℤ-cancel, -ℤ-+ℤ-cancel, negℤ-+ℤ}
 use lib.Signed.{_≤ℤ_, _<ℤ_, leZ, ltZ, leZ-yes, ltZ-yes, ltZ-no, clashℤ}
 use borrow.Author.Tests.{le-ltb}
 use Rattle.whole.proofs.Choice.{by-test}
@@ -40,6 +40,15 @@ lt-or-le a b = at (ltZ a b) refl
     at : (t : Bool) → ltZ a b ≡ t → (a <ℤ b) ⊎ (b ≤ℤ a)
     at true e = inl (true-lt a b e)
     at false e = inr (ltZ-no {a = a} {b = b} (subst (λ (t : Bool). T (not t)) (sym e) tt))
+
+-- ---- a number between bounds, by its size
+pub size-up : (n : ℕ) (z : ℤ) → pos 0 ≤ℤ z → z ≤ℤ pos n → natAbs z ≤ n
+size-up n (pos m) low high = leb→le m n (high .le)
+size-up n (negsuc m) low high = absurd (low .le)
+
+pub size-within : (n : ℕ) (z : ℤ) → negsuc n ≤ℤ z → z ≤ℤ pos (suc n) → natAbs z ≤ suc n
+size-within n (pos m) low high = leb→le m (suc n) (high .le)
+size-within n (negsuc m) low high = let l : m ≤ n = leb→le m n (low .le) in omega arith
 
 -- ---- differences
 

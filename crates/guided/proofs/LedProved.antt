@@ -32,12 +32,16 @@ module _ (l : Lead) (u : Unit) (last : ℤ) (seconds : ℕ) (request : ℤ) (r :
   unfolding varsKept
   kept = kept-most l last requested (g .last-small) small
 
+  same : l .after ≡ true → wattsFirst l u seconds request ≡ inverterWatts led (flowOf led seconds request)
+  unfolding wattsFirst
+  same a = carried-same l u seconds request a (u .«var_request») requested
+
   -- by what the circle leaves after the watts
   module _ (f : l .fresh ≡ true) (a : l .after ≡ true) where
     beside : natAbs requested ≤ legOf (u .kva) (natAbs (inverterWatts led (flowOf led seconds request)))
-    unfolding requestedOf wattsFirst
+    unfolding requestedOf
     beside =
-        subst (λ (w : ℤ). natAbs requested ≤ legOf (u .kva) (natAbs w)) (carried-same l u seconds request a (u .«var_request») requested)
+        subst (λ (w : ℤ). natAbs requested ≤ legOf (u .kva) (natAbs w)) (same a)
         (requested-fits l (u .«var_request») last (u .kva) g (natAbs (wattsFirst l u seconds request)) f a)
 
     limited : ledStep l u last seconds request .vars ≡ signed (negative requested) (min (natAbs requested) (cond (negative requested) (u .absorb) (u .provide)))
@@ -51,6 +55,7 @@ led-law l u last seconds request r g =
     record {
       relied = relied (led l u last seconds request r g) seconds request (v .unit) (v .seconds-in);
       kept-small = kept l u last seconds request r g;
+      sameWatts = same l u last seconds request r g;
       fits = beside l u last seconds request r g;
       limitedOnly = limited l u last seconds request r g;
       unled = unled-is l u last seconds request;

@@ -11,7 +11,7 @@ use Rattle.lead.specs.declared.Lead.{Lead}
 use Rattle.guided.specs.Posts.{Guiding}
 use Rattle.guided.specs.Roofs.{ledRoof, requestedOf, varsKept, LitLaw}
 use Rattle.guided.proofs.SharedLaws.{kept-most}
-use Rattle.guided.proofs.RoofLaws.{led-in, unled-is, stands-is, asked-small, lit-fits, lit-whole}
+use Rattle.guided.proofs.RoofLaws.{led-in, unled-is, stands-is, asked-small, lit-same, lit-fits, lit-whole}
 
 kept : (l : Lead) (r : Roof) (last : ℤ) (on : Bool) (s : Sun) → roofIn r ≡ true → Guiding l last → natAbs (varsKept l r last on s) ≤ 100000000
 unfolding varsKept
@@ -23,6 +23,7 @@ lit-law l r last on s h g =
     record {
       relied = relied (ledRoof l r requested) (led-in l r h requested (asked-small l r last on s h g)) on s;
       kept-small = kept l r last on s h g;
+      sameWatts = lit-same l r last on s;
       fits = lit-fits l r last on s h g;
       givenWhole = lit-whole l r last on s h g;
       unled = unled-is l r last on s;

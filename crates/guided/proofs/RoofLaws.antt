@@ -162,6 +162,11 @@ module _ (l : Lead) (r : Roof) (last : ℤ) (on : Bool) (s : Sun) where
   unfolding varsKept
   stands-is d = kept-stands l last (requestedOf l r last on s) d
 
+  -- with watts first, they are those of the step itself
+  pub lit-same : l .after ≡ true → wattsFirst l r on s ≡ natAbs (litStep l r last on s .watts)
+  unfolding litStep wattsFirst
+  lit-same a = ap natAbs (step-same l r on s (requestedOf l r last on s) a (v .«var_request»))
+
   module _ (h : roofIn r ≡ true) (g : Guiding l last) where
     -- the vars requested are small
     pub asked-small : natAbs (requestedOf l r last on s) ≤ 100000000
@@ -175,10 +180,7 @@ module _ (l : Lead) (r : Roof) (last : ℤ) (on : Bool) (s : Sun) where
       first-fits = requested-fits l (v .«var_request») last (v .kva) g (wattsFirst l r on s) f a
 
       pub lit-fits : natAbs (requestedOf l r last on s) ≤ legOf (v .kva) (natAbs (litStep l r last on s .watts))
-      unfolding litStep wattsFirst
-      lit-fits =
-          subst (λ (w : ℤ). natAbs (requestedOf l r last on s) ≤ legOf (v .kva) (natAbs w))
-          (step-same l r on s (requestedOf l r last on s) a (v .«var_request»)) first-fits
+      lit-fits = subst (λ (w : ℕ). natAbs (requestedOf l r last on s) ≤ legOf (v .kva) w) (lit-same a) first-fits
 
       pub lit-whole : litStep l r last on s .on ≡ true → litStep l r last on s .vars ≡ requestedOf l r last on s
       unfolding litStep

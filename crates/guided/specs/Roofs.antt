@@ -52,6 +52,7 @@ varsKept l r last on s = keptBy l last (requestedOf l r last on s)
 pub record LitLaw (l : Lead) (r : Roof) (last : ℤ) (on : Bool) (s : Sun) : Type 0 where
   pub relied : Relied (ledRoof l r (requestedOf l r last on s)) on s
   pub kept-small : natAbs (varsKept l r last on s) ≤ 100000000
+  pub sameWatts : l .after ≡ true → wattsFirst l r on s ≡ natAbs (litStep l r last on s .watts)
   pub fits : l .fresh ≡ true → l .after ≡ true → natAbs (requestedOf l r last on s) ≤ legOf (r .inverter .kva) (natAbs (litStep l r last on s .watts))
   -- so an inverter that is on gives them as they are
   pub givenWhole : l .fresh ≡ true → l .after ≡ true → litStep l r last on s .on ≡ true → litStep l r last on s .vars ≡ requestedOf l r last on s

@@ -60,6 +60,8 @@ pub record LedLaw (l : Lead) (u : Unit) (last : ℤ) (seconds : ℕ) (request : 
   -- L7: all that a planner relies on, of the unit as it is led: its store, its limits and its circle are its own
   pub relied : Relied (ledUnit l u (requestedOf l u last seconds request)) seconds request
   pub kept-small : natAbs (varsKept l u last seconds request) ≤ 100000000
+  -- L8: the watts that the base goes by are those of this very step
+  pub sameWatts : l .after ≡ true → let v = ledUnit l u (requestedOf l u last seconds request) in wattsFirst l u seconds request ≡ inverterWatts v (flowOf v seconds request)
   -- L8: by what the circle leaves after the watts, the vars requested fit the circle beside the watts of this very step, and only the unit's limit for their direction cuts them
   pub fits : l .fresh ≡ true → l .after ≡ true → let v = ledUnit l u (requestedOf l u last seconds request) in
       natAbs (requestedOf l u last seconds request) ≤ legOf (u .kva) (natAbs (inverterWatts v (flowOf v seconds request)))

@@ -30,7 +30,7 @@ use Rattle.kept.proofs.NumberLaws.{take-drop}
 use Rattle.taking.specs.Chunk.{headIn, standsBefore, stepsBy, absorbed, resultsBy}
 use Rattle.taking.specs.Posts.{Leads}
 use Rattle.taking.proofs.LeadLaws.{steps-there, steps-counted, few-steps, no-step-yet, same-due-yet}
-use Rattle.taking.proofs.DueLaws.{fits-shining}
+use Rattle.kept.proofs.KeptLaws.{fits-shining}
 use Rattle.taking.proofs.CountLaws.{after-accepted}
 use Rattle.taking.proofs.WellLaws.{before-stands}
 use Rattle.taking.proofs.PlacedLaws.{tail-within, place-most}

@@ -23,6 +23,7 @@ use Rattle.octets.proofs.ByteLaws.{be-one, bytes-length}
 use Rattle.members.specs.Ranges.{someAbove, someBelow}
 use Rattle.records.proofs.LayLaws.{both, longer}
 use Rattle.solar.specs.declared.Sun.{Sun}
+use Rattle.solar.specs.Posts.{Shining}
 use Rattle.lead.specs.Lead.{voltageIn}
 use Rattle.unit.proofs.RangeLaws.{Bounds, bounds}
 use Rattle.site.specs.Site.{count, unitOf}
@@ -119,20 +120,19 @@ place-few place stage steps site tail t a b d =
     let upto : (b : Bool) (x : ℕ) → cond b x 0 ≤ x = λ b x. by-test (λ (n : ℕ). n ≤ x) b x 0 (λ u. omega arith) (λ u. omega arith) in
     omega (arith, upto (eqb stage atReading) 19, upto (eqb stage atVoltage) 5, upto (eqb stage atVoltage) 19, upto (eqb stage atEnd) 7)
 
-sun-few : (stage : ℕ) (s : Sun) → sunFits stage s ≡ true → (s .irradiance ≤ 100000000) × (natAbs (s .temperature) ≤ 100000000)
+pub fits-shining : (stage : ℕ) (s : Sun) → sunFits stage s ≡ true → Shining s
 unfolding sunFits
-sun-few stage s t = go (eqb stage atReading || eqb stage atVoltage) t
+fits-shining stage s = go (eqb stage atReading || eqb stage atVoltage)
   where
-    go : (b : Bool) → cond b (leb (s .irradiance) 100000000 && leb (natAbs (s .temperature)) 100000000) (eqb (s .irradiance) 0 && eqb (natAbs (s .temperature)) 0) ≡ true
-        → (s .irradiance ≤ 100000000) × (natAbs (s .temperature) ≤ 100000000)
-    go true e =
-        let p = and-parts (leb (s .irradiance) 100000000) (leb (natAbs (s .temperature)) 100000000) e in
-        (leb-true (s .irradiance) 100000000 (p .0), leb-true (natAbs (s .temperature)) 100000000 (p .1))
-    go false e =
-        let p = and-parts (eqb (s .irradiance) 0) (eqb (natAbs (s .temperature)) 0) e in
+    go : (b : Bool) → cond b (leb (s .irradiance) 100000000 && leb (natAbs (s .temperature)) 100000000) (eqb (s .irradiance) 0 && eqb (natAbs (s .temperature)) 0) ≡ true → Shining s
+    go true t =
+        let p = and-parts (leb (s .irradiance) 100000000) (leb (natAbs (s .temperature)) 100000000) t in
+        record { irradiance-small = leb-true (s .irradiance) 100000000 (p .0); temperature-small = leb-true (natAbs (s .temperature)) 100000000 (p .1) }
+    go false t =
+        let p = and-parts (eqb (s .irradiance) 0) (eqb (natAbs (s .temperature)) 0) t in
         let a = eqb-true (s .irradiance) 0 (p .0) in
         let b = eqb-true (natAbs (s .temperature)) 0 (p .1) in
-        (omega arith, omega arith)
+        record { irradiance-small = omega arith; temperature-small = omega arith }
 
 volts-few : (stage volts : ℕ) → voltFits stage volts ≡ true → volts ≤ 20000
 unfolding voltFits
@@ -243,14 +243,14 @@ module _ (k : Kept) (well : WellKept k) where
 
   pub keepable : Keepable k
   keepable =
-      let sun = sun-few (k .state .stage) (k .due .sun) (well .sunny) in
+      let sun = fits-shining (k .state .stage) (k .due .sun) (well .sunny) in
       record {
         room = kept-room;
         place-fits = lt-of-le-of-lt place-small (lit< tt);
         steps-fit = lt-of-le-of-lt (well .few) (lit< tt);
         stage-fits = lt-of-le-of-lt stage-small (lit< tt);
-        light-fits = lt-of-le-of-lt (sun .0) (lit< tt);
-        warm-fits = size-fits w32 (k .due .sun .temperature) (lt-of-le-of-lt (sun .1) (lit< tt));
+        light-fits = lt-of-le-of-lt (sun .irradiance-small) (lit< tt);
+        warm-fits = size-fits w32 (k .due .sun .temperature) (lt-of-le-of-lt (sun .temperature-small) (lit< tt));
         volts-fit = lt-of-le-of-lt (volts-few (k .state .stage) (voltsOf (k .due .voltage)) (well .volted)) (lit< tt);
         said = well .said;
         stores-fit = λ i l. lt-of-le-of-lt (held-few i l .0) (lit< tt);

@@ -2,13 +2,13 @@
 use mathlib.Core.Path.{_≡_, refl, sym, ap, ap₂, _∙_, subst, subst⁻¹}
 use mathlib.Core.Bool.{Bool, true, false, not}
 use mathlib.Core.List.{List}
-use Prim.Native.Nat.{ℕ, suc, _+_, _^_, _≤_, _<_}
+use Prim.Native.Nat.{ℕ, _+_, _^_, _≤_, _<_}
 use native.Mathlib.Nat.{le-trans, lt-trans, lt-of-le-of-lt}
 use native.Mathlib.Omega.{arith}
-use lib.Dec.{leb, leb→le, eqb, lit≤, lit<}
-use lib.IntN.{ℤ, pos, negsuc, natAbs}
+use lib.Dec.{leb, eqb, lit≤, lit<}
+use lib.IntN.{ℤ, pos, natAbs}
 use lib.ListN.{length}
-use lib.Signed.{_≤ℤ_, mag}
+use lib.Signed.{mag}
 use mir.Syntax.{w32, w64}
 use mir.Val.{SFits, toZ, ofZ}
 use mir.ValLaws.{toZ-pos}
@@ -20,21 +20,20 @@ use Rattle.curve.specs.Curve.{Point, pointOf, curveAt}
 use Rattle.curve.specs.Ranges.{pointsIn}
 use Rattle.curve.specs.Layout.{countAt, pointsAt}
 use Rattle.curve.specs.Posts.{Usable}
+use Rattle.curve.proofs.OrderLaws.{size-up, size-within}
 use Rattle.curve.proofs.PointLaws.{points-count, points-point}
 use Rattle.curve.proofs.RangeLaws.{points-some, points-bounded, curve-bounded}
 use Rattle.lead.specs.declared.Voltage.{Voltage}
 use Rattle.lead.specs.declared.Voltage.the-variants.{Unsaid, Said}
-use Rattle.lead.specs.Lead.{voltVarBounds, functionIn, lead, leadOf}
+use Rattle.lead.specs.Lead.{Function, voltVarBounds, functionIn, lead, leadOf}
 use Rattle.lead.specs.Posts.{functionHere, leadingHere, LeadingThere}
 
--- ---- a signed number between bounds, by its size
-size-up : (n : ℕ) (z : ℤ) → pos 0 ≤ℤ z → z ≤ℤ pos n → natAbs z ≤ n
-size-up n (pos m) low high = leb→le m n (high .le)
-size-up n (negsuc m) low high = absurd (low .le)
-
-size-within : (n : ℕ) (z : ℤ) → negsuc n ≤ℤ z → z ≤ℤ pos (suc n) → natAbs z ≤ suc n
-size-within n (pos m) low high = leb→le m (suc n) (high .le)
-size-within n (negsuc m) low high = let l : m ≤ n = leb→le m n (low .le) in omega arith
+-- ---- the curve of a function in its ranges has no value above 1 either way
+pub curve-small : (f : Function) → functionIn f ≡ true → (x : ℤ) → natAbs (curveAt (f .curve) x) ≤ 10000
+unfolding functionIn
+curve-small f t x =
+    let b = curve-bounded voltVarBounds (f .curve) (and-parts (leb (f .base) 1) (pointsIn voltVarBounds (f .curve)) t .1) x in
+    size-within 9999 (curveAt (f .curve) x) (b .0) (b .1)
 
 -- ---- the curve of a function that is there
 module _ (bytes : List ℕ) (at : ℕ) (h : LeadingThere bytes true at) where
@@ -46,7 +45,8 @@ module _ (bytes : List ℕ) (at : ℕ) (h : LeadingThere bytes true at) where
   passed = and-parts (leb (be 1 bytes (at + 3)) 1) (pointsIn voltVarBounds points) (h .in-range refl) .1
 
   pub value-small : (x : ℤ) → natAbs (curveAt points x) ≤ 10000
-  value-small x = let b = curve-bounded voltVarBounds points passed x in size-within 9999 (curveAt points x) (b .0) (b .1)
+  unfolding functionHere
+  value-small x = curve-small (functionHere bytes at) (h .in-range refl) x
 
   at-point : (i : ℕ) → i < countAt bytes (at + 7) → (natAbs (pointOf points i .x) ≤ 20000) × (natAbs (pointOf points i .y) ≤ 10000)
   at-point i l =

@@ -1,4 +1,4 @@
 -- Laws of the vars requested.
 pub mod LeadLaws
 pub mod LeadProved
-mod FunctionLaws
+pub mod FunctionLaws

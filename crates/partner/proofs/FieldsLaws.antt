@@ -16,11 +16,11 @@ use Rattle.site.specs.Site.{Plant}
 use Rattle.fields.specs.Fields.{isReading}
 use Rattle.stick.specs.Site.{placesOf, plantOf, dueAfter, stepsFrom, ofSteps, headFrom}
 use Rattle.stick.specs.Posts.{Accepted, stepsPlace}
-use Rattle.stick.proofs.PlaceLaws.{from, from-over, from-field}
+use Rattle.stick.proofs.PlaceLaws.{from, from-over, from-field, steps-over}
 use Rattle.stick.proofs.StepLaws.{Ending, ends-here, ends-later}
 use Rattle.stick.proofs.SiteProved.{walk-accepted}
 use Rattle.records.specs.Records.{endBytes}
-use Rattle.stretch.proofs.FieldLaws.{steps-over, steps-field, closes-none}
+use Rattle.stretch.proofs.FieldLaws.{steps-field, closes-none}
 use Rattle.chunks.proofs.HeadFile.{head-place}
 use Rattle.partner.specs.Verdict.{Field, askedBy, sizesOf, fieldsAt, fieldsIn, fieldsOf}
 

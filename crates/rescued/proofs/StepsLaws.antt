@@ -25,8 +25,9 @@ use Rattle.stick.specs.declared.Answer.{Answer}
 use Rattle.stick.specs.Check.{answer, fieldAt, start}
 use Rattle.stick.specs.Site.{placesFrom, readingAt, sunAt, voltageAt, dueAfter, stepsIn, dueIn, stepsFrom, dueFrom, stepsOf}
 use Rattle.stick.proofs.StepLaws.{no-other}
+use Rattle.stick.proofs.PlaceLaws.{steps-over, due-over, steps-first, due-first}
 use Rattle.chunks.proofs.SameLaws.{Same, same-less, tag-same, length-same, reading-same, due-same}
-use Rattle.chunks.proofs.PlaceChunks.{FieldThere, Whole, whole-end, whole-field, whole-append, accepted-there, steps-over, due-over, steps-field, due-field, steps-append}
+use Rattle.chunks.proofs.PlaceChunks.{FieldThere, Whole, whole-end, whole-field, whole-append, accepted-there, steps-append}
 use Rattle.chunks.proofs.HeadChunks.{FieldTaken, accepted-field}
 use Rattle.chunks.proofs.HeadFile.{steps-kept}
 use Rattle.rescue.specs.Saved.{Saved, endsAt, keeping, missingField, closedStep, bytesAt, savedOf, due as dueHere}
@@ -108,16 +109,16 @@ module _ (file : List ℕ) (at : ℕ) (f : FieldThere file at) where
     cut-steps d = steps-append cut kept cut-whole d ∙ ap₂ (λ (l : List Step) (u : Due). l ++ stepsFrom kept u 0) one left ∙ go (isReading (tagAt file at))
       where
         none-behind : stepsFrom cut (dueAfter cut d 0) (past cut 0) ≡ []
-        none-behind = steps-over cut (dueAfter cut d 0) (past cut 0) (let p = cut-past in omega arith)
+        none-behind = steps-over cut (past cut 0) (let p = cut-past in omega arith) (dueAfter cut d 0)
 
         first : 0 < length cut
         first = let long = cut-long in omega arith
 
         one : stepsFrom cut d 0 ≡ cond (isReading (tagAt file at)) (stepWith (readingAt file at) d ∷ []) []
-        one = steps-field cut d 0 first ∙ (λ j. cond (isReading (cut-tag j)) (stepWith (cut-reading j) d ∷ none-behind j) (none-behind j))
+        one = steps-first cut 0 first d ∙ (λ j. cond (isReading (cut-tag j)) (stepWith (cut-reading j) d ∷ none-behind j) (none-behind j))
 
         left : dueFrom cut d 0 ≡ dueAfter file d at
-        left = due-field cut d 0 first ∙ due-over cut (dueAfter cut d 0) (past cut 0) (let p = cut-past in omega arith) ∙ cut-due d
+        left = due-first cut 0 first d ∙ due-over cut (past cut 0) (let p = cut-past in omega arith) (dueAfter cut d 0) ∙ cut-due d
 
         go : (r : Bool) → cond r (stepWith (readingAt file at) d ∷ []) [] ++ stepsFrom kept (dueAfter file d at) 0 ≡ after r d
         go true = refl
@@ -168,8 +169,8 @@ module _ (file : List ℕ) where
   held-none : (st : State) (at : ℕ) (n : ℕ) → Held file st at (endsAt n at st)
   held-none st at n = record {
     whole = whole-end refl;
-    likes = λ d. likes-so (steps-over [] d 0 (omega arith)) refl none;
-    counted = λ d. let z = ap length (steps-over [] d 0 (omega arith)) in omega arith;
+    likes = λ d. likes-so (steps-over [] 0 (omega arith) d) refl none;
+    counted = λ d. let z = ap length (steps-over [] 0 (omega arith) d) in omega arith;
   }
 
   module _ {st : State} {at : ℕ} {s : Saved} (l : at < length file) where
@@ -186,14 +187,14 @@ module _ (file : List ℕ) where
 
         here : (d : Due) → stepsFrom file d at ≡ stepWith (readingAt file at) d ∷ stepsFrom file noneYet (past file at)
         here d =
-            steps-field file d at l ∙ ap (λ (r : Bool). stepsBy file at r d) closes-it
+            steps-first file at l d ∙ ap (λ (r : Bool). stepsBy file at r d) closes-it
             ∙ ap (λ (u : Due). stepWith (readingAt file at) d ∷ stepsFrom file u (past file at)) (closed-due file at d closes-it)
 
     -- a field that is kept
     held-passed : (m : State) → fieldAt st file at ≡ Next m → Held file m (past file at) s → Held file st at (keeping (bytesAt file at) [] s)
     held-passed m f h = record {
       whole = whole-append (bytesAt file at) (s .kept) (cut-whole file at there) (h .whole);
-      likes = λ d. likes-so (cut-steps file at there (s .kept) d) (steps-field file d at l) (alike (isReading (tagAt file at)) d);
+      likes = λ d. likes-so (cut-steps file at there (s .kept) d) (steps-first file at l d) (alike (isReading (tagAt file at)) d);
       counted = λ d. count (isReading (tagAt file at)) d one (ap length (cut-steps file at there (s .kept) d));
     }
       where
@@ -233,7 +234,7 @@ output-steps s w =
     end b = cond b [] (endField (s .state .steps))
 
     nothing : (b : Bool) → stepsFrom (end b) (dueFrom (s .kept) noneYet 0) 0 ≡ []
-    nothing true = steps-over [] (dueFrom (s .kept) noneYet 0) 0 (omega arith)
+    nothing true = steps-over [] 0 (omega arith) (dueFrom (s .kept) noneYet 0)
     nothing false = end-steps (s .state .steps) (dueFrom (s .kept) noneYet 0)
 
 of-file : (file : List ℕ) → stepsOf file ≡ stepsFrom file noneYet 0

@@ -2,11 +2,11 @@
 use mathlib.Core.Path.{_≡_, subst}
 use mathlib.Core.Bool.{true, _&&_}
 use mathlib.Core.List.{List}
-use Prim.Native.Nat.{ℕ, suc, _+_, _≤_, _<_}
+use Prim.Native.Nat.{ℕ, _+_, _≤_, _<_}
 use native.Mathlib.Nat.{le-trans}
 use native.Mathlib.Omega.{arith}
-use lib.Dec.{leb, leb→le, lit≤}
-use lib.IntN.{ℤ, pos, negsuc, natAbs}
+use lib.Dec.{leb, lit≤}
+use lib.IntN.{ℤ, natAbs}
 use lib.ListN.{length}
 use lib.Signed.{_≤ℤ_}
 use borrow.Author.Tests.{leb-true}
@@ -17,20 +17,12 @@ use Rattle.curve.specs.Curve.{Point, pointOf, curveAt}
 use Rattle.curve.specs.Ranges.{pointsIn}
 use Rattle.curve.specs.Layout.{curveBytes, countAt, pointsAt}
 use Rattle.curve.specs.Posts.{Usable}
+use Rattle.curve.proofs.OrderLaws.{size-up, size-within}
 use Rattle.curve.proofs.PointLaws.{points-count, points-point}
 use Rattle.curve.proofs.RangeLaws.{points-some, points-bounded, curve-bounded}
 use Rattle.solar.specs.declared.Inverter.{Inverter}
 use Rattle.solar.specs.Roof.{Roof, inverterIn, warmBounds, efficiencyBounds, roofIn}
 use Rattle.solar.specs.Posts.{roofBy, Roofed}
-
--- ---- a signed number between bounds, by its size
-size-up : (n : ℕ) (z : ℤ) → pos 0 ≤ℤ z → z ≤ℤ pos n → natAbs z ≤ n
-size-up n (pos m) low high = leb→le m n (high .le)
-size-up n (negsuc m) low high = absurd (low .le)
-
-size-within : (n : ℕ) (z : ℤ) → negsuc n ≤ℤ z → z ≤ℤ pos (suc n) → natAbs z ≤ suc n
-size-within n (pos m) low high = leb→le m (suc n) (high .le)
-size-within n (negsuc m) low high = let l : m ≤ n = leb→le m n (low .le) in omega arith
 
 -- ---- a curve whose bounds are no larger than 10^8 can be read
 usable : (b : Bounds) (bytes : List ℕ) (place : ℕ) → place + curveBytes ≤ length bytes → pointsIn b (pointsAt bytes place) ≡ true

@@ -7,9 +7,8 @@ use Prim.Native.Nat.{ℕ, _+_}
 use native.Mathlib.Omega.{arith}
 use lib.Dec.{leb, eqb}
 use lib.IntN.{natAbs}
-use borrow.Author.Tests.{leb-true, le-leb, eqb-true}
+use borrow.Author.Tests.{le-leb}
 use Rattle.whole.proofs.Choice.{passed-failed}
-use Rattle.whole.proofs.OverLaws.{and-parts}
 use Rattle.octets.specs.BigEndian.{be}
 use Rattle.parts.specs.Header.{header, past}
 use Rattle.solar.specs.declared.Sun.{Sun}
@@ -22,11 +21,13 @@ use Rattle.site.specs.Site.{due, noneYet}
 use Rattle.fields.specs.declared.State.{State}
 use Rattle.fields.specs.Fields.{atEnd, atSteps, atReading, atVoltage, begins}
 use Rattle.stick.specs.Site.{sunAt, voltageAt, dueFrom}
-use Rattle.stretch.proofs.FieldLaws.{due-over, due-field, reading-clears, weather-lights, voltage-says, end-leaves, dark-shines, after-shines}
+use Rattle.stick.proofs.PlaceLaws.{due-over, due-first}
+use Rattle.stretch.proofs.FieldLaws.{reading-clears, weather-lights, voltage-says, end-leaves, dark-shines, after-shines}
 use Rattle.kept.specs.Kept.{Kept, begunAt, begun}
 use Rattle.kept.specs.Layout.{voltsOf}
 use Rattle.kept.specs.Formed.{sunFits, voltFits}
 use Rattle.kept.specs.Posts.{WellKept}
+use Rattle.kept.proofs.KeptLaws.{fits-shining}
 use Rattle.taking.specs.Chunk.{headIn}
 use Rattle.taking.specs.Posts.{Leads}
 use Rattle.taking.proofs.TookLaws.{by-begins}
@@ -39,21 +40,7 @@ pub record DueWell (stage : ℕ) (d : Due) : Type 0 where
   pub volted : voltFits stage (voltsOf (d .voltage)) ≡ true
   pub said : d .voltage ≡ cond (eqb stage atVoltage) (Said (voltsOf (d .voltage))) Unsaid
 
--- a sun that fits is in its ranges; and such a one fits where a reading is waited for
-pub fits-shining : (stage : ℕ) (s : Sun) → sunFits stage s ≡ true → Shining s
-unfolding sunFits
-fits-shining stage s = go (eqb stage atReading || eqb stage atVoltage)
-  where
-    go : (b : Bool) → cond b (leb (s .irradiance) 100000000 && leb (natAbs (s .temperature)) 100000000) (eqb (s .irradiance) 0 && eqb (natAbs (s .temperature)) 0) ≡ true → Shining s
-    go true t =
-        let p = and-parts (leb (s .irradiance) 100000000) (leb (natAbs (s .temperature)) 100000000) t in
-        record { irradiance-small = leb-true (s .irradiance) 100000000 (p .0); temperature-small = leb-true (natAbs (s .temperature)) 100000000 (p .1) }
-    go false t =
-        let p = and-parts (eqb (s .irradiance) 0) (eqb (natAbs (s .temperature)) 0) t in
-        let a = eqb-true (s .irradiance) 0 (p .0) in
-        let b = eqb-true (natAbs (s .temperature)) 0 (p .1) in
-        record { irradiance-small = omega arith; temperature-small = omega arith }
-
+-- a sun in its ranges fits where a reading is waited for
 shining-tests : (s : Sun) → Shining s → (leb (s .irradiance) 100000000 && leb (natAbs (s .temperature)) 100000000) ≡ true
 shining-tests s h = ap₂ _&&_ (le-leb (s .irradiance) 100000000 (h .irradiance-small)) (le-leb (natAbs (s .temperature)) 100000000 (h .temperature-small))
 
@@ -119,19 +106,19 @@ module _ (file : List ℕ) {next : State} where
   due-along {st} {i} (done e f) d w =
       subst⁻¹ (DueWell (next .stage)) (due-over file i (omega arith) d) (subst (λ (x : State). DueWell (x .stage) d) e w)
   due-along {st} {i} (read m l r c lo hi is more) d w =
-      subst⁻¹ (DueWell (next .stage)) (due-field file i l d ∙ ap (λ (x : Due). dueFrom file x (past file i)) (reading-clears file d i r))
+      subst⁻¹ (DueWell (next .stage)) (due-first file i l d ∙ ap (λ (x : Due). dueFrom file x (past file i)) (reading-clears file d i r))
       (due-along more noneYet (subst⁻¹ (λ (x : State). DueWell (x .stage) noneYet) is cleared))
   due-along {st} {i} (lit m l e c p is more) d w =
       let shines : Shining (sunAt file i) = subst (λ (x : Due). Shining (x .sun)) (weather-lights file noneYet i e) (after-shines file noneYet i dark-shines) in
-      subst⁻¹ (DueWell (next .stage)) (due-field file i l d ∙ ap (λ (x : Due). dueFrom file x (past file i)) (weather-lights file d i e))
+      subst⁻¹ (DueWell (next .stage)) (due-first file i l d ∙ ap (λ (x : Due). dueFrom file x (past file i)) (weather-lights file d i e))
       (due-along more (due (sunAt file i) (d .voltage))
       (subst⁻¹ (λ (x : State). DueWell (x .stage) (due (sunAt file i) (d .voltage))) is (lit-well (st .stage) d (begins-quiet st c) w (sunAt file i) shines)))
   due-along {st} {i} (said m l e c p v is more) d w =
-      subst⁻¹ (DueWell (next .stage)) (due-field file i l d ∙ ap (λ (x : Due). dueFrom file x (past file i)) (voltage-says file d i e))
+      subst⁻¹ (DueWell (next .stage)) (due-first file i l d ∙ ap (λ (x : Due). dueFrom file x (past file i)) (voltage-says file d i e))
       (due-along more (due (d .sun) (voltageAt file i))
       (subst⁻¹ (λ (x : State). DueWell (x .stage) (due (d .sun) (voltageAt file i))) is (said-well file i (st .stage) d w v)))
   due-along {st} {i} (ended m l e c p is more) d w =
-      subst⁻¹ (DueWell (next .stage)) (due-field file i l d ∙ ap (λ (x : Due). dueFrom file x (past file i)) (end-leaves file d i e))
+      subst⁻¹ (DueWell (next .stage)) (due-first file i l d ∙ ap (λ (x : Due). dueFrom file x (past file i)) (end-leaves file d i e))
       (due-along more d (subst⁻¹ (λ (x : State). DueWell (x .stage) d) is (quiet-alike (st .stage) d (begins-quiet st c) w atEnd refl)))
 
 -- ---- whole fields

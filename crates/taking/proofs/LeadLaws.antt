@@ -16,8 +16,8 @@ use Rattle.fields.specs.declared.State.{State}
 use Rattle.stick.specs.declared.Reached.{Reached}
 use Rattle.stick.specs.Check.{reached, reachOf}
 use Rattle.stick.specs.Site.{ofSteps, stepsFrom, dueFrom}
+use Rattle.stick.proofs.PlaceLaws.{steps-over, due-over}
 use Rattle.stretch.specs.Posts.{StepsThere}
-use Rattle.stretch.proofs.FieldLaws.{steps-over, due-over}
 use Rattle.stretch.proofs.ReachedLaws.{reached-steps-all, reached-count-all}
 use Rattle.chunks.proofs.ReachChunks.{reach-over, Went, there, passing, went-reach}
 use Rattle.chunks.proofs.PlaceChunks.{Whole, went-whole}

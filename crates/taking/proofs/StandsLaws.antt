@@ -6,11 +6,11 @@ use mathlib.Core.List.{List, [], _∷_, _++_}
 use Prim.Native.Nat.{ℕ, zero, suc, _+_, _≤_, _<_, min}
 use native.Mathlib.Nat.{le-refl, le-step}
 use native.Mathlib.Omega.{arith}
-use lib.Dec.{leb, leb→le}
-use lib.IntN.{ℤ, pos, negsuc, natAbs, _+ℤ_}
+use lib.Dec.{leb}
+use lib.IntN.{ℤ, pos, natAbs, _+ℤ_}
 use lib.ListN.{length, getD, replicate, length-append, length-replicate, List·getD-append, List·getD-map}
 use lib.Seq.{getD-append-add}
-use lib.Signed.{ltZ, _≤ℤ_}
+use lib.Signed.{ltZ}
 use borrow.Author.Tests.{leb-true, le-leb}
 use Rattle.whole.specs.Over.{allOf, each}
 use Rattle.whole.specs.Signed.{negative}
@@ -21,13 +21,11 @@ use Rattle.reading.specs.declared.Reading.{Reading}
 use Rattle.unit.specs.declared.Unit.{Unit}
 use Rattle.unit.proofs.RangeLaws.{Bounds, bounds}
 use Rattle.rows.proofs.RowLaws.{length-map}
-use Rattle.curve.specs.Curve.{curveAt}
-use Rattle.curve.specs.Ranges.{pointsIn}
-use Rattle.curve.proofs.RangeLaws.{curve-bounded}
 use Rattle.lead.specs.declared.Voltage.{Voltage}
 use Rattle.lead.specs.declared.Voltage.the-variants.{Unsaid, Said}
-use Rattle.lead.specs.Lead.{Leading, unled, led, voltVarBounds, functionIn, leadOf}
+use Rattle.lead.specs.Lead.{Leading, unled, led, leadOf}
 use Rattle.lead.specs.Posts.{Modest}
+use Rattle.lead.proofs.FunctionLaws.{curve-small}
 use Rattle.rules.specs.declared.Settings.{Settings}
 use Rattle.members.specs.Ranges.{Fleet, fleetFor, someAbove, someBelow}
 use Rattle.controller.specs.OneSign.{OneSign}
@@ -87,17 +85,11 @@ module _ (a b : List ℤ) (h : Small (a ++ b)) where
       subst (λ (z : ℤ). natAbs z ≤ 100000000) (getD-append-add a b i (pos 0)) (h (length a + i) (omega arith))
 
 -- ---- what leads a step has a curve's value of at most one either way
-size-within : (n : ℕ) (z : ℤ) → negsuc n ≤ℤ z → z ≤ℤ pos (suc n) → natAbs z ≤ suc n
-size-within n (pos m) low high = leb→le m (suc n) (high .le)
-size-within n (negsuc m) low high = let l : m ≤ n = leb→le m n (low .le) in omega arith
-
 pub lead-modest : (l : Leading) (v : Voltage) → Guided l → Modest (leadOf l v)
-unfolding leadOf functionIn
+unfolding leadOf
 lead-modest unled v g = record { y-small = omega arith }
 lead-modest (led f) Unsaid g = record { y-small = omega arith }
-lead-modest (led f) (Said x) g =
-    let b = curve-bounded voltVarBounds (f .curve) (and-parts (leb (f .base) 1) (pointsIn voltVarBounds (f .curve)) g .1) (pos x) in
-    record { y-small = size-within 9999 (curveAt (f .curve) (pos x)) (b .0) (b .1) }
+lead-modest (led f) (Said x) g = record { y-small = curve-small f g (pos x) }
 
 -- ---- requests within their ratings
 abbrev pub Rated : Site → List ℤ → Type 0
