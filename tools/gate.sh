@@ -119,7 +119,8 @@ yb_toolchain
 # Relative to reference/, where cargo runs the tests: the host's command is split at blanks.
 export YB_HOST="$YB_EMULATOR ../build/x86_64/host"
 
-step line 'proofs' rt ci
+# More at a time than there are cores: each waits for the slowest of its batch.
+step line 'proofs' env RT_JOBS="${RT_JOBS:-4}" rt ci
 step line 'wrong programs' tools/refusals.sh
 step one 'stored cases' stored_cases
 step one 'sample sticks' sample_sticks
