@@ -1,18 +1,18 @@
 -- Numbers whose first byte weighs least, at every width: one of n + m bytes is one of n bytes and one of m bytes behind it,
 -- and with its bytes in the other order it is the big-endian one. Assumes nothing.
-use mathlib.Core.Path.{_≡_, refl, sym}
+use mathlib.Core.Path.{_≡_, refl, sym, _∙_}
 use mathlib.Core.List.{List, _++_}
 use Prim.Native.Nat.{ℕ, zero, suc, _+_, _*_, _/_, _%_, _^_, _≤_, _<_}
-use native.Mathlib.Nat.{zero-add, suc-add, add-assoc, mul-assoc, add-mul, pow-suc, pow-succ', div-one, div-div-eq-div-mul, mod-eq-of-lt}
+use native.Mathlib.Nat.{zero-add, suc-add, add-comm, add-assoc, mul-assoc, add-mul, pow-suc, pow-succ', div-one, div-div-eq-div-mul, mod-one, mod-eq-of-lt}
 use native.Mathlib.Numerals.{add-one}
 use native.Mathlib.Omega.{arith}
 use lib.Arith.{digits-div, digits-mod, mod-mul}
 use lib.Dec.{lit<}
-use lib.ListN.{length, set}
+use lib.ListN.{length, getD, set}
 use lib.Pow.{pow-add}
-use Rattle.octets.proofs.ByteLaws.{pow-pos, bytes-first}
+use Rattle.octets.proofs.ByteLaws.{pow-pos, bytes-first, be-one, be-split, be-below}
 use Rattle.octets.proofs.LaidLaws.{laid-set, laid-laid}
-use Rattle.octets.specs.BigEndian.{bytesOf, laid}
+use Rattle.octets.specs.BigEndian.{be, bytesOf, laid}
 use Rattle.octets.specs.LowFirst.{lowBytes, swapped}
 
 -- ---- the bytes of a number
@@ -92,6 +92,25 @@ swapped-parts n m v = rw (swapped-cut n v) (swapped-split n m v)
 swapped-last : (n v : ℕ) → swapped (suc n) v ≡ swapped n v * 256 + v / 256 ^ n % 256
 swapped-last n v = rw (← add-one n, swapped-split n 1 v, swapped-one (v / 256 ^ n))
 
+-- swapped twice, a number is cut to n bytes
+swapped-swapped : (n v : ℕ) → swapped n (swapped n v) ≡ v % 256 ^ n
+unfolding swapped
+swapped-swapped zero v = sym (mod-one v)
+swapped-swapped (suc n) v =
+    let r : v / 256 ^ n % 256 < 256 = omega arith in
+    rw (
+      swapped-last n v,
+      digits-mod (swapped n v) r,
+      digits-div (swapped n v) r,
+      swapped-swapped n v,
+      pow-succ' 256 n,
+      mod-mul v (lit< tt) (pow-pos n),
+    )
+
+-- so one that n bytes hold comes back as it was
+pub swapped-twice : (n v : ℕ) → v < 256 ^ n → swapped n (swapped n v) ≡ v
+swapped-twice n v l = swapped-swapped n v ∙ mod-eq-of-lt l
+
 -- ---- the big-endian number is the swapped one
 
 -- written
@@ -102,3 +121,25 @@ low-bytes-swapped (suc n) v =
     let r : v / 256 ^ n % 256 < 256 = omega arith in
     rw (swapped-last n v, digits-mod (swapped n v) r, digits-div (swapped n v) r, low-bytes-swapped n v)
     (sym (bytes-first n v))
+
+-- and read, out of bytes
+module _ (s : List ℕ) (at : ℕ) (h : (i : ℕ) → getD s i 0 < 256) where
+  -- one byte is itself
+  pub swapped-be-one : swapped 1 (be 1 s at) ≡ getD s at 0
+  swapped-be-one = rw (swapped-one (be 1 s at), be-one s at) (mod-eq-of-lt (h at))
+
+  -- the last m of n + m bytes weigh 256 ^ n times as much
+  pub swapped-be-split : (n m : ℕ) → swapped (n + m) (be (n + m) s at) ≡ swapped m (be m s (at + n)) * 256 ^ n + swapped n (be n s at)
+  swapped-be-split n m =
+      let l : be m s (at + n) < 256 ^ m = be-below m s (at + n) h in
+      rw (
+        be-split n m s at,
+        add-comm n m,
+        swapped-parts m n (be n s at * 256 ^ m + be m s (at + n)),
+        digits-mod (be n s at) l,
+        digits-div (be n s at) l,
+      )
+
+  -- swapped again, it is the big-endian number
+  pub swapped-be-back : (n : ℕ) → swapped n (swapped n (be n s at)) ≡ be n s at
+  swapped-be-back n = swapped-twice n (be n s at) (be-below n s at h)

@@ -2,7 +2,7 @@ ghost use mathlib.Core.Path.{_≡_};
 ghost use Prim.Native.Nat.{_+_, _≤_};
 ghost use lib.ListN.{length};
 ghost use Rattle.octets.specs.LowFirst.{lowBytes, swapped};
-ghost use Rattle.octets.specs.BigEndian.{laid};
+ghost use Rattle.octets.specs.BigEndian.{be, laid};
 
 // A number's bytes in the other order. A big-endian number is written as the swapped one, lowest byte
 // first: the compiler makes one store and one swap of that.
@@ -47,4 +47,27 @@ pub fn put_low64(s: &mut [u8], at: usize, v: u64)
 {
     put_low32(s, at, (v % 4294967296) as u32);
     put_low32(s, at + 4, (v / 4294967296) as u32);
+}
+
+// The number in bytes at a place, the first weighing least: the compiler makes one load of that. A
+// big-endian number is read as the swapped one.
+pub fn low16_at(s: &[u8], at: usize) -> u16
+    requires { ⌜ at + 2 ≤ length (now s) ⌝ }
+    ensures { λ r. ⌜ r ≡ swapped 2 (be 2 (now (s .entry)) at) ⌝ }
+{
+    (s[at + 1] as u16) * 256 + (s[at] as u16)
+}
+
+pub fn low32_at(s: &[u8], at: usize) -> u32
+    requires { ⌜ at + 4 ≤ length (now s) ⌝ }
+    ensures { λ r. ⌜ r ≡ swapped 4 (be 4 (now (s .entry)) at) ⌝ }
+{
+    (low16_at(s, at + 2) as u32) * 65536 + (low16_at(s, at) as u32)
+}
+
+pub fn low64_at(s: &[u8], at: usize) -> u64
+    requires { ⌜ at + 8 ≤ length (now s) ⌝ }
+    ensures { λ r. ⌜ r ≡ swapped 8 (be 8 (now (s .entry)) at) ⌝ }
+{
+    (low32_at(s, at + 4) as u64) * 4294967296 + (low32_at(s, at) as u64)
 }

@@ -5,6 +5,7 @@ ghost use mir.Syntax.{w32, w64};
 ghost use mir.Val.{toZ};
 ghost use Rattle.octets.specs.BigEndian.{be};
 use super::complement;
+use super::lows;
 
 // The byte at a place.
 pub fn u8_at(s: &[u8], at: usize) -> u8
@@ -27,7 +28,7 @@ pub fn u32_at(s: &[u8], at: usize) -> u32
     requires { ⌜ at + 4 ≤ length (now s) ⌝ }
     ensures { λ r. ⌜ r ≡ be 4 (now (s .entry)) at ⌝ }
 {
-    (u16_at(s, at) as u32) * 65536 + (u16_at(s, at + 2) as u32)
+    lows::swap32(lows::low32_at(s, at))
 }
 
 // The number in eight bytes at a place.
@@ -35,7 +36,7 @@ pub fn u64_at(s: &[u8], at: usize) -> u64
     requires { ⌜ at + 8 ≤ length (now s) ⌝ }
     ensures { λ r. ⌜ r ≡ be 8 (now (s .entry)) at ⌝ }
 {
-    (u32_at(s, at) as u64) * 4294967296 + (u32_at(s, at + 4) as u64)
+    lows::swap64(lows::low64_at(s, at))
 }
 
 // The signed number, two's complement, in four bytes at a place.

@@ -1,10 +1,11 @@
 ghost use mathlib.Core.Path.{_≡_};
 ghost use Prim.Native.Nat.{_≤_};
+ghost use lib.Ieee.{binary64, ofBits};
 ghost use lib.IntN.{natAbs};
-ghost use Rattle.reading.specs.Choice.{largerOf, smallerOf, choiceOf, chosenOf, measureOf, currentOf, usableOf, refusalOf};
+ghost use Rattle.reading.specs.Conversion.{wattsOf, milliOf};
+ghost use Rattle.reading.specs.Choice.{largerOf, smallerOf, choiceOf, chosenOf, measureOf, currentOf, usableOf};
 use super::Measure;
 use super::Phases;
-use super::Reading;
 use super::Watts;
 
 fn larger(a: i64, b: i64) -> i64
@@ -107,22 +108,24 @@ fn usable(a: Watts, b: Watts, c: Watts) -> u8
     0
 }
 
-// Whether a reading can be used: 0, or 6 where a power or a current of it is refused. A missing one
-// can.
-pub fn refusal(r: Reading) -> u8
-    ensures { λ n. ⌜ n ≡ refusalOf r ⌝ }
+// Whether three powers can be used, by their bit patterns, with no double in between; and three
+// currents.
+pub fn powers_refusal(a: u64, b: u64, c: u64) -> u8
+    ensures { λ n. ⌜ n ≡ usableOf (wattsOf (ofBits binary64 a)) (wattsOf (ofBits binary64 b)) (wattsOf (ofBits binary64 c)) ⌝ }
 {
-    match r {
-        Reading::Missing => 0,
-        Reading::Power(p) => usable(
-            super::converted(p.first),
-            super::converted(p.second),
-            super::converted(p.third),
-        ),
-        Reading::Current(p) => usable(
-            super::milliamperes(p.first),
-            super::milliamperes(p.second),
-            super::milliamperes(p.third),
-        ),
-    }
+    usable(
+        super::watts_of_bits(a),
+        super::watts_of_bits(b),
+        super::watts_of_bits(c),
+    )
+}
+
+pub fn currents_refusal(a: u64, b: u64, c: u64) -> u8
+    ensures { λ n. ⌜ n ≡ usableOf (milliOf (ofBits binary64 a)) (milliOf (ofBits binary64 b)) (milliOf (ofBits binary64 c)) ⌝ }
+{
+    usable(
+        super::milli_of_bits(a),
+        super::milli_of_bits(b),
+        super::milli_of_bits(c),
+    )
 }

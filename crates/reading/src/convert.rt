@@ -44,15 +44,22 @@ pub fn converted(kw: f64) -> Watts
     watts_of_bits(octets::bits_of(kw))
 }
 
-// The whole milliamperes of an A double, any double: the same conversion, and none below 0.
-pub fn milliamperes(amperes: f64) -> Watts
-    ensures { λ r. ⌜ r ≡ milliOf amperes ⌝ }
+// The whole milliamperes of an A double, by its bit pattern: the same conversion, and none below 0.
+pub fn milli_of_bits(bits: u64) -> Watts
+    ensures { λ r. ⌜ r ≡ milliOf (ofBits binary64 bits) ⌝ }
 {
-    let Watts::Whole(w) = converted(amperes) else {
+    let Watts::Whole(w) = watts_of_bits(bits) else {
         return Watts::Refused;
     };
     if w < 0 {
         return Watts::Refused;
     }
     Watts::Whole(w)
+}
+
+// And of any double.
+pub fn milliamperes(amperes: f64) -> Watts
+    ensures { λ r. ⌜ r ≡ milliOf amperes ⌝ }
+{
+    milli_of_bits(octets::bits_of(amperes))
 }

@@ -5,9 +5,11 @@ mod convert;
 mod kilowatts;
 
 pub use choosing::current;
-pub use choosing::refusal;
+pub use choosing::currents_refusal;
+pub use choosing::powers_refusal;
 pub use choosing::regulated;
 pub use convert::converted;
+pub use convert::milli_of_bits;
 pub use convert::milliamperes;
 pub use convert::watts_of_bits;
 pub use kilowatts::kw;

@@ -1,43 +1,24 @@
--- A number of four bytes is that of the first two times 256 ^ 2 and that of the other two.
+-- The bytes are read with the first weighing least, and swapped: that is the big-endian number.
 use borrow.Author.Needs.{needs}
-use native.Mathlib.Omega.{arith}
-use Rattle.octets.proofs.ByteLaws.{be-split}
+use mathlib.Core.Path.{ap, _∙_}
+use Rattle.octets.proofs.LowLaws.{swapped-be-back}
+use Rattle.octets.specs.LowFirst.{swapped}
 use Rattle.octets.proofs.reads.u32_at.Statement.{statement}
 use Rattle.octets.proofs.reads.u32_at.Tie as tie
 
-u16-at-requires : tie.Need-u16-at-requires
-u16-at-requires c κs = search needs
+low32-at-requires : tie.Need-low32-at-requires
+low32-at-requires c κs = search needs
 
-cast-result : tie.Need-cast-result
-cast-result c = search needs
-
-mul-result : tie.Need-mul-result
-mul-result c = search needs
-
-add-u16-at : tie.Need-add-u16-at
-add-u16-at c = search needs
-
-u16-at-requires-2 : tie.Need-u16-at-requires-2
-u16-at-requires-2 c κs = search needs
-
-cast-result-2 : tie.Need-cast-result-2
-cast-result-2 c = search needs
-
-add-result : tie.Need-add-result
-add-result c = search needs
+swap32-requires : tie.Need-swap32-requires
+swap32-requires c κs = search needs
 
 returns : tie.Need-returns
-returns c = let x = c .before .before .before .args in omega (arith, be-split 2 2 (x .s .now) (x .at), c .before .u16-at .ensures, c .u16-at2 .ensures)
+returns c =
+    let start = c .before .before in
+    let x = start .before .args in
+    c .swap32 .ensures
+    ∙ ap (swapped 4) (c .before .low32-at .ensures)
+    ∙ swapped-be-back (x .s .now) (x .at) (λ i. start .shared-slice-known .given i .fits) 4
 
 pub u32-at-spec : {M : Type 1} → statement M
-u32-at-spec =
-    tie.close
-    (tie.spec
-    u16-at-requires
-    cast-result
-    mul-result
-    add-u16-at
-    u16-at-requires-2
-    cast-result-2
-    add-result
-    returns)
+u32-at-spec = tie.close (tie.spec low32-at-requires swap32-requires returns)

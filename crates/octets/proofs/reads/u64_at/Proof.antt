@@ -1,43 +1,24 @@
--- A number of eight bytes is that of the first four times 256 ^ 4 and that of the other four.
+-- The bytes are read with the first weighing least, and swapped: that is the big-endian number.
 use borrow.Author.Needs.{needs}
-use native.Mathlib.Omega.{arith}
-use Rattle.octets.proofs.ByteLaws.{be-split}
+use mathlib.Core.Path.{ap, _∙_}
+use Rattle.octets.proofs.LowLaws.{swapped-be-back}
+use Rattle.octets.specs.LowFirst.{swapped}
 use Rattle.octets.proofs.reads.u64_at.Statement.{statement}
 use Rattle.octets.proofs.reads.u64_at.Tie as tie
 
-u32-at-requires : tie.Need-u32-at-requires
-u32-at-requires c κs = search needs
+low64-at-requires : tie.Need-low64-at-requires
+low64-at-requires c κs = search needs
 
-cast-result : tie.Need-cast-result
-cast-result c = search needs
-
-mul-result : tie.Need-mul-result
-mul-result c = search needs
-
-add-u32-at : tie.Need-add-u32-at
-add-u32-at c = search needs
-
-u32-at-requires-2 : tie.Need-u32-at-requires-2
-u32-at-requires-2 c κs = search needs
-
-cast-result-2 : tie.Need-cast-result-2
-cast-result-2 c = search needs
-
-add-result : tie.Need-add-result
-add-result c = search needs
+swap64-requires : tie.Need-swap64-requires
+swap64-requires c κs = search needs
 
 returns : tie.Need-returns
-returns c = let x = c .before .before .before .args in omega (arith, be-split 4 4 (x .s .now) (x .at), c .before .u32-at .ensures, c .u32-at2 .ensures)
+returns c =
+    let start = c .before .before in
+    let x = start .before .args in
+    c .swap64 .ensures
+    ∙ ap (swapped 8) (c .before .low64-at .ensures)
+    ∙ swapped-be-back (x .s .now) (x .at) (λ i. start .shared-slice-known .given i .fits) 8
 
 pub u64-at-spec : {M : Type 1} → statement M
-u64-at-spec =
-    tie.close
-    (tie.spec
-    u32-at-requires
-    cast-result
-    mul-result
-    add-u32-at
-    u32-at-requires-2
-    cast-result-2
-    add-result
-    returns)
+u64-at-spec = tie.close (tie.spec low64-at-requires swap64-requires returns)

@@ -1,43 +1,22 @@
--- What the conversion refuses is refused; a whole number is tested as the machine reads it back, which is the number itself.
+-- A double is what its bit pattern stands for, the NaN too.
 use borrow.Author.Needs.{needs}
-use mathlib.Core.Path.{_∙_, sym, ap}
-use mir.Syntax.{w32}
-use Rattle.whole.proofs.SignLaws.{read}
-use Rattle.reading.specs.Conversion.{notBelow, milliOf}
-use Rattle.reading.proofs.ChoiceLaws.{below-refused, not-below}
+use mathlib.Core.Path.{ap, _∙_}
+use lib.Ieee.{binary64, ofBits}
+use lib.Ieee.Bits.{ofBits-toBits}
+use Rattle.reading.specs.Conversion.{milliOf}
 use Rattle.reading.proofs.convert.milliamperes.Statement.{statement}
 use Rattle.reading.proofs.convert.milliamperes.Tie as tie
 
-converted-requires : tie.Need-converted-requires
-converted-requires c κs = search needs
+bits-of-requires : tie.Need-bits-of-requires
+bits-of-requires c κs = search needs
 
-enum-known-w : tie.Need-enum-known-w
-enum-known-w c = search needs
-
-enum-told : tie.Need-enum-told
-enum-told c = search needs
+milli-of-bits-requires : tie.Need-milli-of-bits-requires
+milli-of-bits-requires c κs = search needs
 
 returns : tie.Need-returns
-unfolding milliOf
-returns c = let x = c .before .before .converted in ap notBelow (sym (c .enum-told .given .1) ∙ x .ensures)
-
-returns-2 : tie.Need-returns-2
-unfolding milliOf
-returns-2 c =
-    let k = c .before in
-    let x = k .before .before .before .converted in
-    below-refused (k .before .w .given .0 .0) (record { sfits = k .known-told .given .0 .1 }) (c .if1 .taken)
-    ∙ ap notBelow (sym (k .before .w .given .1) ∙ x .ensures)
-
-returns-3 : tie.Need-returns-3
-unfolding milliOf
-returns-3 c =
-    let k = c .before in
-    let x = k .before .before .before .converted in
-    let w = k .before .w .given .0 .0 in
-    let f = k .known-told .given .0 .1 in
-    not-below w (record { sfits = f }) (c .if1 .left) (read w32 w f) ∙ ap notBelow (sym (k .before .w .given .1) ∙ x .ensures)
+returns c =
+    let s = c .before .before in
+    c .milli-of-bits .ensures ∙ ap milliOf (ap (ofBits binary64) (c .before .bits-of .ensures) ∙ ofBits-toBits binary64 (s .args .amperes) (search needs))
 
 pub milliamperes-spec : {M : Type 1} → statement M
-milliamperes-spec =
-    tie.close (tie.spec converted-requires enum-known-w enum-told returns returns-2 returns-3)
+milliamperes-spec = tie.close (tie.spec bits-of-requires milli-of-bits-requires returns)
