@@ -1,16 +1,27 @@
--- Rules 3 and 5 over the units: by watts all have one need and one band, so that one test stands for all. Assumes nothing.
+-- Rules 3 and 5 over the units: one unit that fails decides; by watts all have one need and one band, so that one test stands for all.
+-- Assumes nothing.
 use mathlib.Core.Path.{_≡_, refl, sym, ap, ap₂, _∙_}
 use mathlib.Core.Bool.{Bool, true, false, cond, _&&_}
-use Prim.Native.Nat.{ℕ, zero, suc, _≤_}
+use Prim.Native.Nat.{ℕ, zero, suc, _≤_, _<_}
 use native.Mathlib.Omega.{arith}
 use lib.IntN.{ℤ, _+ℤ_}
 use lib.ListN.{getD}
 use Rattle.whole.specs.Over.{allOf}
+use Rattle.whole.proofs.Choice.{passed-failed}
+use Rattle.whole.proofs.OverLaws.{all-at}
 use Rattle.rules.specs.declared.Wanted.{Wanted}
 use Rattle.rules.specs.Rules.{inWatts, bandInWatts, noCall, inBand}
 use Rattle.rules.specs.Posts.{needBy}
 use Rattle.members.specs.Ranges.{Fleet}
 use Rattle.members.specs.Posts.{ownBy, noneCallsBy, allInBandBy}
+
+-- what fails at i fails for all below n
+pub one-fails : (n : ℕ) (ok : ℕ → Bool) (i : ℕ) → i < n → ok i ≡ false → allOf n ok ≡ false
+one-fails n ok i h e = go (allOf n ok) refl
+  where
+    go : (t : Bool) → allOf n ok ≡ t → t ≡ false
+    go true p = absurd (passed-failed (all-at n ok p i h) e)
+    go false p = refl
 
 and-self : (b : Bool) → (b && b) ≡ b
 and-self true = refl
@@ -31,20 +42,20 @@ pub watts-band : (current : Bool) → current ≡ false → (link band : ℕ) �
 unfolding bandInWatts
 watts-band current e link band = cc
 
-module _ (w : Wanted) (f : Fleet) (n : ℕ) (watts : w .current ≡ false) (some : 1 ≤ n) where
-  same-need : (i : ℕ) → ownBy w f i ≡ needBy w 0
-  unfolding ownBy needBy
-  same-need i =
-      ap (λ (z : ℤ). cond (w .other) (z +ℤ w .sum) z)
-      (watts-need (w .current) watts (getD (f .link) i 0) (w .plain) ∙ sym (watts-need (w .current) watts 0 (w .plain)))
+pub same-need : (w : Wanted) (f : Fleet) → w .current ≡ false → (i : ℕ) → ownBy w f i ≡ needBy w 0
+unfolding ownBy needBy
+same-need w f watts i =
+    ap (λ (z : ℤ). cond (w .other) (z +ℤ w .sum) z)
+    (watts-need (w .current) watts (getD (f .link) i 0) (w .plain) ∙ sym (watts-need (w .current) watts 0 (w .plain)))
 
+module _ (w : Wanted) (f : Fleet) (n : ℕ) (watts : w .current ≡ false) (some : 1 ≤ n) where
   pub none-calls-is : (charging : Bool) → noCall charging (needBy w 0) ≡ noneCallsBy charging w f n
   unfolding noneCallsBy
   none-calls-is charging =
-      sym (ap (λ (g : ℕ → ℤ). allOf n (λ (i : ℕ). noCall charging (g i))) (λ j i. same-need i j) ∙ all-alike n (noCall charging (needBy w 0)) some)
+      sym (ap (λ (g : ℕ → ℤ). allOf n (λ (i : ℕ). noCall charging (g i))) (λ j i. same-need w f watts i j) ∙ all-alike n (noCall charging (needBy w 0)) some)
 
   pub in-band-is : (band : ℕ) → inBand band (needBy w 0) ≡ allInBandBy band w f n
   unfolding allInBandBy
   in-band-is band =
-      sym (ap₂ (λ (b : ℕ → ℕ) (g : ℕ → ℤ). allOf n (λ (i : ℕ). inBand (b i) (g i))) (λ j i. watts-band (w .current) watts (getD (f .link) i 0) band j) (λ j i. same-need i j)
+      sym (ap₂ (λ (b : ℕ → ℕ) (g : ℕ → ℤ). allOf n (λ (i : ℕ). inBand (b i) (g i))) (λ j i. watts-band (w .current) watts (getD (f .link) i 0) band j) (λ j i. same-need w f watts i j)
       ∙ all-alike n (inBand band (needBy w 0)) some)

@@ -5,3 +5,4 @@ pub mod DifferLaws
 pub mod PlaceLaws
 pub mod ColumnLaws
 pub mod CallLaws
+pub mod ShareLaws

@@ -9,14 +9,15 @@ fn no_unit_calls(charging: bool, w: Wanted, units: &[[u64; 18]], stored: &[u64])
     requires { ⌜ Linked w (fleetBy (now units) (now stored)) ⌝ }
     ensures { λ r. ⌜ r ≡ noneCallsBy charging w (fleetBy (now (units .entry)) (now (stored .entry))) (length (now (units .entry))) ⌝ }
 {
-    let mut none = true;
     let mut i = 0;
     while i < units.len() {
         let need = rules::own_need(w, rows::link_of(units, i));
-        none = none & rules::no_call(charging, need);
+        if !rules::no_call(charging, need) {
+            return false;
+        }
         i += 1;
     }
-    none
+    true
 }
 
 // P3: no unit's own need calls. By watts all have one need.
@@ -36,15 +37,16 @@ fn units_in_band(band: u32, w: Wanted, units: &[[u64; 18]], stored: &[u64]) -> b
     requires { ⌜ Linked w (fleetBy (now units) (now stored)) ⌝ }
     ensures { λ r. ⌜ r ≡ allInBandBy band w (fleetBy (now (units .entry)) (now (stored .entry))) (length (now (units .entry))) ⌝ }
 {
-    let mut all = true;
     let mut i = 0;
     while i < units.len() {
         let link = rows::link_of(units, i);
         let own = rules::own_band(w.current, link, band);
-        all = all & rules::in_band(own, rules::own_need(w, link));
+        if !rules::in_band(own, rules::own_need(w, link)) {
+            return false;
+        }
         i += 1;
     }
-    all
+    true
 }
 
 // P5: every unit is within its own band. By watts all have one band and one need.

@@ -1,4 +1,5 @@
 ghost use mathlib.Core.Path.{_≡_};
+ghost use mathlib.Core.Bool.{false};
 ghost use Prim.Native.Nat.{ℕ};
 ghost use lib.IntN.{ℤ, pos};
 ghost use lib.ListN.{length};
@@ -54,8 +55,8 @@ fn next_request(
     rules::request_after(charging, rows::rating_of(units, i), request, part)
 }
 
-// P6: each unit's request, by its own need. Whether one changed.
-pub fn share_all(
+// P6 where each unit has a need of its own. Whether a request changed.
+fn share_linked(
     charging: bool,
     factor: u16,
     w: Wanted,
@@ -79,4 +80,52 @@ pub fn share_all(
         i += 1;
     }
     changed
+}
+
+// P6 by watts, where all have one.
+fn share_alike(
+    charging: bool,
+    factor: u16,
+    w: Wanted,
+    weights: u64,
+    units: &[[u64; 18]],
+    stored: &[u64],
+    requests: &mut [i32],
+) -> bool
+    requires { ⌜ w .current ≡ false ⌝ }
+    requires { ⌜ Sharing factor w weights (fleetBy (now units) (now stored)) (length (now requests)) ⌝ }
+    ensures { λ _. ⌜ now (requests .exit) ≡ each (sharedBy charging factor w weights (fleetBy (now (units .entry)) (now (stored .entry)))) (now (requests .entry)) ⌝ }
+    ensures { λ r. ⌜ r ≡ changedOf (now (requests .entry)) (now (requests .exit)) ⌝ }
+{
+    let need = rules::own_need(w, 0);
+    let mut changed = false;
+    let mut i = 0;
+    while i < requests.len() {
+        let old = requests[i];
+        let next = next_request(charging, factor, need, weights, units, i, stored[i], old);
+        changed = changed | (old != next);
+        requests[i] = next;
+        i += 1;
+    }
+    changed
+}
+
+// P6: each unit's request, by its own need. Whether one changed.
+pub fn share_all(
+    charging: bool,
+    factor: u16,
+    w: Wanted,
+    weights: u64,
+    units: &[[u64; 18]],
+    stored: &[u64],
+    requests: &mut [i32],
+) -> bool
+    requires { ⌜ Sharing factor w weights (fleetBy (now units) (now stored)) (length (now requests)) ⌝ }
+    ensures { λ _. ⌜ now (requests .exit) ≡ each (sharedBy charging factor w weights (fleetBy (now (units .entry)) (now (stored .entry)))) (now (requests .entry)) ⌝ }
+    ensures { λ r. ⌜ r ≡ changedOf (now (requests .entry)) (now (requests .exit)) ⌝ }
+{
+    if w.current {
+        return share_linked(charging, factor, w, weights, units, stored, requests);
+    }
+    share_alike(charging, factor, w, weights, units, stored, requests)
 }

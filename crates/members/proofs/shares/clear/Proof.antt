@@ -1,16 +1,11 @@
 -- The requests passed are 0 and the others as they were; the flag says whether one of those passed was not 0.
-use Prim.Native.Nat.{ℕ, _-_, _<_}
-use mathlib.Core.Bool.{not}
-use mathlib.Core.Path.{_≡_, refl, ap, _∙_}
+use Prim.Native.Nat.{ℕ, _-_}
+use mathlib.Core.Path.{_≡_, refl}
 use native.Mathlib.Omega.{arith}
-use lib.Dec.{eqb, lit<}
+use lib.Dec.{lit<}
 use lib.IntN.{ℤ, pos}
-use lib.ListN.{length, getD}
-use mir.Syntax.{w32}
-use mir.Val.{ofZ}
-use Rattle.members.specs.Sums.{differ}
-use Rattle.members.proofs.DifferLaws.{bits-differ}
-use Rattle.members.proofs.PlaceLaws.{Reached, reached-none, reached-length, reached-next, reached-more, reached-requests, reached-flag}
+use lib.ListN.{length}
+use Rattle.members.proofs.PlaceLaws.{Reached, reached-none, reached-length, reached-step, reached-requests, reached-flag}
 use Rattle.members.proofs.shares.clear.Statement.{statement}
 use Rattle.members.proofs.shares.clear.Tie as tie
 
@@ -51,11 +46,7 @@ loop-again : tie.Need-loop-again Inv-loop μ-loop
 loop-again c =
     let l = c .before .before in
     let rs = l .before .args .requests .now in
-    let old = getD (l .loop .requests) (l .loop .i) (pos 0) in
-    let h : l .loop .i < length rs = omega (arith, long (c .before)) in
-    let e = reached-next none rs (l .loop .requests) (l .loop .changed) (l .loop .i) (l .loop .inv) h in
-    reached-more none rs (l .loop .requests) (l .loop .changed) (l .loop .i) (l .loop .inv) h (pos 0) (not (eqb (ofZ w32 old) 0)) refl
-    (bits-differ w32 old (pos 0) (c .changed .given) (lit< tt) ∙ ap (λ (z : ℤ). differ z (pos 0)) e)
+    reached-step none rs (l .loop .requests) (l .loop .changed) (l .loop .i) (l .loop .inv) (omega (arith, long (c .before))) (pos 0) (c .changed .given) (lit< tt) refl
 
 same-length : tie.Need-same-length Inv-loop μ-loop
 same-length c = let l = c .before in reached-length none (l .before .args .requests .now) (l .loop .requests) (l .loop .changed) (l .loop .i) (l .loop .inv)

@@ -1,27 +1,20 @@
 -- The requests passed are what rule 6 makes of them and the others as they were; the flag says whether one of those passed changed.
-use Prim.Native.Nat.{ℕ, _-_, _≤_, _<_}
-use mathlib.Core.Bool.{not}
-use mathlib.Core.List.{[]}
-use mathlib.Core.Path.{_≡_, refl, sym, ap, ap₂, _∙_, subst⁻¹}
+use Prim.Native.Nat.{ℕ, _-_, _<_}
+use mathlib.Core.Path.{_≡_, sym, _∙_}
 use native.Mathlib.Nat.{le-trans, le-of-eq}
 use native.Mathlib.Omega.{arith}
-use lib.Dec.{eqb}
-use lib.IntN.{ℤ, pos, natAbs}
+use lib.IntN.{ℤ, pos}
 use lib.ListN.{length, getD}
 use mir.Syntax.{w32, w64}
 use mir.Val.{toZ, ofZ}
 use Rattle.whole.proofs.SignLaws.{read}
-use Rattle.unit.specs.declared.Unit.{Unit}
-use Rattle.rows.specs.Rows.{unitBy}
-use Rattle.rows.proofs.RowLaws.{column-count}
-use Rattle.members.specs.Sums.{differ}
-use Rattle.members.specs.Posts.{Sharable, fleetBy, nextBy, sharedBy}
-use Rattle.members.proofs.ColumnLaws.{column-is, link-at, own-at, next-at}
 use Rattle.rules.proofs.RuleLaws.{back64}
-use Rattle.members.proofs.DifferLaws.{bits-differ}
-use Rattle.members.proofs.PlaceLaws.{Reached, reached-none, reached-length, reached-next, reached-more, reached-requests, reached-flag}
-use Rattle.members.proofs.shares.share_all.Statement.{statement}
-use Rattle.members.proofs.shares.share_all.Tie as tie
+use Rattle.members.specs.Posts.{fleetBy, sharedBy}
+use Rattle.members.proofs.ColumnLaws.{link-at, own-at}
+use Rattle.members.proofs.PlaceLaws.{Reached, reached-none, reached-length, reached-step, reached-requests, reached-flag}
+use Rattle.members.proofs.ShareLaws.{row-there, may-share, next-is}
+use Rattle.members.proofs.shares.share_linked.Statement.{statement}
+use Rattle.members.proofs.shares.share_linked.Tie as tie
 
 abbrev Inv-loop : tie.InvT-loop
 Inv-loop charging factor w weights units stored requests₀ changed₀ i₀ requests changed i =
@@ -37,28 +30,13 @@ at s = let a = s .args in sharedBy (a .charging) (a .factor) (a .w) (a .weights)
 long : (c : tie.At-loop Inv-loop μ-loop) → length (c .loop .requests) ≡ length (c .before .before .args .requests .now)
 long c = reached-length (at (c .before .before)) (c .before .before .args .requests .now) (c .loop .requests) (c .loop .changed) (c .loop .i) (c .loop .inv)
 
+-- the unit at hand has its row
 here : (c : tie.In-loop Inv-loop μ-loop) → c .before .loop .i < length (c .before .before .before .args .units .now)
 here c =
-    let s = c .before .before .before in
-    omega (arith, long (c .before), column-count (λ (u : Unit). u .rating) (s .args .units .now), s .pre .lengths .rating)
-
--- a unit's need that was worked out is its own
-need-read : (c : tie.After-own-need Inv-loop μ-loop) → back64 (c .own-need .result) ≡ c .own-need .result
-need-read c = read w64 (c .own-need .result) (c .own-need .ok)
-
--- what one unit may count on
-sharable : (c : tie.After-own-need Inv-loop μ-loop) → let l = c .before .before .before .before in let a = l .before .before .args in Sharable (a .factor) (back64 (c .own-need .result)) (a .weights) (unitBy (getD (a .units .now) (l .loop .i) []))
-unfolding unitBy
-sharable c =
-    let l = c .before .before .before .before in
-    let i = l .loop .i in
-    let s = l .before .before in record {
-      need-small = subst⁻¹ (λ (z : ℤ). natAbs z ≤ 400000000000) (need-read c) (c .own-need .ensures .1);
-      factor-small = s .pre .factor-small;
-      weights-small = s .pre .weights-small;
-      rating-small = le-trans (le-of-eq (sym (column-is (λ (u : Unit). u .rating) refl (s .args .units .now) i))) (s .pre .rating-small i);
-      weight-small = le-trans (le-of-eq (sym (column-is (λ (u : Unit). u .weight) refl (s .args .units .now) i))) (s .pre .weight-small i);
-    }
+    let l = c .before in
+    let s = l .before .before in
+    let a = s .args in
+    row-there (a .factor) (a .w) (a .weights) (a .units .now) (a .stored .now) (length (a .requests .now)) (s .pre) (l .loop .i) (omega (arith, long l))
 
 loop-holds : tie.Need-loop-holds Inv-loop μ-loop
 loop-holds c = reached-none (at (c .before)) (c .before .args .requests .now)
@@ -86,7 +64,16 @@ shared-slice-read-next-request : tie.Need-shared-slice-read-next-request Inv-loo
 shared-slice-read-next-request c = let l = c .before .before .before .before .before in omega (arith, long l, l .before .before .pre .lengths .stored)
 
 next-request-requires : tie.Need-next-request-requires Inv-loop μ-loop
-next-request-requires c κs = (here (c .before .before .before .before), sharable (c .before))
+next-request-requires c κs =
+    let n = c .before in
+    let t = n .before .before .before in
+    let l = t .before in
+    let s = l .before .before in
+    let a = s .args in (
+      here t,
+      may-share (a .factor) (a .w) (a .weights) (a .units .now) (a .stored .now) (length (a .requests .now)) (s .pre) (l .loop .i)
+          (n .own-need .result) (n .own-need .ok) (n .own-need .ensures .1),
+    )
 
 mul-next : tie.Need-mul-next Inv-loop μ-loop
 mul-next c = omega (arith, long (c .before .before .before .before .before .before))
@@ -108,21 +95,12 @@ loop-again c =
     let l = o .before .before in
     let s = l .before .before in
     let a = s .args in
-    let rs = a .requests .now in
-    let f = at s in
     let i = l .loop .i in
-    let old = getD (l .loop .requests) i (pos 0) in
-    let next = c .next-request .result in
-    let h : i < length rs = omega (arith, long l) in
-    let e : old ≡ getD rs i (pos 0) = reached-next f rs (l .loop .requests) (l .loop .changed) i (l .loop .inv) h in
-    let own = need-read n ∙ n .own-need .ensures .0 ∙ own-at (a .w) (a .units .now) (a .stored .now) i (k .link-of .result) (k .link-of .ensures) in
-    let v : toZ w32 (ofZ w32 next) ≡ f i (getD rs i (pos 0)) =
-    read w32 next (c .next-request .ok) ∙ c .next-request .ensures
-    ∙ ap₂ (λ (z r : ℤ). nextBy (a .charging) (a .factor) z (a .weights) (unitBy (getD (a .units .now) i [])) (getD (a .stored .now) i 0) r) own (read w32 old (o .old .given) ∙ e)
-    ∙ next-at (a .charging) (a .factor) (a .w) (a .weights) (a .units .now) (a .stored .now) i (getD rs i (pos 0)) in
-    reached-more f rs (l .loop .requests) (l .loop .changed) i (l .loop .inv) h (toZ w32 (ofZ w32 next)) (not (eqb (ofZ w32 old) (ofZ w32 next))) v
-    (bits-differ w32 old next (o .old .given) (c .next-request .ok)
-    ∙ ap (λ (z : ℤ). differ z next) e ∙ ap (differ (getD rs i (pos 0))) (sym (read w32 next (c .next-request .ok))))
+    let own = read w64 (n .own-need .result) (n .own-need .ok) ∙ n .own-need .ensures .0
+    ∙ own-at (a .w) (a .units .now) (a .stored .now) i (k .link-of .result) (k .link-of .ensures) in
+    let r = toZ w32 (ofZ w32 (getD (l .loop .requests) i (pos 0))) in
+    reached-step (at s) (a .requests .now) (l .loop .requests) (l .loop .changed) i (l .loop .inv) (omega (arith, long l)) (c .next-request .result) (o .old .given) (c .next-request .ok)
+    (next-is (a .charging) (a .factor) (a .w) (a .weights) (a .units .now) (a .stored .now) (back64 (n .own-need .result)) i r (c .next-request .result) own (c .next-request .ensures))
 
 same-length : tie.Need-same-length Inv-loop μ-loop
 same-length c = long (c .before)
@@ -137,8 +115,8 @@ returns c =
       reached-flag (at s) rs (l .loop .requests) (l .loop .changed) (l .loop .i) (l .loop .inv) e,
     )
 
-pub share-all-spec : {M : Type 1} → statement M
-share-all-spec =
+pub share-linked-spec : {M : Type 1} → statement M
+share-linked-spec =
     tie.close
     (tie.spec
     Inv-loop
