@@ -1,5 +1,5 @@
 #!/bin/bash
-# Builds and runs the bench: the archive's check and run beside ones in tight ordinary Rust, in one process of x86-64
+# Builds and runs the bench: the archive's check and run beside ones in quick ordinary Rust, in one process of x86-64
 # code. The archive must be there already. Ends with 0, with 1 if an answer is wrong or the build fails, and with 2 if
 # something that it needs cannot be had. The times decide nothing.
 set -eu
@@ -53,7 +53,8 @@ rust_toolchain() {
 heading() {
     if [ -n "$YB_EMULATOR" ]; then
         echo "EMULATED: this machine is $(uname -m), and all that is timed ran as x86-64 code under the kit's emulator."
-        echo 'The times say little; the ratio of the two and the growth of each say something.'
+        echo 'The times say little; their ratios and their growth say something. A ratio is up to a tenth more or less'
+        echo 'by where the linker puts the code.'
     fi
     echo "$("$rustc" --version); $(nproc) cores, load $(cut -d ' ' -f 1-3 /proc/loadavg)"
 }
@@ -75,8 +76,8 @@ RUSTC=$rustc CARGO_TARGET_DIR=$PWD/build/bench "$cargo" build --quiet --release 
 
 mkdir -p build/x86_64
 # shellcheck disable=SC2086 # YB_STATIC may be no word
-"$YB_CC" -O2 -Wall -Wextra -Werror -std=c11 $YB_STATIC -Ic -o build/x86_64/bench c/bench/bench.c "$YB_ARCHIVE" \
-    "$library" -lpthread -ldl
+"$YB_CC" -O2 -Wall -Wextra -Werror -std=c11 $YB_STATIC -Ic -o build/x86_64/bench c/bench/bench.c c/bench/bench_*.c \
+    "$YB_ARCHIVE" "$library" -lpthread -ldl
 
 heading
 # shellcheck disable=SC2086 # YB_EMULATOR may be no word
