@@ -40,7 +40,8 @@ pub fn fill(
     rows: &mut [[u64; 18]],
 )
     requires { ⌜ SameLengths (fleetLinked (now rated) (now reserve) (now stored) (now rating) (now weight) (now links)) (length (now rows)) ⌝ }
-    ensures { λ _. ⌜ fleetBy (now (rows .exit)) (now (stored .entry)) ≡ fleetLinked (now (rated .entry)) (now (reserve .entry)) (now (stored .entry)) (now (rating .entry)) (now (weight .entry)) (now (links .entry)) ⌝ }
+    ensures { λ _. ⌜ fleetBy (now (rows .exit)) (now (stored .entry)) ≡
+        fleetLinked (now (rated .entry)) (now (reserve .entry)) (now (stored .entry)) (now (rating .entry)) (now (weight .entry)) (now (links .entry)) ⌝ }
 {
     let mut i = 0;
     while i < rows.len() {

@@ -21,7 +21,8 @@ ghost use Rattle.rescue.specs.Answers.{rescueOf, outputRoom, changesTold, rescu
 ghost use Rattle.partner.specs.declared.Verdict.{Verdict};
 ghost use Rattle.ask.specs.declared.Connection.{Connection};
 ghost use Rattle.ask.specs.Says.{unitsSaid, invertersSaid, secondsSaid, fileStudy, fileStudyLeaves, fileStudyCall};
-ghost use Rattle.yesbrulka.specs.Calls.{held, left, fleetLent, fleetJoined, connectionTold, partnerTold, settingsOf, PassTold, trialOf, StudyTold, unitOf, StepTold, inverterOf, litLent, LitTold, headSaid, unitSaid};
+ghost use Rattle.yesbrulka.specs.Calls.{held, left, settingsOf, fleetLent, fleetJoined, PassTold, trialOf, StudyTold, unitOf, StepTold, inverterOf, litLent, LitTold};
+ghost use Rattle.yesbrulka.specs.Calls.{headSaid, unitSaid, connectionTold, partnerTold};
 use ask::ConnectionAnswer;
 use ask::HeadAnswer;
 use ask::UnitAnswer;
