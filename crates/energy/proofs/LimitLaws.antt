@@ -6,7 +6,7 @@ use Prim.Native.Nat.{ℕ, _+_, _-_, _*_, _/_, _≤_, _<_, _^_, min}
 use native.Mathlib.Nat.{le-refl, le-antisymm, mul-le-mul, zero-mul, eq-zero-or-pos}
 use native.Mathlib.Omega.{arith}
 use lib.Dec.{leb, eqb}
-use lib.IntN.{ℤ, natAbs}
+use lib.IntN.{ℤ, pos, natAbs}
 use lib.Signed.{mag}
 use mir.Syntax.{w32}
 use mir.Val.{toZ, ofZ}
@@ -16,6 +16,7 @@ use Rattle.whole.proofs.LargestLaws.{largest-le, largest-tops, largest-passes, 
 use Rattle.whole.proofs.CircleLaws.{watts-most}
 use Rattle.whole.proofs.SignLaws.{read}
 use Rattle.whole.specs.Circle.{wattsIn, varsIn}
+use Rattle.whole.specs.Largest.{legOf}
 use Rattle.whole.specs.Signed.{negative}
 use Rattle.unit.proofs.RangeLaws.{Bounds}
 use Rattle.energy.proofs.EnergyLaws.{removed-test, added-test, added-none, drawn-none, drawable-most}
@@ -46,6 +47,24 @@ module _ (u : Unit) (request : ℤ) where
   pub held-most : (heldSize u request ≤ natAbs request) × (heldSize u request ≤ u .kva)
   unfolding heldSize
   held-most = watts-most (u .kva) (u .priority) (limitedVars u) (natAbs request)
+
+  -- by the most that any is held at
+  pub held-by-most : min (natAbs request) (heldSize u (pos (u .kva))) ≡ heldSize u request
+  unfolding heldSize wattsIn
+  held-by-most = go (eqb (u .priority) 1)
+    where
+      side : ℕ
+      side = legOf (u .kva) (limitedVars u)
+
+      go : (b : Bool) → min (natAbs request) (cond b (min (min (u .kva) (u .kva)) side) (min (u .kva) (u .kva)))
+          ≡ cond b (min (min (natAbs request) (u .kva)) side) (min (natAbs request) (u .kva))
+      go true = omega arith
+      go false = omega arith
+
+-- the most, from what the code has
+pub most-is : (u : Unit) (v n : ℕ) → v ≡ limitedVars u → n ≡ wattsIn (u .kva) (u .priority) v (u .kva) → n ≡ heldSize u (pos (u .kva))
+unfolding heldSize
+most-is u v n ev en = en ∙ ap (λ (y : ℕ). wattsIn (u .kva) (u .priority) y (u .kva)) ev
 
 -- ---- the vars, from what the code has
 pub vars-are : (u : Unit) (watts : ℤ) → mag (u .«var_request») < 2 ^ 31 → mag watts < 2 ^ 31 → (below : Bool) (v side : ℕ) (vars : ℤ)

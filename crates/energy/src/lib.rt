@@ -9,4 +9,5 @@ pub use energy::deliver;
 pub use energy::removed;
 pub use energy::take_in;
 pub use limits::held;
+pub use limits::most;
 pub use limits::vars;

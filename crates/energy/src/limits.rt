@@ -1,6 +1,6 @@
 ghost use mathlib.Core.Path.{_≡_};
 ghost use Prim.Native.Nat.{_≤_};
-ghost use lib.IntN.{natAbs};
+ghost use lib.IntN.{pos, natAbs};
 ghost use Rattle.energy.specs.Limits.{limitedVars, heldSize, varsOf};
 use unit::Unit;
 
@@ -21,6 +21,13 @@ pub fn held(u: Unit, request: i32) -> u32
     ensures { λ r. ⌜ r ≡ heldSize u request ⌝ }
 {
     whole::watts_in(u.kva, u.priority, limited(u), whole::size32(request))
+}
+
+// The most that a request is held at: one of S watts.
+pub fn most(u: Unit) -> u32
+    ensures { λ r. ⌜ r ≡ heldSize u (pos (u .kva)) ⌝ }
+{
+    whole::watts_in(u.kva, u.priority, limited(u), u.kva)
 }
 
 // The vars beside the watts: the request's sign, and the smaller of its size and the circle's leg.

@@ -25,7 +25,7 @@ fn measured(r: Reading, phase: u8) -> Measure
 }
 
 // The requests after a reading: one pass, and none if the reading is missing.
-fn ask(f: Frame, rows: &[[u64; 18]], r: Reading, stored: &[u64], requests: &mut [i32])
+fn ask(f: Frame, rows: &[[u64; 19]], r: Reading, stored: &[u64], requests: &mut [i32])
     requires { ⌜ Ready f (now rows) ⌝ }
     requires { ⌜ length (now stored) ≡ count (siteIn f (now rows)) ⌝ }
     requires { ⌜ length (now requests) ≡ count (siteIn f (now rows)) ⌝ }
@@ -44,7 +44,7 @@ fn ask(f: Frame, rows: &[[u64; 18]], r: Reading, stored: &[u64], requests: &mut 
 // One step of every unit, and their records.
 fn give_all(
     f: Frame,
-    rows: &[[u64; 18]],
+    rows: &[[u64; 19]],
     m: Moment,
     requests: &[i32],
     stored: &mut [u64],
@@ -80,7 +80,7 @@ fn give_all(
 // One step of a site: what stands afterwards, and the step's records.
 pub fn step(
     f: Frame,
-    rows: &[[u64; 18]],
+    rows: &[[u64; 19]],
     m: Moment,
     stored: &mut [u64],
     requests: &mut [i32],

@@ -16,7 +16,7 @@ use lead::Lead;
 use site::Head;
 
 // What no step changes, worked out once: the sums over the fleet, beside what the file says.
-pub fn framed(head: Head, units: &[[u64; 18]]) -> Frame
+pub fn framed(head: Head, units: &[[u64; 19]]) -> Frame
     requires { ⌜ Sited (siteBy head (now units)) ⌝ }
     requires { ⌜ Rested (now units) ⌝ }
     ensures { λ r. ⌜ r .head ≡ head ⌝ }
@@ -29,7 +29,7 @@ pub fn framed(head: Head, units: &[[u64; 18]]) -> Frame
 }
 
 // Each unit's own var request.
-fn own_vars(units: &[[u64; 18]], vars: &mut [i32])
+fn own_vars(units: &[[u64; 19]], vars: &mut [i32])
     requires { ⌜ length (now vars) ≡ length (now units) ⌝ }
     ensures { λ _. ⌜ now (vars .exit) ≡ map (λ u. u .«var_request») (unitsBy (now (units .entry))) ⌝ }
 {
@@ -44,7 +44,7 @@ fn own_vars(units: &[[u64; 18]], vars: &mut [i32])
 
 // What stands at first: each unit holds what its row says, is asked nothing, and its own var request
 // counts as last requested.
-pub fn start(units: &[[u64; 18]], stored: &mut [u64], requests: &mut [i32], vars: &mut [i32])
+pub fn start(units: &[[u64; 19]], stored: &mut [u64], requests: &mut [i32], vars: &mut [i32])
     requires { ⌜ length (now stored) ≡ length (now units) ⌝ }
     requires { ⌜ length (now requests) ≡ length (now units) ⌝ }
     requires { ⌜ length (now vars) ≡ length (now units) ⌝ }
@@ -56,9 +56,9 @@ pub fn start(units: &[[u64; 18]], stored: &mut [u64], requests: &mut [i32], vars
 }
 
 // One step of the unit of row i, which holds so much and is asked a request, by what leads it and the
-// vars last requested of it. One that nothing leads and that is asked nothing rests.
+// vars last requested of it. That of one that nothing leads goes by what its row keeps.
 pub fn give(
-    units: &[[u64; 18]],
+    units: &[[u64; 19]],
     i: usize,
     seconds: u32,
     held: u64,
@@ -74,18 +74,12 @@ pub fn give(
     ensures { λ r. ⌜ r .outcome ≡ ledStep l (holding (unitBy (getD (now (units .entry)) i [])) held) last seconds request ⌝ }
     ensures { λ r. ⌜ r .vars ≡ varsKept l (holding (unitBy (getD (now (units .entry)) i [])) held) last seconds request ⌝ }
 {
-    if !(l.leads | l.after | l.fresh) & (request == 0) {
+    if !(l.leads | l.after | l.fresh) {
         return Led {
-            outcome: storage::rest(
-                rows::draw_of(units, i),
-                rows::vars_of(units, i),
-                held,
-                seconds,
-            ),
+            outcome: storage::step_of(units, i, held, seconds, request),
             vars: last,
         };
     }
-    let mut u = rows::unit_of(units, i);
-    u.stored = held;
+    let u = rows::unit_holding(units, i, held);
     guided::give(u, seconds, request, l, last)
 }

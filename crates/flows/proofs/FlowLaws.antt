@@ -66,7 +66,7 @@ module _ (u : Unit) (s p : ℕ) where
   charged-some x e n = ap In e ∙ charged-is (λ z. n (ap (addedBy u s) e ∙ z))
 
 module _ (u : Unit) (s : ℕ) (request : ℤ) where
-  flow-in : negative request ≡ true → charged u s (heldSize u request) ≡ flowOf u s request
+  pub flow-in : negative request ≡ true → charged u s (heldSize u request) ≡ flowOf u s request
   unfolding flowOf
   flow-in e = simp e
 

@@ -27,7 +27,7 @@ use stretch::Way;
 // The steps of whole fields, over the site that lies in bytes; its units are in the rows.
 fn over(
     site: &[u8],
-    rows: &[[u64; 18]],
+    rows: &[[u64; 19]],
     bytes: &[u8],
     c: Course,
     stored: &mut [u64],
@@ -81,7 +81,7 @@ fn stand(
     s: &[u8],
     m: Mark,
     n: usize,
-    rows: &[[u64; 18]],
+    rows: &[[u64; 19]],
     stored: &mut [u64],
     requests: &mut [i32],
     vars: &mut [i32],
@@ -150,7 +150,7 @@ fn run_with(
     s: &mut [u8],
     c: Course,
     bytes: &[u8],
-    rows: &mut [[u64; 18]],
+    rows: &mut [[u64; 19]],
     stored: &mut [u64],
     requests: &mut [i32],
     vars: &mut [i32],
@@ -219,7 +219,7 @@ pub fn run(
     let units = stick::units(&s[SITE..SITE + n]);
     let roofs = stick::roofs(&s[SITE..SITE + n]);
     let size = bytes_of(&s[SITE..SITE + n], next.steps - m.state.steps);
-    let mut rows = [[0u64; 18]; 64];
+    let mut rows = [[0u64; 19]; 64];
     let mut stored = [0u64; 64];
     let mut requests = [0i32; 64];
     let mut vars = [0i32; 128];

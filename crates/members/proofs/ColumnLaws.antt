@@ -49,10 +49,10 @@ column-list value none rows l e h =
     (λ i k. column-is value none rows i ∙ h i (le-trans k (le-of-eq (column-count value rows))))
 
 -- the row of a member: each value fits its place
-pub member-row : (u : Unit) (draw : ℕ) (vars : ℤ) → u .rating < 4294967296 → u .weight < 65536 → u .link < 4294967296
-    → MemberRow (u .rated) (u .reserve) (u .rating) (u .weight) (u .link) (rowOf u draw vars)
+pub member-row : (u : Unit) (draw : ℕ) (vars : ℤ) (most : ℕ) → u .rating < 4294967296 → u .weight < 65536 → u .link < 4294967296
+    → MemberRow (u .rated) (u .reserve) (u .rating) (u .weight) (u .link) (rowOf u draw vars most)
 unfolding unitBy rowOf
-member-row u draw vars hr hw hl = record { rated-is = refl; reserve-is = refl; rating-is = mod-eq-of-lt hr; weight-is = mod-eq-of-lt hw; link-is = mod-eq-of-lt hl }
+member-row u draw vars most hr hw hl = record { rated-is = refl; reserve-is = refl; rating-is = mod-eq-of-lt hr; weight-is = mod-eq-of-lt hw; link-is = mod-eq-of-lt hl }
 
 -- ---- rows, of which the first i are filled from a fleet's lists
 abbrev pub RowAt : Fleet → ℕ → List ℕ → Type 0

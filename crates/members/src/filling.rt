@@ -5,7 +5,7 @@ ghost use Rattle.members.specs.Posts.{SameLengths, MemberRow, fleetBy};
 use unit::Unit;
 
 // The row of a unit of which a pass knows these values alone.
-fn member_row(rated: u64, reserve: u64, rating: u32, weight: u16, link: u32) -> [u64; 18]
+fn member_row(rated: u64, reserve: u64, rating: u32, weight: u16, link: u32) -> [u64; 19]
     ensures { λ r. ⌜ MemberRow rated reserve rating weight link r ⌝ }
 {
     let u = Unit {
@@ -26,7 +26,7 @@ fn member_row(rated: u64, reserve: u64, rating: u32, weight: u16, link: u32) -> 
         grid_loss: 0,
         link,
     };
-    rows::row(u, 0, 0)
+    rows::row(u, 0, 0, 0)
 }
 
 // Fills rows with the units of lent lists; what each holds stays in its list.
@@ -37,7 +37,7 @@ pub fn fill(
     rating: &[u32],
     weight: &[u16],
     links: &[u32],
-    rows: &mut [[u64; 18]],
+    rows: &mut [[u64; 19]],
 )
     requires { ⌜ SameLengths (fleetLinked (now rated) (now reserve) (now stored) (now rating) (now weight) (now links)) (length (now rows)) ⌝ }
     ensures { λ _. ⌜ fleetBy (now (rows .exit)) (now (stored .entry)) ≡

@@ -1,5 +1,5 @@
 -- Nobody has to believe this file: it is how the code carries units. A row has a unit's values in the file's order, then what the unit draws while it
--- idles and its vars then, and what an ampere is in watts; a signed number stands by its 32 bits.
+-- idles and its vars then, what an ampere is in watts, and the most watts that a request can be held at; a signed number stands by its 32 bits.
 use Prim.Native.Nat.{ℕ, _%_}
 use mathlib.Core.List.{List, [], _∷_, map}
 use lib.IntN.{ℤ}
@@ -8,11 +8,11 @@ use mir.Syntax.{w32}
 use mir.Val.{toZ, ofZ}
 use Rattle.unit.specs.declared.Unit.{Unit}
 
-unfoldable pub rowOf : Unit → ℕ → ℤ → List ℕ
-rowOf u draw vars =
+unfoldable pub rowOf : Unit → ℕ → ℤ → ℕ → List ℕ
+rowOf u draw vars most =
     u .rated ∷ u .reserve ∷ u .stored ∷ u .rating ∷ u .kva ∷ u .«dc_loss» ∷ ofZ w32 (u .«var_request») ∷ u .weight
     ∷ u .inverter ∷ u .charge ∷ u .discharge ∷ u .priority ∷ u .provide ∷ u .absorb ∷ u .«grid_loss»
-    ∷ draw ∷ ofZ w32 vars ∷ u .link ∷ []
+    ∷ draw ∷ ofZ w32 vars ∷ u .link ∷ most ∷ []
 
 -- the unit of a row, whatever the row holds, with its var request
 abbrev pub unitWith : List ℕ → ℤ → Unit
@@ -43,6 +43,9 @@ drawBy row = getD row 15 0 % 4294967296
 
 unfoldable pub varsBy : List ℕ → ℤ
 varsBy row = toZ w32 (getD row 16 0 % 4294967296)
+
+unfoldable pub mostBy : List ℕ → ℕ
+mostBy row = getD row 18 0 % 4294967296
 
 -- the units of rows
 unfoldable pub unitsBy : List (List ℕ) → List Unit

@@ -2,12 +2,14 @@ ghost use mathlib.Core.Path.{_≡_};
 ghost use mathlib.Core.List.{[]};
 ghost use Prim.Native.Nat.{_<_};
 ghost use lib.ListN.{length, getD};
-ghost use Rattle.rows.specs.Rows.{rowOf, unitBy, drawBy, varsBy, storesBy};
+ghost use Rattle.unit.specs.Ranges.{holding};
+ghost use Rattle.rows.specs.Rows.{rowOf, unitBy, drawBy, varsBy, mostBy, storesBy};
 use unit::Unit;
 
-// The row of a unit, with what it draws while it idles and its vars then.
-pub fn row(u: Unit, draw: u32, vars: i32) -> [u64; 18]
-    ensures { λ r. ⌜ r ≡ rowOf u draw vars ⌝ }
+// The row of a unit, with what it draws while it idles, its vars then, and the most watts that a
+// request can be held at.
+pub fn row(u: Unit, draw: u32, vars: i32, most: u32) -> [u64; 19]
+    ensures { λ r. ⌜ r ≡ rowOf u draw vars most ⌝ }
 {
     let asked = octets::pattern_of(u.var_request);
     let still = octets::pattern_of(vars);
@@ -30,11 +32,12 @@ pub fn row(u: Unit, draw: u32, vars: i32) -> [u64; 18]
         draw as u64,
         still as u64,
         u.link as u64,
+        most as u64,
     ]
 }
 
 // The unit of row i.
-pub fn unit_of(units: &[[u64; 18]], i: usize) -> Unit
+pub fn unit_of(units: &[[u64; 19]], i: usize) -> Unit
     requires { ⌜ i < length (now units) ⌝ }
     ensures { λ r. ⌜ r ≡ unitBy (getD (now (units .entry)) i []) ⌝ }
 {
@@ -58,43 +61,53 @@ pub fn unit_of(units: &[[u64; 18]], i: usize) -> Unit
     }
 }
 
+// The unit of row i, which holds so much.
+pub fn unit_holding(units: &[[u64; 19]], i: usize, held: u64) -> Unit
+    requires { ⌜ i < length (now units) ⌝ }
+    ensures { λ r. ⌜ r ≡ holding (unitBy (getD (now (units .entry)) i [])) held ⌝ }
+{
+    let mut u = unit_of(units, i);
+    u.stored = held;
+    u
+}
+
 // Single values of the unit of row i.
-pub fn rated_of(units: &[[u64; 18]], i: usize) -> u64
+pub fn rated_of(units: &[[u64; 19]], i: usize) -> u64
     requires { ⌜ i < length (now units) ⌝ }
     ensures { λ r. ⌜ r ≡ unitBy (getD (now (units .entry)) i []) .rated ⌝ }
 {
     units[i][0]
 }
 
-pub fn reserve_of(units: &[[u64; 18]], i: usize) -> u64
+pub fn reserve_of(units: &[[u64; 19]], i: usize) -> u64
     requires { ⌜ i < length (now units) ⌝ }
     ensures { λ r. ⌜ r ≡ unitBy (getD (now (units .entry)) i []) .reserve ⌝ }
 {
     units[i][1]
 }
 
-pub fn stored_of(units: &[[u64; 18]], i: usize) -> u64
+pub fn stored_of(units: &[[u64; 19]], i: usize) -> u64
     requires { ⌜ i < length (now units) ⌝ }
     ensures { λ r. ⌜ r ≡ unitBy (getD (now (units .entry)) i []) .stored ⌝ }
 {
     units[i][2]
 }
 
-pub fn rating_of(units: &[[u64; 18]], i: usize) -> u32
+pub fn rating_of(units: &[[u64; 19]], i: usize) -> u32
     requires { ⌜ i < length (now units) ⌝ }
     ensures { λ r. ⌜ r ≡ unitBy (getD (now (units .entry)) i []) .rating ⌝ }
 {
     (units[i][3] % 4294967296) as u32
 }
 
-pub fn weight_of(units: &[[u64; 18]], i: usize) -> u16
+pub fn weight_of(units: &[[u64; 19]], i: usize) -> u16
     requires { ⌜ i < length (now units) ⌝ }
     ensures { λ r. ⌜ r ≡ unitBy (getD (now (units .entry)) i []) .weight ⌝ }
 {
     (units[i][7] % 65536) as u16
 }
 
-pub fn link_of(units: &[[u64; 18]], i: usize) -> u32
+pub fn link_of(units: &[[u64; 19]], i: usize) -> u32
     requires { ⌜ i < length (now units) ⌝ }
     ensures { λ r. ⌜ r ≡ unitBy (getD (now (units .entry)) i []) .link ⌝ }
 {
@@ -102,7 +115,7 @@ pub fn link_of(units: &[[u64; 18]], i: usize) -> u32
 }
 
 // What the unit of row i draws while it idles.
-pub fn draw_of(units: &[[u64; 18]], i: usize) -> u32
+pub fn draw_of(units: &[[u64; 19]], i: usize) -> u32
     requires { ⌜ i < length (now units) ⌝ }
     ensures { λ r. ⌜ r ≡ drawBy (getD (now (units .entry)) i []) ⌝ }
 {
@@ -110,15 +123,23 @@ pub fn draw_of(units: &[[u64; 18]], i: usize) -> u32
 }
 
 // Its vars then.
-pub fn vars_of(units: &[[u64; 18]], i: usize) -> i32
+pub fn vars_of(units: &[[u64; 19]], i: usize) -> i32
     requires { ⌜ i < length (now units) ⌝ }
     ensures { λ r. ⌜ r ≡ varsBy (getD (now (units .entry)) i []) ⌝ }
 {
     octets::signed_of((units[i][16] % 4294967296) as u32)
 }
 
+// The most watts that a request of it can be held at.
+pub fn most_of(units: &[[u64; 19]], i: usize) -> u32
+    requires { ⌜ i < length (now units) ⌝ }
+    ensures { λ r. ⌜ r ≡ mostBy (getD (now (units .entry)) i []) ⌝ }
+{
+    (units[i][18] % 4294967296) as u32
+}
+
 // Fills a list with what the units of rows hold.
-pub fn stores(units: &[[u64; 18]], stored: &mut [u64])
+pub fn stores(units: &[[u64; 19]], stored: &mut [u64])
     requires { ⌜ length (now stored) ≡ length (now units) ⌝ }
     ensures { λ _. ⌜ now (stored .exit) ≡ storesBy (now (units .entry)) ⌝ }
 {

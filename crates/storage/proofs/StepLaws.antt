@@ -17,6 +17,7 @@ use Rattle.unit.specs.declared.Unit.{Unit}
 use Rattle.unit.specs.Ranges.{idleDraw, unitIn, secondsIn, editionIn, inEdition, Ranged}
 use Rattle.energy.proofs.LimitLaws.{held-most}
 use Rattle.energy.specs.Limits.{heldSize, gridLoss, varsOf}
+use Rattle.flows.specs.declared.Flow.{Flow}
 use Rattle.flows.specs.declared.Flow.the-variants.{Idle}
 use Rattle.flows.specs.declared.Move.{Move}
 use Rattle.flows.specs.Flows.{flowOf, inverterWatts, storedOf, lossOf}
@@ -33,6 +34,30 @@ use Rattle.storage.specs.Step.{gridWatts, outcomeOf, stepOf, steppedOf, 
 pub grid-fits : (u : Unit) (s : ℕ) → Ranged u s → gridLoss u * s < 2 ^ 64
 grid-fits u s r = lt-of-le-of-lt (mul-le-mul (bounds r .grid-most) (bounds r .seconds-most)) (lit< tt)
 
+-- the outcome of a flow, each number as the code has it
+module _ (u : Unit) (s : ℕ) (f : Flow) where
+  pub outcome-by : (carried watts vars : ℤ) → mag carried < 2 ^ 31 → mag watts < 2 ^ 31 → mag vars < 2 ^ 31 → (stored loss : ℕ)
+      → carried ≡ inverterWatts u f → watts ≡ toZ w32 (ofZ w32 carried) -ℤ pos (gridLoss u) → vars ≡ varsOf u (toZ w32 (ofZ w32 carried))
+      → stored ≡ storedOf u s f → loss ≡ lossOf u s f
+      → _≡_ {A = Outcome} (record { watts = toZ w32 (ofZ w32 watts); vars = toZ w32 (ofZ w32 vars); stored = stored; loss = loss + gridLoss u * s }) (outcomeOf u s f)
+  unfolding outcomeOf gridWatts
+  outcome-by carried watts vars hc hw hv stored loss ec ew ev es el =
+      let k : toZ w32 (ofZ w32 carried) ≡ inverterWatts u f = read w32 carried hc ∙ ec in
+      cc (read w32 watts hw, read w32 vars hv)
+
+  module _ (moved : ℕ) (m : Moving u s f moved) where
+    -- the loss is at most what the store holds, or what is taken from the grid, and that at the grid comes to it
+    pub flow-loss-fits : (loss : ℕ) → loss ≡ lossOf u s f → loss + gridLoss u * s < 2 ^ 64
+    flow-loss-fits loss e =
+        let b = bounds (m .ranged) in
+        let l : gridLoss u * s ≤ 10000000 * 86400 = mul-le-mul (b .grid-most) (b .seconds-most) in
+        let k : loss ≤ 10000000000000 = subst⁻¹ (λ (n : ℕ). n ≤ 10000000000000) e (loss-small u s f moved m) in
+        lt-of-le-of-lt (add-le-add k l) (lit< tt)
+
+    -- what the inverter carries is small
+    pub flow-carried-small : (carried : ℤ) → carried ≡ inverterWatts u f → mag carried < 2 ^ 31 → natAbs (toZ w32 (ofZ w32 carried)) ≤ 100000000
+    flow-carried-small carried e h = subst⁻¹ (λ (z : ℤ). natAbs z ≤ 100000000) (read w32 carried h ∙ e) (flow-small u s f moved m)
+
 -- the flow that the code has, of the request that is read back from its bits, and what it moves
 module _ (u : Unit) (s : ℕ) (request : ℤ) (h : mag request < 2 ^ 31) (m : Move) (e : m ≡ moveBy u s (flowOf u s (toZ w32 (ofZ w32 request)))) where
   flow-read : m ≡ moveBy u s (flowOf u s request)
@@ -43,28 +68,10 @@ module _ (u : Unit) (s : ℕ) (request : ℤ) (h : mag request < 2 ^ 31) (m : Mo
       let k : Carried u s (flowOf u s request) = flow-carried u s request in
       subst⁻¹ (λ (n : Move). Moving u s (n .flow) (n .moved)) flow-read (record { ranged = r; carried = k; moved-is = refl })
 
-  -- a step is the outcome of its flow, each number as the code has it
-  pub outcome-is : (carried watts vars : ℤ) → mag carried < 2 ^ 31 → mag watts < 2 ^ 31 → mag vars < 2 ^ 31 → (stored loss : ℕ)
-      → carried ≡ inverterWatts u (m .flow) → watts ≡ toZ w32 (ofZ w32 carried) -ℤ pos (gridLoss u) → vars ≡ varsOf u (toZ w32 (ofZ w32 carried))
-      → stored ≡ storedOf u s (m .flow) → loss ≡ lossOf u s (m .flow)
-      → _≡_ {A = Outcome} (record { watts = toZ w32 (ofZ w32 watts); vars = toZ w32 (ofZ w32 vars); stored = stored; loss = loss + gridLoss u * s }) (stepOf u s request)
-  unfolding stepOf outcomeOf gridWatts
-  outcome-is carried watts vars hc hw hv stored loss ec ew ev es el =
-      let r : m .flow ≡ flowOf u s request = ap (λ (n : Move). n .flow) flow-read in
-      let k : toZ w32 (ofZ w32 carried) ≡ inverterWatts u (flowOf u s request) = read w32 carried hc ∙ ec ∙ ap (inverterWatts u) r in
-      cc (read w32 watts hw, read w32 vars hv)
-
-  -- the loss is at most what the store holds, or what is taken from the grid, and that at the grid comes to it
-  pub loss-fits : Ranged u s → (loss : ℕ) → loss ≡ lossOf u s (m .flow) → loss + gridLoss u * s < 2 ^ 64
-  loss-fits r loss e =
-      let l : gridLoss u * s ≤ 10000000 * 86400 = mul-le-mul (bounds r .grid-most) (bounds r .seconds-most) in
-      let k : loss ≤ 10000000000000 = subst⁻¹ (λ (n : ℕ). n ≤ 10000000000000) e (loss-small u s (m .flow) (m .moved) (moving r)) in
-      lt-of-le-of-lt (add-le-add k l) (lit< tt)
-
-  -- what the inverter carries is small
-  pub carried-small : Ranged u s → (carried : ℤ) → carried ≡ inverterWatts u (m .flow) → mag carried < 2 ^ 31 → natAbs (toZ w32 (ofZ w32 carried)) ≤ 100000000
-  carried-small r carried e h =
-      subst⁻¹ (λ (z : ℤ). natAbs z ≤ 100000000) (read w32 carried h ∙ e) (flow-small u s (m .flow) (m .moved) (moving r))
+  -- a step is the outcome of its flow
+  pub step-by : (o : Outcome) → o ≡ outcomeOf u s (m .flow) → o ≡ stepOf u s request
+  unfolding stepOf
+  step-by o d = d ∙ ap (λ (n : Move). outcomeOf u s (n .flow)) flow-read
 
 -- ---- a step of a unit that is asked nothing
 module _ (u : Unit) (s : ℕ) where
@@ -74,7 +81,7 @@ module _ (u : Unit) (s : ℕ) where
       let m = held-most u (pos 0) .0 in
       sym (discharged-nothing u s (heldSize u (pos 0)) (omega arith) ∙ flow-out u s (pos 0) refl)
 
-  idle-outcome : outcomeOf u s Idle ≡ restOf (restDraw u) (idleVars u) (u .stored) s
+  pub idle-outcome : outcomeOf u s Idle ≡ restOf (restDraw u) (idleVars u) (u .stored) s
   unfolding outcomeOf inverterWatts gridWatts storedOf lossOf
   idle-outcome =
       ap₂ (λ (w : ℤ) (l : ℕ). record { watts = w; vars = idleVars u; stored = u .stored; loss = l }) (draw-more (idleDraw u) (gridLoss u))

@@ -1,11 +1,12 @@
 // One step of a storage unit. Power is whole watts, positive for discharge; energy is whole joules;
 // efficiencies are parts in 10,000.
+mod giving;
 mod resting;
 mod steps;
 
+pub use giving::step_of;
 pub use resting::row_of;
 pub use steps::idle_vars;
-pub use steps::rest;
 pub use steps::step;
 pub use steps::step_as;
 pub use steps::step_within;

@@ -15,9 +15,6 @@ pattern-of-requires c κs = search needs
 pattern-of-requires-2 : tie.Need-pattern-of-requires-2
 pattern-of-requires-2 c κs = search needs
 
-cast-t6 : tie.Need-cast-t6
-cast-t6 c = search needs
-
 cast-t7 : tie.Need-cast-t7
 cast-t7 c = search needs
 
@@ -34,28 +31,31 @@ cast-t11 : tie.Need-cast-t11
 cast-t11 c = search needs
 
 cast-t12 : tie.Need-cast-t12
-cast-t12 c = omega (arith, c .struct-known6 .given)
+cast-t12 c = search needs
 
 cast-t13 : tie.Need-cast-t13
-cast-t13 c = omega (arith, c .struct-known7 .given)
+cast-t13 c = omega (arith, c .struct-known6 .given)
 
 cast-t14 : tie.Need-cast-t14
-cast-t14 c = omega (arith, c .struct-known8 .given)
+cast-t14 c = omega (arith, c .struct-known7 .given)
 
 cast-t15 : tie.Need-cast-t15
-cast-t15 c = omega (arith, c .struct-known9 .given)
+cast-t15 c = omega (arith, c .struct-known8 .given)
 
 cast-t16 : tie.Need-cast-t16
-cast-t16 c = omega (arith, c .struct-known10 .given)
+cast-t16 c = omega (arith, c .struct-known9 .given)
 
 cast-t17 : tie.Need-cast-t17
-cast-t17 c = omega (arith, c .struct-known11 .given)
+cast-t17 c = omega (arith, c .struct-known10 .given)
 
-cast-t19 : tie.Need-cast-t19
-cast-t19 c = search needs
+cast-t18 : tie.Need-cast-t18
+cast-t18 c = omega (arith, c .struct-known11 .given)
 
 cast-t20 : tie.Need-cast-t20
-cast-t20 c = omega (arith, c .struct-known12 .given)
+cast-t20 c = search needs
+
+cast-t21 : tie.Need-cast-t21
+cast-t21 c = omega (arith, c .struct-known12 .given)
 
 returns : tie.Need-returns
 unfolding rowOf
@@ -74,7 +74,6 @@ row-spec =
     (tie.spec
     pattern-of-requires
     pattern-of-requires-2
-    cast-t6
     cast-t7
     cast-t8
     cast-t9
@@ -86,6 +85,7 @@ row-spec =
     cast-t15
     cast-t16
     cast-t17
-    cast-t19
+    cast-t18
     cast-t20
+    cast-t21
     returns)

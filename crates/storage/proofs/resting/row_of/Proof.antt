@@ -3,10 +3,11 @@ use borrow.Author.Needs.{needs}
 use Prim.Native.Nat.{ℕ, _+_, _≤_, _<_}
 use mathlib.Core.Path.{_≡_, ap, _∙_}
 use native.Mathlib.Omega.{arith}
+use lib.IntN.{ℤ}
 use mir.Syntax.{w32}
 use Rattle.whole.proofs.SignLaws.{read}
-use Rattle.rows.specs.Rows.{rowOf, unitBy, drawBy, varsBy}
-use Rattle.rows.proofs.RowLaws.{unit-back, draw-back, vars-back}
+use Rattle.rows.specs.Rows.{rowOf, unitBy, drawBy, varsBy, mostBy}
+use Rattle.rows.proofs.RowLaws.{unit-back, draw-back, vars-back, most-back}
 use Rattle.storage.proofs.StepLaws.{idle-draw-small, rest-draw-small}
 use Rattle.storage.proofs.resting.row_of.Statement.{statement}
 use Rattle.storage.proofs.resting.row_of.Tie as tie
@@ -27,27 +28,32 @@ add-draw c = omega (arith, draws c)
 idle-vars-requires : tie.Need-idle-vars-requires
 idle-vars-requires c κs = search needs
 
+most-requires : tie.Need-most-requires
+most-requires c κs = search needs
+
 row-requires : tie.Need-row-requires
 row-requires c κs = search needs
 
 returns : tie.Need-returns
 returns c =
-    let v = c .before .idle-vars in
-    let k = c .before .before in
+    let m = c .before .most in
+    let v = c .before .before .idle-vars in
+    let k = c .before .before .before in
     let d = k .before .idle-draw in
     let s = k .before .before in
     let u = s .args .u in
     let draw = d .result + u .«grid_loss» in
     let small : draw < 4294967296 = omega (arith, draws k) in
-    let is : c .row .result ≡ rowOf u draw (v .result) = c .row .ensures ∙ ap (rowOf u draw) (read w32 (v .result) (v .ok)) in
+    let is : c .row .result ≡ rowOf u draw (v .result) (m .result) = c .row .ensures ∙ ap (λ (y : ℤ). rowOf u draw y (m .result)) (read w32 (v .result) (v .ok)) in
     -- its link is a number of 32 bits
     let link : u .link < 4294967296 = omega (arith, s .good .0 .1 .1 .1 .1 .1 .1 .1 .1 .1 .1 .1 .1 .1 .1 .1) in
     record {
-      unit-is = ap unitBy is ∙ unit-back u draw (v .result) (s .pre) link;
-      draw-is = ap drawBy is ∙ draw-back u draw (v .result) small ∙ ap (λ (n : ℕ). n + u .«grid_loss») (d .ensures);
-      vars-is = ap varsBy is ∙ vars-back u draw (v .result) (record { sfits = v .ok }) ∙ v .ensures;
+      unit-is = ap unitBy is ∙ unit-back u draw (v .result) (m .result) (s .pre) link;
+      draw-is = ap drawBy is ∙ draw-back u draw (v .result) (m .result) small ∙ ap (λ (n : ℕ). n + u .«grid_loss») (d .ensures);
+      vars-is = ap varsBy is ∙ vars-back u draw (v .result) (m .result) (record { sfits = v .ok }) ∙ v .ensures;
+      most-is = ap mostBy is ∙ most-back u draw (v .result) (m .result) (omega (arith, m .ok)) ∙ m .ensures;
     }
 
 pub row-of-spec : {M : Type 1} → statement M
 row-of-spec =
-    tie.close (tie.spec idle-draw-requires cast-draw add-draw idle-vars-requires row-requires returns)
+    tie.close (tie.spec idle-draw-requires cast-draw add-draw idle-vars-requires most-requires row-requires returns)

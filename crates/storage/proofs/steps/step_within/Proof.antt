@@ -3,7 +3,7 @@
 use borrow.Author.Needs.{needs}
 use native.Mathlib.Omega.{arith}
 use Rattle.unit.proofs.RangeLaws.{bounds}
-use Rattle.storage.proofs.StepLaws.{moving, carried-small, grid-fits, loss-fits, outcome-is}
+use Rattle.storage.proofs.StepLaws.{moving, grid-fits, outcome-by, flow-carried-small, flow-loss-fits, step-by}
 use Rattle.storage.proofs.steps.step_within.Statement.{statement}
 use Rattle.storage.proofs.steps.step_within.Tie as tie
 
@@ -25,8 +25,9 @@ at-grid-requires : tie.Need-at-grid-requires
 at-grid-requires c κs =
     let w = c .before in
     let f = w .before in
-    let s = f .before in (
-      carried-small (s .args .u) (s .args .seconds) (s .args .request) (s .fits .request .sfits) (f .flow .result) (f .flow .ensures) (s .pre) (w .watts .result) (w .watts .ensures) (w .watts .ok),
+    let s = f .before in
+    let m = moving (s .args .u) (s .args .seconds) (s .args .request) (s .fits .request .sfits) (f .flow .result) (f .flow .ensures) (s .pre) in (
+      flow-carried-small (s .args .u) (s .args .seconds) (f .flow .result .flow) (f .flow .result .moved) m (w .watts .result) (w .watts .ensures) (w .watts .ok),
       bounds (s .pre) .grid-most,
     )
 
@@ -49,7 +50,8 @@ add-t13 : tie.Need-add-t13
 add-t13 c =
     let f = c .before .before .before .before .before .before in
     let s = f .before in
-    record { fits = loss-fits (s .args .u) (s .args .seconds) (s .args .request) (s .fits .request .sfits) (f .flow .result) (f .flow .ensures) (s .pre) (c .loss .result) (c .loss .ensures) }
+    let m = moving (s .args .u) (s .args .seconds) (s .args .request) (s .fits .request .sfits) (f .flow .result) (f .flow .ensures) (s .pre) in
+    record { fits = flow-loss-fits (s .args .u) (s .args .seconds) (f .flow .result .flow) (f .flow .result .moved) m (c .loss .result) (c .loss .ensures) }
 
 returns : tie.Need-returns
 returns c =
@@ -59,8 +61,10 @@ returns c =
     let w = g .before .before in
     let f = w .before in
     let s = f .before in
-    outcome-is (s .args .u) (s .args .seconds) (s .args .request) (s .fits .request .sfits) (f .flow .result) (f .flow .ensures) (w .watts .result) (g .at-grid .result) (v .vars .result) (w .watts .ok) (g .at-grid .ok) (v .vars .ok)
-    (st .stored .result) (c .loss .result) (w .watts .ensures) (g .at-grid .ensures) (v .vars .ensures) (st .stored .ensures) (c .loss .ensures)
+    let o = outcome-by (s .args .u) (s .args .seconds) (f .flow .result .flow) (w .watts .result) (g .at-grid .result) (v .vars .result)
+    (w .watts .ok) (g .at-grid .ok) (v .vars .ok) (st .stored .result) (c .loss .result)
+    (w .watts .ensures) (g .at-grid .ensures) (v .vars .ensures) (st .stored .ensures) (c .loss .ensures) in
+    step-by (s .args .u) (s .args .seconds) (s .args .request) (s .fits .request .sfits) (f .flow .result) (f .flow .ensures) _ o
 
 pub step-within-spec : {M : Type 1} → statement M
 step-within-spec =
