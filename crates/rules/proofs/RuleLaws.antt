@@ -2,7 +2,7 @@
 use mathlib.Core.Path.{_≡_, refl, sym, ap, ap₂, _∙_, subst, subst⁻¹}
 use mathlib.Core.Bool.{Bool, true, false, not, cond, _&&_, Bool·beq}
 use Prim.Native.Nat.{ℕ, zero, suc, _+_, _*_, _/_, _^_, _≤_, _<_, min}
-use native.Mathlib.Nat.{lt-of-le-of-lt, le-trans, add-le-add, mul-le-mul, min-eq-left, min-eq-right, le-of-lt, le-of-eq}
+use native.Mathlib.Nat.{zero-mul, zero-div, div-le-self, lt-of-le-of-lt, le-trans, add-le-add, mul-le-mul, min-eq-left, min-eq-right, le-of-lt, le-of-eq}
 use native.Mathlib.Omega.{arith}
 use lib.Dec.{leb, eqb, lit<, lit≤, leb·suc-zero}
 use lib.IntN.{ℤ, pos, negsuc, negℤ, natAbs, _+ℤ_, _-ℤ_, _*ℤ_}
@@ -14,7 +14,7 @@ use mir.ValLaws.{toZ-pos}
 use Rattle.whole.proofs.Choice.{passed-failed}
 use Rattle.whole.specs.Signed.{negative, signed}
 use Rattle.whole.specs.Quotient.{cut}
-use Rattle.whole.proofs.QuotientLaws.{cut-size, floor-upto}
+use Rattle.whole.proofs.QuotientLaws.{cut-size, cut-none, floor-upto}
 use Rattle.whole.proofs.SignLaws.{read, size-neg, size-sum, size-product, size-fits, signed-fits, wide-is, wide-size, plus-fits, plus-is, minus-fits, minus-is, times-fits, times-is}
 use Rattle.rules.specs.declared.Settings.{Settings}
 use Rattle.rules.specs.declared.Asked.{Asked}
@@ -210,51 +210,67 @@ module _ (charging : Bool) (need : ℤ) (h : mag need < 2 ^ 63) where
   idle-discharging e = ap (λ (z : ℤ). leZ z (pos 0)) (read w64 need h) ∙ sym (ap (λ (t : Bool). cond t (leZ (pos 0) need) (leZ need (pos 0))) e)
 
 -- ---- rule 6: the share
+
+-- the sign of a product is the first factor's, where the other two are not below 0; where it is 0 the quotient has none
+neg-times : (k m : ℕ) → negℤ (pos k) *ℤ pos m ≡ negℤ (pos (k * m))
+neg-times zero m = ap pos (zero-mul m) ∙ sym (ap (λ (n : ℕ). negℤ (pos n)) (zero-mul m))
+neg-times (suc k) m = refl
+
+cut-neg : (k b : ℕ) → cut (negℤ (pos k)) b ≡ negℤ (pos (k / b))
+unfolding cut
+cut-neg zero b = ap pos (zero-div b) ∙ sym (ap (λ (n : ℕ). negℤ (pos n)) (zero-div b))
+cut-neg (suc k) b = refl
+
+cut-by : (z : ℤ) (n m b : ℕ) → cut (z *ℤ pos n *ℤ pos m) b ≡ signed (negative z) (natAbs z * n * m / b)
+unfolding cut
+cut-by (pos a) n m b = refl
+cut-by (negsuc a) n m b = ap (λ (z : ℤ). cut z b) (neg-times (suc a * n) m) ∙ cut-neg (suc a * n * m) b
+
 module _ (factor : ℕ) (need : ℤ) (weight weights : ℕ) (hn : natAbs need ≤ 400000000000) (hf : factor ≤ 1000) (hw : weight ≤ 10000) where
   en : back64 need ≡ need
   en = read-sized need (lt-of-le-of-lt hn (lit< tt))
 
-  ew : toZ w64 weight ≡ pos weight
-  ew = toZ-pos w64 weight (lt-of-le-of-lt hw (lit< tt))
-
-  ef : toZ w64 factor ≡ pos factor
-  ef = toZ-pos w64 factor (lt-of-le-of-lt hf (lit< tt))
-
   first-size : natAbs need * weight ≤ 400000000000 * 10000
   first-size = mul-le-mul hn hw
 
-  first-room : natAbs need * natAbs (pos weight) < 2 ^ 63
-  first-room = lt-of-le-of-lt first-size (lit< tt)
+  product-size : natAbs need * weight * factor ≤ 4000000000000000 * 1000
+  product-size = mul-le-mul first-size hf
 
-  pub weighted-fits : SFits w64 (back64 need *ℤ toZ w64 weight)
-  weighted-fits = times-fits w64 need (pos weight) (back64 need) (toZ w64 weight) en ew first-room
-
-  weighted-is : back64 (back64 need *ℤ toZ w64 weight) ≡ need *ℤ pos weight
-  weighted-is = times-is w64 need (pos weight) (back64 need) (toZ w64 weight) en ew first-room
-
-  product-size : natAbs (need *ℤ pos weight) * factor ≤ 4000000000000000 * 1000
-  product-size = mul-le-mul (le-trans (le-of-eq (size-product need (pos weight))) first-size) hf
-
-  second-room : natAbs (need *ℤ pos weight) * natAbs (pos factor) < 2 ^ 63
-  second-room = lt-of-le-of-lt product-size (lit< tt)
-
-  pub factored-fits : SFits w64 (back64 (back64 need *ℤ toZ w64 weight) *ℤ toZ w64 factor)
-  factored-fits = times-fits w64 (need *ℤ pos weight) (pos factor) (back64 (back64 need *ℤ toZ w64 weight)) (toZ w64 factor) weighted-is ef second-room
-
-  factored-is : back64 (back64 (back64 need *ℤ toZ w64 weight) *ℤ toZ w64 factor) ≡ need *ℤ pos weight *ℤ pos factor
-  factored-is = times-is w64 (need *ℤ pos weight) (pos factor) (back64 (back64 need *ℤ toZ w64 weight)) (toZ w64 factor) weighted-is ef second-room
-
-  pub share-is : (r : ℤ) → mag r < 2 ^ 63 → r ≡ cut (back64 (back64 (back64 need *ℤ toZ w64 weight) *ℤ toZ w64 factor)) (weights * 1000)
-      → back64 r ≡ shareOf factor need weight weights
+  pub share-none : weights ≡ 0 → pos 0 ≡ shareOf factor need weight weights
   unfolding shareOf
-  share-is r hr e = read w64 r hr ∙ e ∙ ap (λ (z : ℤ). cut z (weights * 1000)) factored-is
+  share-none e = cut-none (need *ℤ pos weight *ℤ pos factor) (weights * 1000) (ap (λ (n : ℕ). n * 1000) e)
+
+  -- from the sign and the size that the code has
+  module _ (size : ℕ) (es : size ≡ natAbs (back64 need)) where
+    same : size ≡ natAbs need
+    same = es ∙ ap natAbs en
+
+    pub weighted-fits : size * weight < 2 ^ 64
+    weighted-fits = lt-of-le-of-lt (subst⁻¹ (λ (n : ℕ). n * weight ≤ 4000000000000000) same first-size) (lit< tt)
+
+    factored-size : size * weight * factor ≤ 4000000000000000000
+    factored-size = subst⁻¹ (λ (n : ℕ). n * weight * factor ≤ 4000000000000000000) same product-size
+
+    pub factored-fits : size * weight * factor < 2 ^ 64
+    factored-fits = lt-of-le-of-lt factored-size (lit< tt)
+
+    pub share-fits : (below : Bool) → SFits w64 (signed below (size * weight * factor / (weights * 1000)))
+    share-fits below = signed-fits w64 below (size * weight * factor / (weights * 1000)) (lt-of-le-of-lt (le-trans (div-le-self (size * weight * factor) (weights * 1000)) factored-size) (lit< tt))
+
+    pub share-is : (below : Bool) → below ≡ negative (back64 need) → (r : ℤ) → mag r < 2 ^ 63 → r ≡ signed below (size * weight * factor / (weights * 1000))
+        → back64 r ≡ shareOf factor need weight weights
+    unfolding shareOf
+    share-is below eb r hr e =
+        read w64 r hr ∙ e
+        ∙ ap₂ (λ (t : Bool) (n : ℕ). signed t (n * weight * factor / (weights * 1000))) (eb ∙ ap negative en) same
+        ∙ sym (cut-by need weight factor (weights * 1000))
 
   -- a share is no larger than 10^18
   pub share-size : natAbs (shareOf factor need weight weights) ≤ 4000000000000000000
   unfolding shareOf
   share-size =
       le-trans (cut-size (need *ℤ pos weight *ℤ pos factor) (weights * 1000))
-      (le-trans (le-of-eq (size-product (need *ℤ pos weight) (pos factor))) product-size)
+      (le-trans (le-of-eq (size-product (need *ℤ pos weight) (pos factor) ∙ ap (λ (n : ℕ). n * factor) (size-product need (pos weight)))) product-size)
 
 -- ---- rule 6: what a request becomes
 
@@ -311,8 +327,40 @@ flags-same true false e = absurd (passed-failed refl e)
 flags-same false true e = absurd (passed-failed refl e)
 flags-same false false e = refl
 
--- the code's way: the sum of request and share, its sign and its size
-module _ (charging : Bool) (R : ℕ) (request share : ℤ) (hR : R ≤ 100000000) (hs : natAbs share ≤ 4000000000000000000) (hr : mag request < 2 ^ 31) where
+-- the code's way: z by its sign and its size
+module _ (charging : Bool) (R : ℕ) (z : ℤ) (hR : R ≤ 100000000) (hz : mag z < 2 ^ 63) (neg : Bool) (en : neg ≡ negative (back64 z)) where
+  neg-is : neg ≡ negative z
+  neg-is = en ∙ ap negative (read w64 z hz)
+
+  pub turned-is : not (Bool·beq charging neg) ≡ true → pos 0 ≡ directed charging R z
+  turned-is t = sym (against-is charging R z (λ e. flags-differ charging neg t (e ∙ sym neg-is)))
+
+  module _ (t : not (Bool·beq charging neg) ≡ false) where
+    way : charging ≡ negative z
+    way = flags-same charging neg t ∙ neg-is
+
+    pub large-fits : SFits w32 (signed charging R)
+    large-fits = signed-fits w32 charging R (lt-of-le-of-lt hR (lit< tt))
+
+    module _ (size : ℕ) (ez : size ≡ natAbs (back64 z)) where
+      size-is : size ≡ natAbs z
+      size-is = ez ∙ ap natAbs (read w64 z hz)
+
+      pub small-fits : size ≤ R → SFits w32 (signed charging size)
+      small-fits l = signed-fits w32 charging size (lt-of-le-of-lt (le-trans l hR) (lit< tt))
+
+      pub small-is : size ≤ R → (r : ℤ) → mag r < 2 ^ 31 → r ≡ signed charging size → back32 r ≡ directed charging R z
+      small-is l r h e =
+          read w32 r h ∙ e ∙ ap₂ signed way size-is
+          ∙ sym (with-is charging R z way ∙ limited-small R z (subst (λ (n : ℕ). n ≤ R) size-is l))
+
+      pub large-is : R < size → (r : ℤ) → mag r < 2 ^ 31 → r ≡ signed charging R → back32 r ≡ directed charging R z
+      large-is l r h e =
+          read w32 r h ∙ e ∙ ap (λ (b : Bool). signed b R) way
+          ∙ sym (with-is charging R z way ∙ limited-large R z (subst (λ (n : ℕ). R < n) size-is l))
+
+-- the sum of request and share
+module _ (charging : Bool) (R : ℕ) (request share : ℤ) (hs : natAbs share ≤ 4000000000000000000) (hr : mag request < 2 ^ 31) where
   esh : back64 share ≡ share
   esh = read-sized share (lt-of-le-of-lt hs (lit< tt))
 
@@ -325,34 +373,9 @@ module _ (charging : Bool) (R : ℕ) (request share : ℤ) (hR : R ≤ 100000000
   sum-is : back64 (back64 (back32 request) +ℤ back64 share) ≡ request +ℤ share
   sum-is = plus-is w64 request share (back64 (back32 request)) (back64 share) (wide-is request hr) esh sum-room
 
-  module _ (neg : Bool) (size : ℕ) (en : neg ≡ negative (back64 (back64 (back32 request) +ℤ back64 share))) (ez : size ≡ natAbs (back64 (back64 (back32 request) +ℤ back64 share))) where
-    neg-is : neg ≡ negative (request +ℤ share)
-    neg-is = en ∙ ap negative sum-is
-
-    size-is : size ≡ natAbs (request +ℤ share)
-    size-is = ez ∙ ap natAbs sum-is
-
-    pub turned-is : not (Bool·beq charging neg) ≡ true → pos 0 ≡ directed charging R (request +ℤ share)
-    turned-is t = sym (against-is charging R (request +ℤ share) (λ e. flags-differ charging neg t (e ∙ sym neg-is)))
-
-    kept : not (Bool·beq charging neg) ≡ false → directed charging R (request +ℤ share) ≡ limited R (request +ℤ share)
-    kept t = with-is charging R (request +ℤ share) (flags-same charging neg t ∙ neg-is)
-
-    pub small-fits : size ≤ R → SFits w32 (signed neg size)
-    small-fits l = signed-fits w32 neg size (lt-of-le-of-lt (le-trans l hR) (lit< tt))
-
-    pub small-is : not (Bool·beq charging neg) ≡ false → size ≤ R → (r : ℤ) → mag r < 2 ^ 31 → r ≡ signed neg size → back32 r ≡ directed charging R (request +ℤ share)
-    small-is t l r h e =
-        read w32 r h ∙ e ∙ ap₂ signed neg-is size-is
-        ∙ sym (kept t ∙ limited-small R (request +ℤ share) (subst (λ (n : ℕ). n ≤ R) size-is l))
-
-    pub large-fits : SFits w32 (signed neg R)
-    large-fits = signed-fits w32 neg R (lt-of-le-of-lt hR (lit< tt))
-
-    pub large-is : not (Bool·beq charging neg) ≡ false → R < size → (r : ℤ) → mag r < 2 ^ 31 → r ≡ signed neg R → back32 r ≡ directed charging R (request +ℤ share)
-    large-is t l r h e =
-        read w32 r h ∙ e ∙ ap (λ (b : Bool). signed b R) neg-is
-        ∙ sym (kept t ∙ limited-large R (request +ℤ share) (subst (λ (n : ℕ). R < n) size-is l))
+  pub after-is : (way : Bool) → charging ≡ way → (r : ℤ) → mag r < 2 ^ 31 → r ≡ directed way R (back64 (back64 (back32 request) +ℤ back64 share))
+      → back32 r ≡ directed charging R (request +ℤ share)
+  after-is way t r h e = read w32 r h ∙ e ∙ ap₂ (λ (b : Bool) (z : ℤ). directed b R z) (sym t) sum-is
 
 -- ---- rules 4 and 6: what is unable
 module _ (charging : Bool) (rated reserve stored : ℕ) where

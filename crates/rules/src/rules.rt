@@ -139,25 +139,38 @@ pub fn share(factor: u16, need: i64, weight: u16, weights: u64) -> i64
     requires { ⌜ weights ≤ 640000 ⌝ }
     ensures { λ r. ⌜ r ≡ shareOf factor need weight weights ⌝ }
 {
-    let part = need * (weight as i64) * (factor as i64);
-    whole::cut(part, weights * 1000)
+    if weights == 0 {
+        return 0;
+    }
+    let size = whole::size64(need) * (weight as u64) * (factor as u64);
+    whole::signed64(whole::below_zero64(need), size / (weights * 1000))
 }
 
-// P6: a request and its share, limited to the rating in size, and 0 where that is against the
-// mode.
+// P6: z limited to the rating in size, and 0 where that is against the mode.
+fn directed(charging: bool, rating: u32, z: i64) -> i32
+    requires { ⌜ rating ≤ 100000000 ⌝ }
+    ensures { λ r. ⌜ r ≡ withMode charging (limited rating z) ⌝ }
+{
+    let negative = whole::below_zero64(z);
+    if charging != negative {
+        return 0;
+    }
+    let size = whole::size64(z);
+    if size <= rating as u64 {
+        return whole::signed32(charging, size as u32);
+    }
+    whole::signed32(charging, rating)
+}
+
+// P6: a request and its share, in the direction of the mode.
 pub fn request_after(charging: bool, rating: u32, request: i32, share: i64) -> i32
     requires { ⌜ rating ≤ 100000000 ⌝ }
     requires { ⌜ natAbs share ≤ 4000000000000000000 ⌝ }
     ensures { λ r. ⌜ r ≡ withMode charging (limited rating (request +ℤ share)) ⌝ }
 {
     let z = (request as i64) + share;
-    let negative = whole::below_zero64(z);
-    let size = whole::size64(z);
-    if charging != negative {
-        return 0;
+    if charging {
+        return directed(true, rating, z);
     }
-    if size <= rating as u64 {
-        return whole::signed32(negative, size as u32);
-    }
-    whole::signed32(negative, rating)
+    directed(false, rating, z)
 }
