@@ -79,6 +79,12 @@ mkdir -p build/x86_64
 "$YB_CC" -O2 -Wall -Wextra -Werror -std=c11 $YB_STATIC -Ic -o build/x86_64/bench c/bench/bench.c c/bench/bench_*.c \
     "$YB_ARCHIVE" "$library" -lpthread -ldl
 
+# The emulator takes an instruction that sets many bytes a byte at a time, which no processor does: the C library is to
+# do without it.
+if [ -n "$YB_EMULATOR" ]; then
+    export GLIBC_TUNABLES=glibc.cpu.x86_rep_stosb_threshold=4194304
+fi
+
 heading
 # shellcheck disable=SC2086 # YB_EMULATOR may be no word
 $YB_EMULATOR build/x86_64/bench
