@@ -1,4 +1,4 @@
--- A curve as it lies in bytes (rule K5; the bytes are in docs/LAYOUTS.md): one byte with the number of points, then sixteen times x and y, 0 past the
+-- A curve as it lies in bytes (its row in docs/LAYOUTS.md): one byte with the number of points, then sixteen times x and y, 0 past the
 -- points.
 use Prim.Native.Nat.{ℕ, zero, suc, _+_, _-_, _*_}
 use mathlib.Core.Bool.{Bool, _&&_}

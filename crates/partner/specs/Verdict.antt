@@ -84,7 +84,7 @@ unfoldable pub verdictOf : List ℕ → List ℕ → Verdict
 unfolding verdictFrom fieldsOf resultOf
 verdictOf run result = verdictFrom run (fieldsOf run) (resultOf run) result 0
 
--- ---- of any bytes: J7: a run file that the check refuses gets its refusal and no verdict
+-- ---- of any bytes: J1: a run file that the check refuses gets its refusal and no verdict
 unfoldable pub partnerAnswer : List ℕ → List ℕ → PartnerAnswer
 unfolding checkOf verdictOf
 partnerAnswer run result = cond (eqb (checkOf run .number) 0) (Judged (verdictOf run result)) (Unjudged (checkOf run))

@@ -1,4 +1,4 @@
--- The settling law (rules S7 to S15). A peak-shaving fleet of n units, requests all zero at first, total store above total reserve, a fixed load above
+-- The settling law (rules S7 to S16). A peak-shaving fleet of n units, requests all zero at first, total store above total reserve, a fixed load above
 -- the target, each pass on a measure of the load less the sum of requests, no time passing. The law is about the units above their reserves; the others
 -- stay at 0.
 use Prim.Native.Nat.{ℕ, suc, _*_, _≤_, _<_}

@@ -1,0 +1,23 @@
+-- Laws about the definitions of `specs/`: how numbers and fields are read where they are laid, and how what is read is laid again; how a file walks; and the theorem.
+pub mod NumberLaws
+pub mod SayLaws
+pub mod CutNumbers
+pub mod LieLaws
+pub mod FitLaws
+pub mod WalkLaws
+pub mod HeadWalks
+pub mod RoofWalks
+pub mod StepWalks
+pub mod LaidProved
+pub mod FirstLaws
+pub mod PassLaws
+pub mod TellLaws
+pub mod StepLaws
+pub mod SaidProved
+pub mod StripLaws
+pub mod AloneProved
+pub mod ReadLaws
+pub mod ReadSteps
+pub mod ReadHead
+pub mod ReadProved
+pub mod LayoutsProved

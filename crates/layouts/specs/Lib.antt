@@ -1,0 +1,5 @@
+-- The layouts said forwards, and what holds of them.
+pub mod Written
+pub mod Layout
+pub mod Ranges
+pub mod Holds

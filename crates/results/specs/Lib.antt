@@ -1,0 +1,2 @@
+-- What a result says.
+pub mod Says
