@@ -1,4 +1,4 @@
--- Rows about sites that buy by current (rules P2, P5, P7, P10, M9, F10 and F11): figure B7, and what no figure pins.
+-- Rows about sites that buy by current (rules P2, P5, P7, P8, P10, M9, F10 and F11): figure B7, and what no figure pins.
 use mathlib.Core.List.{List, [], _∷_, _++_}
 use Prim.Native.Nat.{ℕ}
 use lib.IntN.{ℤ, pos, negℤ}
@@ -51,7 +51,7 @@ unfolding bytesOf
 nan = bytesOf 27 0x0900187ff800000000000000000000000000000000000000000000
 
 unfoldable pub currents : List Row
-unfolding amperes uneven pass check run byCurrent byWatts joined current power nan missing ending bytes
+unfolding amperes uneven pass passCurrent check run byCurrent byWatts joined current power nan missing ending bytes
 currents =
     -- M9: 1.5 A; the tie of 0.0625 A; -0.0001 A is 0 mA, -1 A is refused; 100,000 A, and beyond
     row (amperes 0x3ff8_0000_0000_0000) (values (pos 1500 ∷ []))
@@ -68,6 +68,8 @@ currents =
     -- P5: one unit within its band of 161 W does not end the pass; both within theirs, of 260 and 780 W, do
     ∷ row (uneven 4 700 (pos 1000) (negℤ (pos 100) ∷ negℤ (pos 200) ∷ [])) (values (pos 1000 ∷ pos 1 ∷ replicate 2 (pos 0)))
     ∷ row (uneven 4 1131 (pos 1000) (negℤ (pos 100) ∷ negℤ (pos 200) ∷ [])) (values (pos 1000 ∷ pos 0 ∷ negℤ (pos 100) ∷ negℤ (pos 200) ∷ []))
+    -- P8: mode 5 charges; a measure of 1,000 mA and a target of 2,000 mA are needs of -230 and -690 W
+    ∷ row (passCurrent (set 5 (pos 2000) 0 1000) (pos 1000) equal (1 ∷ 3 ∷ []) (230 ∷ 230 ∷ []) (replicate 2 (pos 0))) (values (negℤ (pos 1000) ∷ pos 1 ∷ negℤ (pos 115) ∷ negℤ (pos 345) ∷ []))
     -- Q17: each kind of pass has its modes
     ∷ row (uneven 1 0 (pos 999) (replicate 2 (pos 0))) (refused 5 ++ replicate 2 (pos 0))
     ∷ row (pass (set 4 (pos 0) 0 1000) (pos 999) single (pos 0 ∷ [])) (refused 5 ++ pos 0 ∷ [])

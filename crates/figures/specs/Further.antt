@@ -25,6 +25,10 @@ seven fifth = fleetOf (replicate 7 10000000) (replicate 7 1000000) (replicate 4 
 abbrev pub sixOf : ℤ → ℤ → List ℤ
 sixOf others fifth = replicate 4 others ++ fifth ∷ replicate 2 others
 
+-- two units with a reserve of 1 MJ each, the second below it; the first holds so much
+abbrev pub spent : ℕ → Fleet
+spent first = fleetOf (replicate 2 10000000) (replicate 2 1000000) (first ∷ 400000 ∷ []) (replicate 2 1000000) (replicate 2 1)
+
 -- ---- files: a fleet of one unit and its settings, 76 bytes; a missing reading; a power of a quiet NaN; an end field
 unfoldable pub opening : List ℕ
 unfolding bytesOf
@@ -64,6 +68,9 @@ further =
     ∷ row (pass (set 1 (pos 1000) 20 1000) (pos 1707) (seven 1000001) (replicate 7 (pos 500))) (values (pos 707 ∷ pos 1 ∷ sixOf (pos 601) (pos 601)))
     ∷ row (pass (set 3 (pos 1000) 20 1000) (pos 293) (seven 10000000) (replicate 7 (negℤ (pos 500)))) (values (negℤ (pos 707) ∷ pos 1 ∷ sixOf (negℤ (pos 601)) (pos 0)))
     ∷ row (pass (set 3 (pos 1000) 20 1000) (pos 293) (seven 9999999) (replicate 7 (negℤ (pos 500)))) (values (negℤ (pos 707) ∷ pos 1 ∷ sixOf (negℤ (pos 601)) (negℤ (pos 601))))
+    -- P4: two units that together hold no more than their reserves are asked nothing, though the first could give; with a joule more it is asked
+    ∷ row (pass (set 1 (pos 0) 20 1000) (pos 5000) (spent 1600000) (pos 500 ∷ pos 0 ∷ [])) (values (pos 5000 ∷ pos 1 ∷ replicate 2 (pos 0)))
+    ∷ row (pass (set 1 (pos 0) 20 1000) (pos 5000) (spent 1600001) (pos 500 ∷ pos 0 ∷ [])) (values (pos 5000 ∷ pos 1 ∷ pos 3000 ∷ pos 0 ∷ []))
     -- P5 comes first: within the band the fifth keeps what it was asked
     ∷ row (pass (set 1 (pos 1000) 20 1000) (pos 1010) (seven 0) (replicate 7 (pos 500))) (values (pos 10 ∷ pos 0 ∷ replicate 7 (pos 500)))
     -- S16: in a study the fifth stays at 0

@@ -83,7 +83,7 @@ voltages =
     ∷ row (varsIn threeSteps 0) (bytes 4 0)
     ∷ row (varsIn threeSteps 1) (bytes 4 250)
     ∷ row (varsIn threeSteps 2) (bytes 4 250)
-    -- F4 and Q50 to Q53: a voltage without a function, twice, above 20,000, before the weather, without a reading; a second function; a base of 2; x that do not rise
+    -- F4 and Q50 to Q53: a voltage without a function, twice, above 20,000, without a reading; a second function; a base of 2; x that do not rise
     ∷ row (check (lone ++ volts 9500)) (refusedAt 4 76 0)
     ∷ row (check (lone ++ function 0 ++ volts 9500 ++ volts 9500)) (refusedAt 4 217 0)
     ∷ row (check (lone ++ function 0 ++ volts 20001)) (refusedAt 5 212 0)
