@@ -1,8 +1,9 @@
-# make test is the gate; make sample runs a season; make bench times the library beside ordinary Rust.
+# make test is the gate; make sample runs a season; make bench times the library beside ordinary Rust; make fuzz holds it
+# to the reference over inputs that it makes.
 
 export CARGO_TARGET_DIR := $(CURDIR)/build/reference
 
-.PHONY: test sample bench cases examples clean
+.PHONY: test sample bench fuzz cases examples clean
 
 test:
 	@tools/gate.sh
@@ -20,6 +21,13 @@ sample: target/staticlib/libyesbrulka.a
 # The times of the check and of the run beside ordinary Rust; no part of the gate.
 bench: target/staticlib/libyesbrulka.a
 	@tools/bench.sh
+
+# So many seconds of inputs from a seed, each tried with the archive and with the reference; no part of the gate.
+SECONDS := 60
+SEED := 1
+
+fuzz: target/staticlib/libyesbrulka.a
+	@tools/fuzz.sh $(SECONDS) $(SEED)
 
 target/staticlib/libyesbrulka.a: crates.txt $(shell find crates -type f)
 	rt staticlib yesbrulka
