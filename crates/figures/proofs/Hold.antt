@@ -12,6 +12,7 @@ use Rattle.figures.specs.Limits.{limits}
 use Rattle.figures.specs.Currents.{currents}
 use Rattle.figures.specs.Voltages.{voltages}
 use Rattle.figures.specs.Partners.{partners}
+use Rattle.figures.specs.Calls.{mended, rescues, unsaved, calls}
 
 abbrev all : List Row
 all = table ++ further ++ roofs ++ limits ++ currents ++ voltages
@@ -24,3 +25,20 @@ figures-hold = refl
 pub partners-hold : map (λ (r : Row). r .given) partners ≡ map (λ (r : Row). r .stated) partners
 unfolding partners ofBits toBits div ofInt wattsOf choiceOf
 partners-hold = refl
+
+-- and those about rescues, questions to a file, and states
+pub mended-hold : map (λ (r : Row). r .given) mended ≡ map (λ (r : Row). r .stated) mended
+unfolding mended ofBits toBits div ofInt wattsOf choiceOf
+mended-hold = refl
+
+pub rescues-hold : map (λ (r : Row). r .given) rescues ≡ map (λ (r : Row). r .stated) rescues
+unfolding rescues ofBits toBits div ofInt wattsOf choiceOf
+rescues-hold = refl
+
+pub unsaved-hold : map (λ (r : Row). r .given) unsaved ≡ map (λ (r : Row). r .stated) unsaved
+unfolding unsaved ofBits toBits div ofInt wattsOf choiceOf
+unsaved-hold = refl
+
+pub calls-hold : map (λ (r : Row). r .given) calls ≡ map (λ (r : Row). r .stated) calls
+unfolding calls ofBits toBits div ofInt wattsOf choiceOf
+calls-hold = refl

@@ -7,3 +7,4 @@ pub mod Limits
 pub mod Currents
 pub mod Voltages
 pub mod Partners
+pub mod Calls
