@@ -43,6 +43,41 @@ enum {
     YB_TOO_MANY = 12 /* the file is longer than 2,097,152 bytes, or has a step after its 65,535th */
 };
 
+/* What a refusal is called, in a few words that can stand in a line: the same in every program. Any other number, 0
+** among them, is an unknown refusal.
+*/
+static inline const char *yb_refusal_words(uint32_t number)
+{
+    switch (number) {
+    case YB_CUT_SHORT:
+        return "field cut short";
+    case YB_UNKNOWN_TAG:
+        return "unknown tag";
+    case YB_WRONG_LENGTH:
+        return "wrong length";
+    case YB_OUT_OF_ORDER:
+        return "field out of order";
+    case YB_OUT_OF_RANGE:
+        return "value out of range";
+    case YB_NOT_USABLE:
+        return "reading not usable";
+    case YB_WRONG_COUNT:
+        return "wrong step count";
+    case YB_END_MISSING:
+        return "end field missing";
+    case YB_AFTER_END:
+        return "bytes after the end";
+    case YB_DOES_NOT_FIT:
+        return "does not fit";
+    case YB_ROOM_TOO_SHORT:
+        return "room too short";
+    case YB_TOO_MANY:
+        return "too many bytes or steps";
+    default:
+        return "unknown refusal";
+    }
+}
+
 /* The modes of the controller. The first three go by watts; the last two are the first and the third by current. */
 enum { YB_PEAK_SHAVE = 1, YB_SUPPORT = 2, YB_PEAK_SHAVE_LOW = 3, YB_I_PEAK_SHAVE = 4, YB_I_PEAK_SHAVE_LOW = 5 };
 
@@ -56,8 +91,14 @@ enum {
     YB_PHASE_SMALLEST = 5
 };
 
-/* What a unit gives first where its kVA rating does not hold both. */
+/* What a unit or an inverter gives first where its kVA rating does not hold both. */
 enum { YB_WATTS_FIRST = 0, YB_VARS_FIRST = 1 };
+
+/* The base of a function, of which its curve gives parts: the kVA rating, or what the watts leave of it. */
+enum { YB_BASE_KVA = 0, YB_BASE_LEFT = 1 };
+
+/* The phases that a unit's connection has; there may be no other number of them. */
+enum { YB_ONE_PHASE = 1, YB_THREE_PHASES = 3 };
 
 /* The most that there can be of units in a fleet, of inverters on a site, and of steps and bytes in a file. A fleet has
 ** at least one unit; a site may have no inverter.
@@ -82,7 +123,12 @@ enum {
     YB_MOST_FACTOR = 1000, /* thousandths, from 1 */
     YB_MOST_MEASURE = 300000000, /* W, with a sign; mA, from 0 */
     YB_MOST_VOLTS = 40000, /* of a connection, from 1 */
-    YB_MOST_BUDGET = 10000 /* passes of a study, from 1 */
+    YB_MOST_BUDGET = 10000, /* passes of a study, from 1 */
+    YB_MOST_EDITION = 3, /* of a file, from 1 */
+    YB_MOST_PARTS = 10000, /* in 10,000, from 0: cut-in, limit, y of an efficiency curve; y of a volt-var one, signed */
+    YB_MOST_ARRAY_PARTS = 20000, /* in 10,000, from 0: y of a temperature curve */
+    YB_MOST_VOLTAGE = 20000, /* ten-thousandths of per unit, from 0: of a step, and x of a volt-var curve */
+    YB_MOST_THOUSANDTHS = 100000000 /* of irradiance, from 0; of temperature, signed; x of an inverter's curves */
 };
 #define YB_MOST_RATED UINT64_C(10000000000000) /* J, from 1 */
 
@@ -181,6 +227,51 @@ uint32_t yb_connection(const uint8_t *file, size_t file_len, uint32_t unit, uint
 */
 uint64_t yb_run_room(const uint8_t *file, size_t file_len);
 uint32_t yb_run(const uint8_t *file, size_t file_len, uint8_t *room, size_t room_len);
+
+/* Where each figure of a season stands in the list that yb_peaks fills, and how many there are. Steps are counted from
+** 0; where a figure has a step, it is the first that has it.
+*/
+enum {
+    YB_FIGURE_STEPS = 0, /* the steps */
+    YB_FIGURE_MISSING = 1, /* those whose reading is missing; the others have a measure */
+    YB_FIGURE_LEAST = 2, /* the smallest measure, W or in modes 4 and 5 mA */
+    YB_FIGURE_LEAST_STEP = 3,
+    YB_FIGURE_MOST = 4, /* the largest measure, W or mA */
+    YB_FIGURE_MOST_STEP = 5,
+    YB_FIGURE_OUTSIDE = 6, /* the steps that are outside by their measure */
+    YB_FIGURE_NET_LEAST = 7, /* the smallest net measure, W; this and the next four are 0 in modes 4 and 5 */
+    YB_FIGURE_NET_LEAST_STEP = 8,
+    YB_FIGURE_NET_MOST = 9, /* the largest net measure, W */
+    YB_FIGURE_NET_MOST_STEP = 10,
+    YB_FIGURE_NET_OUTSIDE = 11, /* the steps that are outside by their net measure */
+    YB_FIGURE_STORE = 12, /* the least that all units together hold after a step, J */
+    YB_FIGURE_STORE_STEP = 13,
+    YB_FIGURE_LOSS_MJ = 14, /* the loss of all units in all steps, whole megajoules (1,000,000 J) */
+    YB_FIGURE_LOSS_J = 15, /* and the joules beyond them, 0 to 999,999 */
+    YB_FIGURE_NOT_MET = 16, /* the steps in which some unit's request is not met */
+    YB_FIGURES = 17
+};
+
+/* Tell the figures of a season: what a co-operative signs for, of a complete file and of a target that takes the place
+** of the file's own. No room for a result is needed.
+**
+** The run is that of yb_run, with target in place of the file's target. The measure of a step is what the controller
+** sees of its reading. Its net measure is the measure less what all units together give in that step: what the meter
+** would have shown with the fleet at work, if the log was taken without it. A step is outside by either, if it is beyond
+** the target in the direction that the mode works against, and the distance doubled exceeds the band: above the target
+** in modes 1 and 4, below it in modes 3 and 5; in mode 2 measure and target together are above 0. A request is not met
+** if it is not 0 and the unit's inverter gives or takes another power. Where no step has a measure, the figures of the
+** measures are 0, and so are those of the store without any step.
+**
+** figures has YB_FIGURES elements; target is -100,000,000 to 100,000,000 W, or in modes 4 and 5 mA.
+**
+** Returns 0, or the first of these that holds:
+**     the number of yb_check
+**    10  figures has not YB_FIGURES elements
+**     5  target is outside its range
+** figures is written only when 0 is returned.
+*/
+uint32_t yb_peaks(const uint8_t *file, size_t file_len, int32_t target, int64_t *figures, size_t figures_len);
 
 /* Convert a phase power from kW to whole watts.
 **

@@ -25,6 +25,7 @@ NAMED = {
     "lead": ["lead-law"],
     "mirror": ["mirrored"],
     "partner": ["verdict-law"],
+    "peaks": ["peaks-law"],
     "reading": ["nearest-proved"],
     "rescued": ["rescue-law"],
     "season": ["run-law"],
@@ -257,7 +258,7 @@ use Rattle.figures.specs.Rows.{{row}}
     text += f"use Rattle.figures.specs.{name}.{{{', '.join(lists)}}}\n"
     for listed, count in lists.items():
         text += f"\nall-{listed} : length {listed} ≡ {count}\nunfolding {listed}\nall-{listed} = refl\n"
-        more = "ofBits " if name in ("Partners", "Calls") else ""
+        more = "ofBits " if name in ("Partners", "Calls", "Seasons") else ""
         for i in range(count):
             law = f"row-{listed}-{i + 1}"
             text += f"\n{law} : getD {listed} {i} (row [] []) .given ≡ getD {listed} {i} (row [] []) .stated\n"

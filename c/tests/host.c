@@ -599,6 +599,23 @@ static void call_run(const uint8_t *payload, size_t length)
     }
 }
 
+/* 'G': any number of seasons. Each is target i32, the length of the list of figures u32, what it holds, i64, and the
+** file; for each the number u32; 1 if the file or a guard was written, u8; and the list.
+*/
+static void call_peaks(const uint8_t *payload, size_t length)
+{
+    struct rest rest = {payload, length, "op G: the payload is no row of targets, lists and files"};
+    while (rest.length != 0) {
+        int32_t target = (int32_t)take_number(&rest, 4);
+        size_t n = take_number(&rest, 4);
+        int64_t *figures = lend(&lent_list, take(&rest, n * sizeof *figures), n * sizeof *figures);
+        const uint8_t *file = take_file(&rest);
+        put(yb_peaks(file, lent_file.length, target, figures, n), 4);
+        put((uint64_t)(disturbed_one(&lent_file, 1) || disturbed_one(&lent_list, 0)), 1);
+        put_bytes((const uint8_t *)figures, lent_list.length);
+    }
+}
+
 /* The state that a row of calls begins with: its length u32, a fill u8, the number of its pieces u32, and of each piece
 ** its place and its length, u32, and its bytes. What is in no piece is the fill.
 */
@@ -782,6 +799,7 @@ static const struct {
     {'N', call_connection},
     {'Y', call_study},
     {'R', call_run},
+    {'G', call_peaks},
     {'E', call_feed},
     {'H', call_rescue},
     {'J', call_partner},

@@ -3,11 +3,12 @@
 **
 ** A file that begins like a run file is complete, with the units that its fleet says, with a step for each field of
 ** the tags 04 and 05, and with as many inverters as the highest byte of its seconds says, which is no part of the
-** seconds here; its units are all alike, and its run is a row of numbers. Steps of 0 to 13 seconds are for answers that
+** seconds here; its units are all alike, and its run is a row of numbers. Steps of 0 to 14 seconds are for answers that
 ** the library never gives: such a step itself, a room of another size, a run that is refused, a power that is none,
 ** settings that are refused, a last unit that is refused, an inverter's power that is none, one above that of its
 ** array, var limits of the last unit that are refused, a draw that is larger than that of any unit, a room larger than
-** any, more bytes written than there is room for, a place beyond what was fed, and an end of eight bytes.
+** any, more bytes written than there is room for, a place beyond what was fed, an end of eight bytes, and a connection
+** of the first unit alone.
 **
 ** Any other file is read as seven decimal numbers with blanks between them, and these are the answers, in this
 ** order: the refusal's number, place and steps, the start and the length of the value part, the units, and the
@@ -21,6 +22,10 @@
 **
 ** A result is compared with the row of numbers, or where the variable CANNED_PARTNER is set the answers are its
 ** numbers: the refusal's, or 0, the verdict, the start and the length of what is shown.
+**
+** The figures of a season have its steps, a smallest measure of -5 and a largest one of 1,000, and else 0, or where the
+** variable CANNED_PEAKS is set they are its numbers, the refusal's or 0 before them. A stick of one step, as a table
+** asks for its measures, goes by CANNED_MEASURE.
 */
 #include <stdlib.h>
 #include <string.h>
@@ -125,6 +130,17 @@ uint32_t yb_var_limits(const uint8_t *file, size_t file_len, uint32_t unit, uint
         return 10;
     *provide = 1;
     *absorb = 0;
+    return 0;
+}
+
+uint32_t yb_connection(const uint8_t *file, size_t file_len, uint32_t unit, uint8_t *phases, uint16_t *volts)
+{
+    if (unit >= yb_units(file, file_len))
+        return 10;
+    if (unit != 0 && yb_seconds(file, file_len) == 14)
+        return 10;
+    *phases = 1;
+    *volts = 230;
     return 0;
 }
 
@@ -426,6 +442,21 @@ uint32_t yb_partner(const uint8_t *run, size_t run_len, const uint8_t *result, s
         *start = 0;
     free(ours);
     return 0;
+}
+
+uint32_t yb_peaks(const uint8_t *file, size_t file_len, int32_t target, int64_t *figures, size_t figures_len)
+{
+    const char *variable = steps_in(file, file_len) == 1 ? "CANNED_MEASURE" : "CANNED_PEAKS";
+    (void)target;
+    if (figures_len != YB_FIGURES)
+        return 10;
+    memset(figures, 0, YB_FIGURES * sizeof *figures);
+    figures[YB_FIGURE_STEPS] = steps_in(file, file_len);
+    figures[YB_FIGURE_LEAST] = -5;
+    figures[YB_FIGURE_MOST] = 1000;
+    for (uint64_t i = 0; i < YB_FIGURES && getenv(variable) != NULL; i++)
+        figures[i] = (int64_t)told(variable, i + 1);
+    return (uint32_t)told(variable, 0);
 }
 
 uint32_t yb_watts(double kw, int32_t *watts)

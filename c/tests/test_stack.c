@@ -36,6 +36,7 @@ static uint16_t weight[UNITS];
 static int32_t requests[UNITS];
 static uint8_t phases[UNITS];
 static uint16_t volts[UNITS];
+static int64_t figures[YB_FIGURES];
 static unsigned wrong;
 
 static void expect(uint64_t got, uint64_t expected)
@@ -542,6 +543,56 @@ static void call_led_run(void)
     put_file(1);
 }
 
+/* The figures of a complete file for its own target and for the ends of the range, and refused in every way. */
+static void expect_peaks(size_t len)
+{
+    static const int32_t targets[] = {10000, -YB_MOST_POWER, YB_MOST_POWER};
+    for (int i = 0; i < 3; i++) {
+        expect(yb_peaks(file, len, targets[i], figures, YB_FIGURES), 0);
+        expect((uint64_t)figures[YB_FIGURE_STEPS], STEPS);
+    }
+    expect(yb_peaks(file, len, YB_MOST_POWER + 1, figures, YB_FIGURES), 5);
+    expect(yb_peaks(file, len, 10000, figures, YB_FIGURES - 1), 10);
+    expect(yb_peaks(file, len - 8, 10000, figures, YB_FIGURES), 1);
+    expect(yb_peaks(file, TOO_LONG, 10000, figures, YB_FIGURES), 12);
+}
+
+/* In every mode by watts. */
+static void call_peaks(void)
+{
+    for (uint8_t mode = 1; mode <= 3; mode++) {
+        put_file(mode);
+        expect_peaks(FILE_LEN);
+    }
+    put_file(1);
+}
+
+static void call_older_peaks(void)
+{
+    put_edition(3, 1);
+    expect_peaks(LIMITED_LEN);
+    put_file(1);
+}
+
+static void call_current_peaks(void)
+{
+    for (uint8_t mode = 4; mode <= 5; mode++) {
+        put_current(mode);
+        expect_peaks(CURRENT_LEN);
+    }
+    put_file(1);
+}
+
+/* With 64 inverters, led by a voltage, by either base. */
+static void call_led_peaks(void)
+{
+    for (uint8_t base = 0; base <= 1; base++) {
+        put_led_file(1, base);
+        expect_peaks(LED_LEN);
+    }
+    put_file(1);
+}
+
 /* Feeds the first bytes of the file in chunks of a length, each in a room one short first; gives the last number. */
 static uint32_t feed_file(size_t len, size_t chunk_len)
 {
@@ -880,6 +931,10 @@ static const struct {
     {"yb_run by current", call_current_run},
     {"yb_run with 64 inverters", call_roof_run},
     {"yb_run with 64 inverters, led by a voltage", call_led_run},
+    {"yb_peaks", call_peaks},
+    {"yb_peaks in edition 3", call_older_peaks},
+    {"yb_peaks by current", call_current_peaks},
+    {"yb_peaks with 64 inverters, led by a voltage", call_led_peaks},
     {"yb_feed and the calls beside it, in edition 3", call_feed},
     {"yb_feed and the calls beside it, with 64 inverters", call_roof_feed},
     {"yb_feed and the calls beside it, led by a voltage", call_led_feed},

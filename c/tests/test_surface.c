@@ -84,9 +84,9 @@ int spilled(const struct pages *pages, size_t used, uint8_t fill)
 }
 
 static const struct test *const parts[] = {
-    header_tests, check_tests, value_tests, told_tests, run_tests, feed_tests, rescue_tests, partner_tests, watts_tests,
-    pass_tests, current_tests, settle_tests, study_tests, fleet_tests, step_tests, roof_tests, solar_tests, curve_tests,
-    voltage_tests,
+    header_tests, check_tests, value_tests, told_tests, run_tests, feed_tests, rescue_tests, partner_tests, peaks_tests,
+    watts_tests, pass_tests, current_tests, settle_tests, study_tests, fleet_tests, step_tests, roof_tests, solar_tests,
+    curve_tests, voltage_tests,
 };
 
 int main(void)

@@ -14,8 +14,8 @@ struct test {
 
 /* The tests of the parts, each list up to one without a name. */
 extern const struct test header_tests[], check_tests[], value_tests[], told_tests[], run_tests[], feed_tests[],
-    rescue_tests[], partner_tests[], watts_tests[], pass_tests[], current_tests[], settle_tests[], study_tests[],
-    fleet_tests[], step_tests[], roof_tests[], solar_tests[], curve_tests[], voltage_tests[];
+    rescue_tests[], partner_tests[], peaks_tests[], watts_tests[], pass_tests[], current_tests[], settle_tests[],
+    study_tests[], fleet_tests[], step_tests[], roof_tests[], solar_tests[], curve_tests[], voltage_tests[];
 
 /* Wrong checks of the test that is running. */
 extern unsigned long wrong;

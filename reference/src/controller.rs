@@ -47,7 +47,7 @@ impl Settings {
     }
 
     /// Rule 1: the need in the unit of the measure.
-    fn plain_need(&self, measure: i64) -> i64 {
+    pub fn plain_need(&self, measure: i64) -> i64 {
         let target = i64::from(self.target);
         if self.mode == 2 {
             measure + target

@@ -11,6 +11,7 @@ pub mod feed;
 pub mod natural;
 pub mod octets;
 pub mod partner;
+pub mod peaks;
 pub mod ranges;
 pub mod reading;
 pub mod rescue;

@@ -156,21 +156,24 @@ fn step_inverter(site: &Site, standing: &mut Standing, i: usize, around: Around)
     (produced, vars)
 }
 
-/// All steps of a run that an accepted file says. Requests start at zero and inverters start off.
+/// The steps of a run that an accepted file says, in order. Requests start at zero and inverters start off.
 ///
 /// # Panics
 ///
 /// If a value is outside its range, which no accepted file's is.
-pub fn steps(run: &Run) -> Vec<Step> {
+pub fn each_step(run: &Run) -> impl Iterator<Item = Step> + '_ {
     let mut standing = Standing::at_first(&run.site);
-    let mut steps = Vec::new();
-    for (number, reading) in run.readings.iter().enumerate() {
+    run.readings.iter().enumerate().map(move |(number, reading)| {
         let weather = run.weather_of(number);
         let sun = weather.map_or(DARK, |weather| weather.converted().expect("an accepted weather converts"));
         let around = Around { sun, voltage: run.voltage_of(number) };
-        steps.push(step(&run.site, &mut standing, number as u32, reading, around));
-    }
-    steps
+        step(&run.site, &mut standing, number as u32, reading, around)
+    })
+}
+
+/// All of them.
+pub fn steps(run: &Run) -> Vec<Step> {
+    each_step(run).collect()
 }
 
 fn put_record(result: &mut Vec<u8>, record: &Record) {

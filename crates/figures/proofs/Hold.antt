@@ -1,5 +1,5 @@
 -- Every row is as it is stated: the definitions compute it. Assumes nothing.
-use mathlib.Core.List.{List, _++_, map}
+use mathlib.Core.List.{List, map}
 use mathlib.Core.Path.{_≡_, refl}
 use lib.Ieee.{ofBits, toBits, div, ofInt}
 use Rattle.reading.specs.Conversion.{wattsOf}
@@ -13,32 +13,60 @@ use Rattle.figures.specs.Currents.{currents}
 use Rattle.figures.specs.Voltages.{voltages}
 use Rattle.figures.specs.Partners.{partners}
 use Rattle.figures.specs.Calls.{mended, rescues, unsaved, calls}
+use Rattle.figures.specs.Seasons.{seasons}
 
-abbrev all : List Row
-all = table ++ further ++ roofs ++ limits ++ currents ++ voltages
+-- the rows of a list
+abbrev Hold : List Row → Type 0
+Hold rows = map (λ (r : Row). r .given) rows ≡ map (λ (r : Row). r .stated) rows
 
-pub figures-hold : map (λ (r : Row). r .given) all ≡ map (λ (r : Row). r .stated) all
-unfolding table further roofs limits currents voltages toBits div ofInt wattsOf choiceOf
-figures-hold = refl
+-- those of the figures, and those that pin what no figure does
+pub table-hold : Hold table
+unfolding table toBits div ofInt wattsOf choiceOf
+table-hold = refl
+
+pub further-hold : Hold further
+unfolding further toBits div ofInt wattsOf choiceOf
+further-hold = refl
+
+pub roofs-hold : Hold roofs
+unfolding roofs toBits div ofInt wattsOf choiceOf
+roofs-hold = refl
+
+pub limits-hold : Hold limits
+unfolding limits toBits div ofInt wattsOf choiceOf
+limits-hold = refl
+
+pub currents-hold : Hold currents
+unfolding currents toBits div ofInt wattsOf choiceOf
+currents-hold = refl
+
+pub voltages-hold : Hold voltages
+unfolding voltages toBits div ofInt wattsOf choiceOf
+voltages-hold = refl
 
 -- and those about a partner's result, each of which is a check and a run of its own
-pub partners-hold : map (λ (r : Row). r .given) partners ≡ map (λ (r : Row). r .stated) partners
+pub partners-hold : Hold partners
 unfolding partners ofBits toBits div ofInt wattsOf choiceOf
 partners-hold = refl
 
 -- and those about rescues, questions to a file, and states
-pub mended-hold : map (λ (r : Row). r .given) mended ≡ map (λ (r : Row). r .stated) mended
+pub mended-hold : Hold mended
 unfolding mended ofBits toBits div ofInt wattsOf choiceOf
 mended-hold = refl
 
-pub rescues-hold : map (λ (r : Row). r .given) rescues ≡ map (λ (r : Row). r .stated) rescues
+pub rescues-hold : Hold rescues
 unfolding rescues ofBits toBits div ofInt wattsOf choiceOf
 rescues-hold = refl
 
-pub unsaved-hold : map (λ (r : Row). r .given) unsaved ≡ map (λ (r : Row). r .stated) unsaved
+pub unsaved-hold : Hold unsaved
 unfolding unsaved ofBits toBits div ofInt wattsOf choiceOf
 unsaved-hold = refl
 
-pub calls-hold : map (λ (r : Row). r .given) calls ≡ map (λ (r : Row). r .stated) calls
+pub calls-hold : Hold calls
 unfolding calls ofBits toBits div ofInt wattsOf choiceOf
 calls-hold = refl
+
+-- and those about the figures of a season
+pub seasons-hold : Hold seasons
+unfolding seasons ofBits toBits div ofInt wattsOf choiceOf
+seasons-hold = refl

@@ -8,3 +8,4 @@ pub mod Currents
 pub mod Voltages
 pub mod Partners
 pub mod Calls
+pub mod Seasons

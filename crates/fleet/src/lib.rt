@@ -8,8 +8,11 @@ use lead::Lead;
 use members::Totals;
 use reading::Reading;
 use site::Head;
+pub use steps::ask;
+pub use steps::measured;
 pub use steps::step;
 pub use units::framed;
+pub use units::give;
 pub use units::start;
 
 // What no step changes beside the units: what the file says, and the sums over the fleet.

@@ -14,7 +14,7 @@ use reading::Reading;
 use records::RECORD_BYTES;
 
 // The measure of a reading; none of a missing one.
-fn measured(r: Reading, phase: u8) -> Measure
+pub fn measured(r: Reading, phase: u8) -> Measure
     ensures { λ m. ⌜ m ≡ measuredBy r phase ⌝ }
 {
     match r {
@@ -25,7 +25,7 @@ fn measured(r: Reading, phase: u8) -> Measure
 }
 
 // The requests after a reading: one pass, and none if the reading is missing.
-fn ask(f: Frame, rows: &[[u64; 19]], r: Reading, stored: &[u64], requests: &mut [i32])
+pub fn ask(f: Frame, rows: &[[u64; 19]], r: Reading, stored: &[u64], requests: &mut [i32])
     requires { ⌜ Ready f (now rows) ⌝ }
     requires { ⌜ length (now stored) ≡ count (siteIn f (now rows)) ⌝ }
     requires { ⌜ length (now requests) ≡ count (siteIn f (now rows)) ⌝ }

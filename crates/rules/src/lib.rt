@@ -12,6 +12,7 @@ pub use rules::in_own_state;
 pub use rules::no_call;
 pub use rules::own_band;
 pub use rules::own_need;
+pub use rules::plain_need;
 pub use rules::reported;
 pub use rules::request_after;
 pub use rules::share;

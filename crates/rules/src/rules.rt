@@ -16,7 +16,7 @@ pub fn charges(mode: u8) -> bool
 }
 
 // P1: measure less target, or in mode 2 measure and target.
-fn plain_need(s: Settings, measure: i64) -> i64
+pub fn plain_need(s: Settings, measure: i64) -> i64
     requires { ⌜ natAbs measure ≤ 200000000000 ⌝ }
     ensures { λ r. ⌜ r ≡ plainNeed s measure ⌝ }
 {

@@ -1,4 +1,4 @@
--- What a C caller sees of a call (rules C1 to C32): the number that is returned, and each lent number afterwards, which is what the call gives or, on a
+-- What a C caller sees of a call (rules C1 to C33): the number that is returned, and each lent number afterwards, which is what the call gives or, on a
 -- refusal, what it held.
 use Prim.Native.Nat.{ℕ}
 use mathlib.Core.Bool.{Bool, cond}
@@ -8,7 +8,7 @@ use lib.Ieee.{Float}
 use lib.IntN.{ℤ}
 use denote.Ref.{RefT, now}
 use denote.Triple.Both.{Both}
-use Rattle.whole.specs.Call.{Call, numberOf, heldAfter}
+use Rattle.whole.specs.Call.{Call, Gave, Refused, numberOf, heldAfter}
 use Rattle.unit.specs.declared.Unit.{Unit}
 use Rattle.rules.specs.declared.Settings.{Settings}
 use Rattle.controller.specs.declared.Passed.{Passed}
@@ -29,8 +29,12 @@ use Rattle.storage.specs.Step.{steppedAs}
 use Rattle.site.specs.declared.Head.{Head}
 use Rattle.partner.specs.declared.Verdict.{Verdict}
 use Rattle.partner.specs.Verdict.{partnerAnswer, partnerCall}
+use Rattle.tally.specs.declared.Figures.{Figures}
+use Rattle.peaks.specs.declared.PeaksAnswer.{PeaksAnswer}
+use Rattle.peaks.specs.declared.PeaksAnswer.the-variants.{Told, Untold}
+use Rattle.peaks.specs.Answers.{peaksAnswer}
 use Rattle.ask.specs.declared.Connection.{Connection}
-use Rattle.ask.specs.Says.{headAnswer, headCall, unitAnswer, unitCall, connectionAnswer, connectionCall}
+use Rattle.ask.specs.Says.{refusalOver, headAnswer, headCall, unitAnswer, unitCall, connectionAnswer, connectionCall}
 
 -- a flag as a lent byte
 abbrev pub flag : Bool → ℕ
@@ -156,3 +160,11 @@ connectionTold file i = connectionCall file (connectionAnswer file i)
 -- yb_partner
 abbrev pub partnerTold : List ℕ → List ℕ → Call Verdict
 partnerTold run result = partnerCall (partnerAnswer run result)
+
+-- yb_peaks
+abbrev pub peaksCall : List ℕ → PeaksAnswer → Call Figures
+peaksCall file (Told f) = Gave f
+peaksCall file (Untold n) = Refused (refusalOver file n)
+
+abbrev pub peaksTold : List ℕ → ℤ → ℕ → Call Figures
+peaksTold file target len = peaksCall file (peaksAnswer file target len)

@@ -10,6 +10,7 @@ use crate::lent::{pointers, Lent, Out, Plain};
 use crate::passes::study_outs;
 use crate::surface::*;
 use yesbrulka_reference::partner::{Ours, Shown};
+use yesbrulka_reference::peaks::{self, FIGURES};
 use yesbrulka_reference::rescue::{self, Rescued};
 use yesbrulka_reference::samples::{older, sticks, Draw};
 use yesbrulka_reference::season;
@@ -54,6 +55,7 @@ impl Case for FileCase {
         compare_values(file, answer, draw, to)?;
         compare_site(file, draw, to)?;
         compare_run(file, draw, to)?;
+        compare_peaks(file, draw, to)?;
         compare_rescue(file, draw, to)?;
         compare_partner(file, draw, to)?;
         // The reference takes ten times as long over a fed file as over all the rest.
@@ -276,6 +278,30 @@ fn compare_run(file: &Lent<u8>, draw: &mut Draw, to: &mut Compare) -> Outcome {
         let outcome = to.same("yb_run", (number, kept), (due, true));
         let outcome = outcome.and_then(|()| to.also_bytes("yb_run", "the room", lent.list(), &expected));
         lending(outcome, || format!("a room of {length} bytes"))?;
+    }
+    Ok(())
+}
+
+/// For the file's own target, one near it, and one at an end of the range, outside it or any; for the most part in a
+/// list that fits.
+fn compare_peaks(file: &Lent<u8>, draw: &mut Draw, to: &mut Compare) -> Outcome {
+    let own = site::of(file.list()).map_or(0, |site| site.settings.target);
+    let near = own / 2 + draw.below(2_000) as i32;
+    let any = draw.within(0, 200_000_000) as i32 - 100_000_000;
+    let bits = draw.any() as i32;
+    let ends = [any, any, bits, -100_000_000, 100_000_000, -100_000_001, 100_000_001, i32::MIN, i32::MAX];
+    let more = draw.below(40) as usize;
+    for target in [own, near, draw.one_of(&ends)] {
+        let length = draw.one_of(&[FIGURES, FIGURES, FIGURES, FIGURES, FIGURES - 1, FIGURES + 1, 0, more]);
+        let before: Vec<i64> = (0..length).map(|_| draw.any() as i64).collect();
+        let mut lent = Lent::of(&before);
+        let number = unsafe { yb_peaks(file.ptr(), file.len(), target, lent.mut_ptr(), lent.len()) };
+        let said = peaks::peaks(file.list(), target, length);
+        let expected = said.map_or(before, |figures| figures.to_vec());
+        let kept = file.kept() && lent.guarded();
+        let outcome = to.same("yb_peaks", (number, kept), (number_of(&said), true));
+        let outcome = outcome.and_then(|()| to.also("yb_peaks", lent.list(), &expected));
+        lending(outcome, || format!("target {target}, a list of {length}"))?;
     }
     Ok(())
 }

@@ -51,6 +51,13 @@ extern "C" {
     ) -> u32;
     pub fn yb_run_room(file: *const u8, file_len: usize) -> u64;
     pub fn yb_run(file: *const u8, file_len: usize, room: *mut u8, room_len: usize) -> u32;
+    pub fn yb_peaks(
+        file: *const u8,
+        file_len: usize,
+        target: i32,
+        figures: *mut i64,
+        figures_len: usize,
+    ) -> u32;
     pub fn yb_watts(kw: f64, watts: *mut i32) -> u32;
     pub fn yb_pass(
         mode: u8,

@@ -1,0 +1,3 @@
+-- The figures of some steps.
+pub mod Tally
+pub mod Posts

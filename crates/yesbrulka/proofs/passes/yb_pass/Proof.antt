@@ -1,0 +1,76 @@
+-- The library's answer decides the number, and only what it reports is stored.
+use mathlib.Core.List.{List}
+use lib.IntN.{ℤ}
+use borrow.Author.Needs.{needs}
+use Rattle.rules.specs.declared.Settings.{Settings}
+use Rattle.members.specs.Ranges.{Fleet, fleetOf}
+use Rattle.controller.specs.declared.PassAnswer.{PassAnswer}
+use Rattle.controller.specs.Answers.{passAnswer, passLeaves}
+use Rattle.yesbrulka.proofs.CallLaws.{pass-done, pass-refused}
+use Rattle.yesbrulka.proofs.passes.yb_pass.Statement.{statement}
+use Rattle.yesbrulka.proofs.passes.yb_pass.Tie as tie
+
+-- the start, from the place after the pass
+abbrev start : tie.After-pass → tie.Start
+start p = p .before .before .before .before .before .before .before
+
+abbrev fleet : tie.Start → Fleet
+fleet k = let a = k .args in fleetOf (a .rated .now) (a .reserve .now) (a .stored .now) (a .rating .now) (a .weight .now)
+
+abbrev answer : tie.Start → Settings → ℤ → PassAnswer
+answer k s m = passAnswer s m (fleet k) (k .args .requests .now)
+
+abbrev leaves : tie.Start → Settings → ℤ → List ℤ
+leaves k s m = passLeaves s m (fleet k) (k .args .requests .now)
+
+pass-requires : tie.Need-pass-requires
+pass-requires c κs = search needs
+
+enum-known-p : tie.Need-enum-known-p
+enum-known-p c = search needs
+
+cast-changed : tie.Need-cast-changed
+cast-changed c = search needs
+
+enum-known-n : tie.Need-enum-known-n
+enum-known-n c = search needs
+
+cast-result : tie.Need-cast-result
+cast-result c = search needs
+
+same-length : tie.Need-same-length
+same-length c = search needs
+
+returns : tie.Need-returns
+returns c =
+    let t = c .before in
+    let q = t .before .before in
+    let p = q .before .before .before in
+    let s = start p in
+    let a = s .args in
+    pass-done (answer s) (leaves s) (a .mode) (a .target) (a .band) (a .factor) (a .measure) (s .fits .target .sfits) (s .fits .measure .sfits) (p .pass .result) (p .pass .last .1 .1 .1 .1 .1 .1 .1 .0) (p .pass .ensures .0) (p .pass .ensures .1) (a .need .now) (a .changed .now) (q .p .given .0 .0) (q .p .given .1) (t .struct-told .given .0 .1)
+
+same-length-2 : tie.Need-same-length-2
+same-length-2 c = search needs
+
+returns-2 : tie.Need-returns-2
+returns-2 c =
+    let q = c .before in
+    let p = q .before .before .before in
+    let s = start p in
+    let a = s .args in
+    pass-refused (answer s) (leaves s) (a .mode) (a .target) (a .band) (a .factor) (a .measure) (s .fits .target .sfits) (s .fits .measure .sfits) (p .pass .result) (p .pass .last .1 .1 .1 .1 .1 .1 .1 .0) (p .pass .ensures .0) (p .pass .ensures .1) (a .need .now) (a .changed .now) (q .n .given .0 .0) (q .n .given .1)
+
+pub yb-pass-spec : {M : Type 1} → statement M
+yb-pass-spec =
+    tie.close
+    (tie.spec
+    pass-requires
+    enum-known-p
+    cast-changed
+    enum-known-n
+    cast-result
+    same-length
+    returns
+    same-length-2
+    returns-2)
