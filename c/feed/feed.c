@@ -124,10 +124,10 @@ int main(int argc, char **argv)
     if (ferror(in))
         stop(2, name, "cannot be read to its end");
     if (number != 0) {
-        char why[100];
+        char why[150];
         snprintf(why, sizeof why,
-            "refused %" PRIu32 " at byte %" PRIu64 ", after %" PRIu32 " steps; there is no result", number, place,
-            steps);
+            "refused %" PRIu32 " (%s) at byte %" PRIu64 ", after %" PRIu32 " steps; there is no result", number,
+            yb_refusal_words(number), place, steps);
         stop(1, name, why);
     }
     if (fclose(out) != 0 || rename(unfinished, argv[2]) != 0)

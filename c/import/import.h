@@ -1,9 +1,10 @@
 /* What the parts of the import tool share; each part says at its start what it does.
 **
-** What a stick says is asked of the library, and nothing here reads a stick's values by itself, but for four that no
-** call tells of a stick that is refused: the edition, the number of units, the mode, and the S of a unit; and in what a
-** rescue gives the count of the end. The library's answers are proved, but nothing here trusts them with memory: a place
-** or a size that cannot be about the file is a fault, is told, and ends the command.
+** What a stick says is asked of the library wherever a call tells it. What none does is read by one table, in
+** import_named.c: the values of a field that is refused, and of a complete stick its inverters, its curves and its
+** function; besides, the edition, the number of units and the mode of a stick that is refused, and in what a rescue
+** gives the count of the end. The library's answers are proved, but nothing here trusts them with memory: a place or a
+** size that cannot be about the file is a fault, is told, and ends the command.
 */
 #ifndef IMPORT_H
 #define IMPORT_H
@@ -142,8 +143,11 @@ void free_kept(struct stick *stick);
 /* A big-endian number of that many bytes. */
 uint64_t number_at(const uint8_t *bytes, int width);
 
-/* The bytes of a field, of which tag and length are there. */
+/* The bytes of a field, of which tag and length are there; and count a field that is there whole among those that stand
+** before the next one.
+*/
 size_t field_len(const uint8_t *field);
+void count_field(struct before *before, const uint8_t *field);
 
 /* What is known of the file from the place of a refusal on; and the length that the refused field says, where its
 ** header is there.
@@ -172,11 +176,6 @@ void end_progress(void);
 /* Print a name as a part of one line. */
 void print_name(FILE *out, const char *name);
 
-/* Print a number, its thousands parted by commas; and so many of something, with the word that follows one or several.
-*/
-void print_commas(uint64_t number);
-void print_many(uint64_t number, const char *what, const char *of_one, const char *of_many);
-
 /* Print bytes, 16 a row, each row with the place of its first byte. */
 void print_bytes(const uint8_t *bytes, uint64_t count, uint64_t place);
 
@@ -198,8 +197,9 @@ unsigned fleet_units(const struct stick *stick);
 /* What a mode is called, in brackets behind its number; nothing for a number that is no mode. */
 const char *mode_name(unsigned mode);
 
-/* Whether the first bytes of a file are those that every stick begins with. */
+/* Whether the first bytes of a file are those that every stick begins with; or the first byte is that of a result. */
 int begins_like_a_stick(const uint8_t *bytes, size_t len);
+int begins_like_a_result(const uint8_t *bytes, size_t len);
 
 /* Print a file's line and, of a refused one, what to do; and the refused field's bytes where they are shown. */
 void print_answer(const struct stick *stick);
@@ -219,12 +219,28 @@ int ask_limits(struct limits *limits, const struct stick *stick, unsigned which)
 
 /* import_advice.c */
 
-/* What a refused file's line calls its refusal; and the line below it, which says what happened and what to do. */
+/* What a refused file's line calls its refusal; and the lines below it, which say what happened and what to do. */
 const char *refusal_name(const struct stick *stick);
 void print_advice(const struct stick *stick);
 
-/* Print which of something it is, counted from 1 as people do: "the 2nd unit". */
-void print_counted(unsigned number, const char *what);
+/* import_show.c */
+
+/* Print the refused field: its values by their names beside their bytes. */
+void print_refused_field(const struct stick *stick);
+
+/* import_text.c */
+
+/* Print a number, its thousands parted by commas; and so many of something, with the word that follows one or several.
+*/
+void print_commas(uint64_t count);
+void print_many(uint64_t count, const char *what, const char *of_one, const char *of_many);
+
+/* Print which of something it is, counted from 1 as people do: "the 2nd unit"; as files count too: "unit 1, the 2nd
+** unit"; and the same of a step: "step 611, the 612th row".
+*/
+void print_counted(unsigned count, const char *what);
+void print_which(const char *what, unsigned which);
+void print_the_step(uint32_t step);
 
 /* import_target.c */
 
@@ -248,12 +264,21 @@ void write_more(struct whole *whole, const uint8_t *bytes, size_t len);
 int end_whole(struct whole *whole);
 void drop_whole(struct whole *whole);
 
-/* The commands, with the words that follow them. */
+/* What complete says of a file and what it does not, in a sentence. */
+extern const char about_complete[];
+
+/* The commands, with the words that follow them; check and show, import_look.c, have any number of these, and check
+** can say the same for programs.
+*/
+int check_command(int count, char **words, int is_json);
+int show_command(int count, char **words);
 int run_command(const char *file, const char *result);
 int rescue_command(const char *file, const char *out);
 int partner_command(const char *file, const char *result);
 int settle_command(const char *file, const char *load, const char *budget);
-int table_command(const char *file, const char *result);
-int summary_command(const char *file, const char *result);
+struct call;
+int table_command(const struct call *call);
+int summary_command(const struct call *call);
+int peak_command(const struct call *call);
 
 #endif

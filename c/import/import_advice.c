@@ -1,145 +1,106 @@
 /* Advice: what a refusal says to the person who has the stick in hand: what happened, where, and what to do. */
-#include <inttypes.h>
+#include "import_advice.h"
+#include "import_range.h"
 
-#include "import.h"
-#include "yesbrulka.h"
+/* The lengths of a unit without var limits, which is also the one before any fleet, and of one with them. */
+enum { UNIT_BYTES = 49, LIMITED_UNIT_BYTES = 57 };
 
-/* The lengths of a unit without var limits, which is also the one before any fleet, and of one with them; and where
-** both have their S, which bounds the limits.
-*/
-enum { UNIT_BYTES = 49, LIMITED_UNIT_BYTES = 57, UNIT_S = 28, UNIT_S_WIDTH = 4 };
+static const char new_stick[] = "ask the manager for a new one.";
+static const char written_anew[] = "do not repair the file; ask the manager to write the stick anew.";
 
-/* The bytes that connections have for each unit. */
-enum { CONNECTION_BYTES = 3 };
-
-/* What stands in the file's line, and what the person should know and do. In the second, # is the field that is
-** meant, ! what should be in its place, @ the row of the readings, ^ the mode, and ~ the fleet's edition; of a unit
-** or of connections, % is the length that it says, & the one that it should have, and $ a unit's S.
-*/
-struct words {
-    const char *name, *advice;
-};
-
-/* The refusals of a stick by their numbers; what has no number here is a fault of the program. */
-static const struct words refusals[] = {
-    {"unknown refusal", "This is a fault of the program. Keep the file and tell the developers."},
-    [YB_CUT_SHORT] = {"field cut short",
-        "The file ends in the middle of #: the copy is not whole. Copy the stick again; if it stays so, ask the "
-        "manager for a new one."},
-    [YB_UNKNOWN_TAG] = {"unknown tag",
-        "No field begins like this: the bytes are damaged, or another program wrote them. Copy the stick again; "
-        "if it stays so, ask the manager what wrote it."},
-    [YB_WRONG_LENGTH] = {"wrong length",
-        "The length of # is not the one that its tag has: bytes were changed or lost here. Copy the stick again; if "
-        "it stays so, ask the manager for a new one."},
-    [YB_OUT_OF_ORDER] = {"field out of order",
-        "Here the file has #, where ! should be: a field is missing, or this one is there twice or in the wrong "
-        "place. Do not repair the file; ask the manager to write the stick anew."},
-    [YB_OUT_OF_RANGE] = {"value out of range",
-        "A value of # is smaller or larger than it may be. Ask the manager to correct # and to write the stick "
-        "anew."},
-    [YB_NOT_USABLE] = {"reading not usable",
-        "A phase power is no number or is beyond 100,000 kW. Ask the manager for @, and have it entered again or "
-        "marked as missing."},
-    [YB_WRONG_COUNT] = {"wrong step count",
-        "The end field counts other steps than the file has: rows were lost or added. Copy the stick again; if it "
-        "stays so, ask the manager for a new one."},
-    [YB_END_MISSING] = {"end field missing",
-        "The file is empty or stops between two fields: it was not written to its end. Copy the stick again; if it "
-        "stays so, ask the manager to write it anew."},
-    [YB_AFTER_END] = {"bytes after the end",
-        "Something follows the end field: a second file, or what an older one left. Ask the manager for a stick "
-        "with this one season on it."},
-    [YB_TOO_MANY] = {"too many bytes or steps",
-        "A stick holds at most 65,535 steps. Ask the manager to divide the season, with a stick "
-        "for each part."},
-};
-
-/* A file that is too long to be lent as a whole is refused at its first byte, and one of too many steps never is. */
-static const struct words too_long = {"too many bytes or steps",
-    "The file has more than the 2,097,152 bytes that are taken as a whole. Check it with import check, which takes any "
-    "length: if it is complete it needs no rescue, and import summary judges its result too; else copy the stick again "
-    "or ask the manager for a new one."};
-
-/* What more is known where a refusal is about the edition or about a unit, whose length and limits go by it. */
-static const struct words bad_fleet = {"value out of range",
-    "The edition of # is not 1, 2 or 3, or its units are not 1 to 64, or its seconds are not 1 to 86,400. Ask the "
-    "manager to correct # and to write the stick anew, in edition 1, 2 or 3."};
-static const struct words no_fleet = {"wrong length",
-    "The file begins with #, whose length is % and not &: the fleet, which comes first, is not there. Copy the stick "
-    "again; if it stays so, ask the manager for a new one."};
-static const struct words other_edition = {"wrong length",
-    "The length of # is %, and in edition ~, which the fleet names, it is &: fleet and units are not of one edition. "
-    "Copy the stick again; if it stays so, ask the manager to write it anew, all of it in one edition."};
-static const struct words no_unit_length = {"wrong length",
-    "The length of # is %, and in edition ~ it is &: bytes were changed or lost here. Copy the stick again; if it "
-    "stays so, ask the manager for a new one."};
-static const struct words bad_limited_unit = {"value out of range",
-    "A value of # is smaller or larger than it may be, or its provide limit or its absorb limit is above its S, which "
-    "is $ VA. Ask the manager to correct # and to write the stick anew."};
-
-/* The same where it is about a roof or its weather. */
-static const struct words one_too_many = {"field out of order",
-    "Here the file has #, and a stick holds at most 64. Ask the manager to write the stick anew with no more "
-    "inverters than that."};
-static const struct words after_steps = {"field out of order",
-    "Here the file has #, where ! should be: connections, inverters, the function and all curves come before the first "
-    "step. Do not repair the file; ask the manager to write the stick anew."};
-static const struct words no_reading = {"field out of order",
-    "Here the file has #, and the weather before it has no reading, which would close its step. Ask the manager for "
-    "@, or to leave that weather out, and to write the stick anew."};
-static const struct words bad_inverter = {"value out of range",
-    "A value of # is smaller or larger than it may be, or its cut-out is above its cut-in. Ask the manager to correct "
-    "# and to write the stick anew."};
-static const struct words bad_curve = {"value out of range",
-    "The points of # are fewer than 2 or more than 16, or their x do not rise from each to the next, or a value is "
-    "smaller or larger than it may be. Ask the manager to correct this curve and to write the stick anew."};
-static const struct words bad_weather = {"reading not usable",
-    "The irradiance or the temperature is no number or is beyond 100,000, or the irradiance is below 0. Ask the "
-    "manager for the weather of @, and have it entered again or left out; without it the step has no sun."};
-
-/* The same where it is about a reading's kind, a current, or the units' connections. */
-static const struct words power_by_current = {"value out of range",
-    "The reading has powers, and in mode ^, which goes by current, a reading has currents or is missing. Ask the "
-    "manager for @ in amperes, or whether the mode of the settings is right, and to write the stick anew."};
-static const struct words current_by_watts = {"value out of range",
-    "The reading has currents, and in mode ^, which goes by watts, a reading has powers or is missing. Ask the manager "
-    "for @ in kW, or whether the mode of the settings is right, and to write the stick anew."};
-static const struct words bad_current = {"reading not usable",
-    "A phase current is no number, is below 0 or is beyond 100,000 A. Ask the manager for @, and have it entered again "
-    "or marked as missing."};
-static const struct words no_connections = {"field out of order",
-    "Here the file has #, where ! should be: in mode ^ a stick says the phases and volts of every unit. Do not repair "
-    "the file; ask the manager to write the stick anew, with the connections."};
-static const struct words connections_length = {"wrong length",
-    "The length of # is %, and for the units of this fleet it is &, three bytes for each. Copy the stick again; if it "
-    "stays so, ask the manager to write it anew."};
-static const struct words bad_connections = {"value out of range",
-    "In # the phases of a unit are not 1 or 3, or its volts are not 1 to 40,000. Ask the manager to correct # and to "
-    "write the stick anew."};
-
-/* The same where it is about the function or a voltage. */
-static const struct words no_function = {"field out of order",
-    "Here the file has #, and the stick has no function, whose curve would say which vars it asks for. Ask the manager "
-    "for the function, or to leave all voltages out, and to write the stick anew."};
-static const struct words no_reading_behind = {"field out of order",
-    "Here the file has #, and the voltage before it has no reading, which would close its step. Ask the manager for @, "
-    "or to leave that voltage out, with its weather if it has one, and to write the stick anew."};
-static const struct words bad_function = {"value out of range",
-    "The base of # is not 0, for the S of a unit or an inverter, or 1, for what the watts leave of it. Ask the manager "
-    "to correct # and to write the stick anew."};
-static const struct words bad_volt_var = {"value out of range",
-    "The points of # are fewer than 2 or more than 16, or their voltages do not rise from each to the next, or one is "
-    "not 0 to 20,000 ten-thousandths of per unit, or a y is not -10,000 to 10,000, or what is past the last point is "
-    "not 0. Ask the manager to correct this curve and to write the stick anew."};
-static const struct words bad_voltage = {"value out of range",
-    "The voltage is above 20,000 ten-thousandths of per unit. Ask the manager for the voltage of @, and have it "
-    "entered again or left out; without it the vars last requested stay."};
-
-/* The tag of the refused field; 0 where its tag and length are not there. */
-static uint8_t refused_tag(const struct stick *stick)
+void copy_or(struct told *told, const char *then)
 {
-    return refused_len(stick) >= HEADER ? *refused_bytes(stick) : 0;
+    say(&told->advice, "Copy the stick again; if it stays so, %s", then);
+}
+
+/* The library's answer and the bytes do not go together, or there is no such answer. */
+static void tell_fault(struct told *told, const char *what)
+{
+    say(&told->what, "%s: this is a fault of the program.", what);
+    say(&told->advice, "Keep the file and tell the developers.");
+    told->is_fault = 1;
+}
+
+/* A number of so many bytes as it stands in the file, and as people write it. */
+static void say_hex(struct text *text, unsigned of, int width)
+{
+    say(text, "hex %0*X (", 2 * width, of);
+    say_number(text, of);
+    say(text, ")");
+}
+
+static void say_tag_and_length(struct text *text, const struct field *field)
+{
+    say(text, "the tag ");
+    say_hex(text, field->bytes[0], 1);
+    say(text, " and the length ");
+    say_hex(text, said_by(field), 2);
+}
+
+static void tell_cut_short(struct told *told, const struct field *field)
+{
+    struct text *what = &told->what;
+    say(what, "The file ends in the middle of ");
+    if (field->there < HEADER) {
+        say(what, "a field's tag and length");
+    } else {
+        say_field_of_step(what, field);
+        say(what, ": ");
+        say_number(what, field->there);
+        say(what, " of its ");
+        say_number(what, HEADER + said_by(field));
+        say(what, " bytes are there");
+    }
+    say(what, ". The copy is not whole.");
+    copy_or(told, new_stick);
+}
+
+static void tell_tag(struct told *told, const struct field *field)
+{
+    if (field->there < HEADER || is_known(field)) {
+        tell_fault(told, "The library knows no such tag, and the tool does");
+        return;
+    }
+    say(&told->what, "No field begins with ");
+    say_tag_and_length(&told->what, field);
+    say(&told->what, ", which stand here: the bytes are damaged, or another program wrote them.");
+    copy_or(told, "ask the manager what wrote it.");
+}
+
+/* What a length goes by where not by the tag alone: a unit's may be that of another edition. */
+static void tell_due_length(struct told *told, const struct field *field)
+{
+    unsigned said = said_by(field), is_unit = tag_of(field) == UNIT_TAG;
+    const char *why = "bytes were changed or lost here", *then = new_stick;
+    say(&told->what, "; the length should be ");
+    say_hex(&told->what, due_length(field), 2);
+    if (is_unit && field->edition == 0) {
+        why = "the fleet, which comes first, is not there";
+    } else if (is_unit) {
+        say(&told->what, " in edition %u, which the fleet names", field->edition);
+    } else if (tag_of(field) == CONNECTIONS_TAG && field->units != 0) {
+        say(&told->what, " for ");
+        say_many(&told->what, field->units, "unit");
+    }
+    if (is_unit && field->edition != 0 && (said == UNIT_BYTES || said == LIMITED_UNIT_BYTES)) {
+        why = "fleet and units are not of one edition";
+        then = "ask the manager to write it anew, all of it in one edition.";
+    }
+    say(&told->what, ": %s.", why);
+    copy_or(told, then);
+}
+
+static void tell_length(struct told *told, const struct field *field)
+{
+    if (!is_known(field) || said_by(field) == due_length(field)) {
+        tell_fault(told, "The library takes this length for wrong, and the tool does not");
+        return;
+    }
+    say(&told->what, "Here the file has ");
+    say_field_of_step(&told->what, field);
+    say(&told->what, ", with ");
+    say_tag_and_length(&told->what, field);
+    tell_due_length(told, field);
 }
 
 static int has_steps_before(const struct before *before)
@@ -159,271 +120,314 @@ static int wants_function(const struct before *before)
     return !before->has_function && (is_site_whole || has_steps_before(before));
 }
 
-static const struct words *order_words(uint8_t tag, const struct before *before)
-{
-    if (tag == INVERTER_TAG && before->inverters == YB_MOST_INVERTERS && before->curves == 2)
-        return &one_too_many;
-    if (is_before_steps(tag) && has_steps_before(before))
-        return &after_steps;
-    if (before->last == SETTINGS_TAG && is_by_current(before->mode))
-        return &no_connections;
-    if (tag == VOLTAGE_TAG && wants_function(before))
-        return &no_function;
-    if (tag == END_TAG && before->last == VOLTAGE_TAG)
-        return &no_reading_behind;
-    return tag == END_TAG && before->last == WEATHER_TAG ? &no_reading : &refusals[YB_OUT_OF_ORDER];
-}
-
-static unsigned unit_length(const struct stick *stick)
-{
-    return edition_of(stick) < LIMITS_EDITION ? UNIT_BYTES : LIMITED_UNIT_BYTES;
-}
-
-/* The unit's length is not its own; it may be that of another edition. */
-static const struct words *unit_length_words(const struct stick *stick)
-{
-    unsigned said = said_length(stick);
-    if (edition_of(stick) == 0)
-        return &no_fleet;
-    return said == UNIT_BYTES || said == LIMITED_UNIT_BYTES ? &other_edition : &no_unit_length;
-}
-
-/* Where the unit has limits, and they are there. */
-static int has_limits(const struct stick *stick)
-{
-    return edition_of(stick) >= LIMITS_EDITION && refused_len(stick) >= HEADER + LIMITED_UNIT_BYTES;
-}
-
-static const struct words *range_words(const struct stick *stick, uint8_t tag)
-{
-    switch (tag) {
-    case FLEET_TAG:
-        return &bad_fleet;
-    case UNIT_TAG:
-        return has_limits(stick) ? &bad_limited_unit : &refusals[YB_OUT_OF_RANGE];
-    case INVERTER_TAG:
-        return &bad_inverter;
-    case CURVE_TAG:
-        return stick->before.last == FUNCTION_TAG ? &bad_volt_var : &bad_curve;
-    case POWER_TAG:
-        return &power_by_current;
-    case CURRENT_TAG:
-        return &current_by_watts;
-    case CONNECTIONS_TAG:
-        return &bad_connections;
-    case FUNCTION_TAG:
-        return &bad_function;
-    case VOLTAGE_TAG:
-        return &bad_voltage;
-    default:
-        return &refusals[YB_OUT_OF_RANGE];
-    }
-}
-
-static const struct words *words_of(const struct stick *stick)
-{
-    uint8_t tag = refused_tag(stick);
-    uint32_t number = stick->number < sizeof refusals / sizeof refusals[0] ? stick->number : 0;
-    if (number == YB_OUT_OF_ORDER)
-        return order_words(tag, &stick->before);
-    if (number == YB_WRONG_LENGTH && tag == UNIT_TAG)
-        return unit_length_words(stick);
-    if (number == YB_WRONG_LENGTH && tag == CONNECTIONS_TAG && edition_of(stick) != 0)
-        return &connections_length;
-    if (number == YB_OUT_OF_RANGE)
-        return range_words(stick, tag);
-    if (number == YB_NOT_USABLE && tag == WEATHER_TAG)
-        return &bad_weather;
-    if (number == YB_NOT_USABLE && tag == CURRENT_TAG)
-        return &bad_current;
-    if (number == YB_TOO_MANY && stick->place == 0)
-        return &too_long;
-    return refusals[number].name != NULL ? &refusals[number] : &refusals[0];
-}
-
-void print_counted(unsigned number, const char *what)
-{
-    static const char *const ends[] = {"th", "st", "nd", "rd"};
-    printf("the ");
-    print_commas(number);
-    printf("%s %s", number % 10 > 3 || number / 10 % 10 == 1 ? "th" : ends[number % 10], what);
-}
-
-/* Whether an efficiency curve stands, or should stand, behind what stands before: behind a function there is none. */
-static int is_efficiency_due(const struct before *before)
-{
-    return before->curves == 1 && !before->has_function;
-}
-
-/* The curve that stands, or should stand, behind what stands before. */
-static void print_curve(const struct before *before)
-{
-    int is_temperature = before->last == INVERTER_TAG;
-    if (before->last == FUNCTION_TAG) {
-        printf("the volt-var curve");
-        return;
-    }
-    if (!is_temperature && !is_efficiency_due(before)) {
-        printf("a curve");
-        return;
-    }
-    print_counted(before->inverters, "inverter's ");
-    printf("%s curve", is_temperature ? "temperature" : "efficiency");
-}
-
-static void print_field(uint8_t tag, const struct before *before)
-{
-    static const char *const names[] = {[FLEET_TAG] = "the fleet", [SETTINGS_TAG] = "the settings",
-        [POWER_TAG] = "a reading", [CURRENT_TAG] = "a reading", [MISSING_TAG] = "a reading",
-        [WEATHER_TAG] = "a weather", [CONNECTIONS_TAG] = "the connections", [FUNCTION_TAG] = "the function",
-        [VOLTAGE_TAG] = "a voltage", [END_TAG] = "the end"};
-    switch (tag) {
-    case UNIT_TAG:
-        print_counted(before->units + 1, "unit");
-        break;
-    case INVERTER_TAG:
-        print_counted(before->inverters + 1, "inverter");
-        break;
-    case CURVE_TAG:
-        print_curve(before);
-        break;
-    default:
-        printf("%s", tag < sizeof names / sizeof names[0] && names[tag] != NULL ? names[tag] : "a field");
-        break;
-    }
-}
-
-/* What may stand behind the units: how many the fleet counts is not read here, but one of two things is due, and it
-** is not what was refused.
-*/
-static void print_behind_units(uint8_t tag, const struct before *before)
-{
-    if (tag != UNIT_TAG)
-        print_counted(before->units + 1, "unit");
-    if (tag != UNIT_TAG && tag != SETTINGS_TAG)
-        printf(" or ");
-    if (tag != SETTINGS_TAG)
-        printf("the settings");
-}
-
 /* What may stand behind the connections; and behind the settings, where these may still come and in some modes must. */
-static void print_behind_connections(const struct before *before)
+static void say_behind_connections(struct text *text, const struct before *before)
 {
-    printf("%sthe function, a step or the end", before->inverters < YB_MOST_INVERTERS ? "an inverter, " : "");
+    say(text, "%sthe function, a step or the end", before->inverters < YB_MOST_INVERTERS ? "an inverter, " : "");
 }
 
-static void print_behind_settings(const struct before *before)
+static void say_behind_settings(struct text *text, const struct before *before)
 {
-    printf("the connections");
+    say(text, "the connections");
     if (is_by_current(before->mode))
         return;
-    printf(", ");
-    print_behind_connections(before);
+    say(text, ", ");
+    say_behind_connections(text, before);
 }
 
 /* What may stand behind a curve: another one, or what comes behind both of an inverter's, or behind the function's. */
-static void print_behind_curve(const struct before *before)
+static int say_behind_curve(struct text *text, const struct before *before)
 {
-    if (is_efficiency_due(before))
-        print_curve(before);
-    else if (before->has_function)
-        printf("a step or the end");
+    if (curve_behind(before) != NO_CURVE)
+        return say_curve(text, before);
+    if (before->has_function)
+        say(text, "a step or the end");
     else
-        print_behind_connections(before);
+        say_behind_connections(text, before);
+    return 0;
 }
 
-static void print_due(uint8_t tag, const struct before *before)
+/* Behind the fleet and its units either the next unit is due or the settings. */
+static int say_behind_units(struct text *text, const struct field *field)
 {
+    if (field->before->units >= field->units) {
+        say(text, "the settings");
+        return 0;
+    }
+    say_which(text, "unit", field->before->units);
+    return 1;
+}
+
+/* What should stand where a field is; gives whether a comma has to follow. */
+static int say_due(struct text *text, const struct field *field)
+{
+    const struct before *before = field->before;
     switch (before->last) {
     case 0:
-        printf("the fleet");
-        break;
+        say(text, "the fleet");
+        return 0;
     case FLEET_TAG:
-        print_counted(1, "unit");
-        break;
     case UNIT_TAG:
-        print_behind_units(tag, before);
-        break;
+        return say_behind_units(text, field);
     case SETTINGS_TAG:
-        print_behind_settings(before);
-        break;
+        say_behind_settings(text, before);
+        return 0;
     case INVERTER_TAG:
     case FUNCTION_TAG:
-        print_curve(before);
-        break;
+        return say_curve(text, before);
     case CURVE_TAG:
-        print_behind_curve(before);
-        break;
+        return say_behind_curve(text, before);
     case CONNECTIONS_TAG:
-        print_behind_connections(before);
-        break;
+        say_behind_connections(text, before);
+        return 0;
     case WEATHER_TAG:
-        printf("the %sreading that follows a weather", before->has_function ? "voltage or the " : "");
-        break;
+        say(text, "the %sreading that follows a weather", before->has_function ? "voltage or the " : "");
+        return 0;
     case VOLTAGE_TAG:
-        printf("the reading that follows a voltage");
-        break;
+        say(text, "the reading that follows a voltage");
+        return 0;
     default:
-        printf("a step or the end");
-        break;
+        say(text, "a step or the end");
+        return 0;
     }
 }
 
-static void print_row(uint32_t steps)
+/* What stands there, and what should; what more is to be said of it follows. */
+static void say_out_of_order(struct text *what, const struct field *field, const char *more)
 {
-    if (steps == 0)
-        printf("the first row of readings");
+    say_field(what, field);
+    say(what, ", where ");
+    say(what, say_due(what, field) ? ", should be" : " should be");
+    say(what, "%s", more);
+}
+
+static void tell_too_many_inverters(struct told *told)
+{
+    say(&told->what, ", and a stick holds at most %d.", YB_MOST_INVERTERS);
+    copy_or(told, "ask the manager to write it anew with no more inverters than that.");
+}
+
+static void tell_no_connections(struct told *told, const struct field *field)
+{
+    say_out_of_order(&told->what, field, ": ");
+    say(&told->what, "in mode %u%s a stick says the phases and volts of every unit.", field->before->mode,
+        mode_name(field->before->mode));
+    copy_or(told, "do not repair the file; ask the manager to write the stick anew, with the connections.");
+}
+
+static void tell_no_function(struct told *told, const struct field *field)
+{
+    say_field(&told->what, field);
+    say(&told->what, ", and the stick has no function, whose curve would say which vars it asks for.");
+    copy_or(told, "ask the manager for the function, or to leave all voltages out, and to write the stick anew.");
+}
+
+/* A weather or a voltage, with nothing behind it but the end. */
+static void tell_no_reading(struct told *told, const struct field *field)
+{
+    int is_weather = field->before->last == WEATHER_TAG;
+    say_field(&told->what, field);
+    say(&told->what, ", and the %s before it has no reading, which would close ", is_weather ? "weather" : "voltage");
+    say_step(&told->what, field->step);
+    say(&told->what, ".");
+    copy_or(told, is_weather
+        ? "ask the manager for that row, or to leave that weather out, and to write the stick anew."
+        : "ask the manager for that row, or to leave that voltage out, with its weather if it has one, and to write "
+        "the stick anew.");
+}
+
+static void tell_order(struct told *told, const struct field *field)
+{
+    const struct before *before = field->before;
+    uint8_t tag = tag_of(field);
+    int is_last_waiting = before->last == WEATHER_TAG || before->last == VOLTAGE_TAG;
+    say(&told->what, "Here the file has ");
+    if (tag == INVERTER_TAG && before->inverters == YB_MOST_INVERTERS && before->curves == 2) {
+        say_field(&told->what, field);
+        tell_too_many_inverters(told);
+    } else if (is_before_steps(tag) && has_steps_before(before)) {
+        say_out_of_order(&told->what, field, ": connections, inverters, the function and all curves come before the "
+            "first step.");
+        copy_or(told, written_anew);
+    } else if (before->last == SETTINGS_TAG && is_by_current(before->mode)) {
+        tell_no_connections(told, field);
+    } else if (tag == VOLTAGE_TAG && wants_function(before)) {
+        tell_no_function(told, field);
+    } else if (tag == END_TAG && is_last_waiting) {
+        tell_no_reading(told, field);
+    } else {
+        say_out_of_order(&told->what, field, ": a field is missing, or this one is there twice or in the wrong place.");
+        copy_or(told, written_anew);
+    }
+}
+
+/* A reading of the other kind than the mode goes by. */
+static int is_other_kind(const struct field *field)
+{
+    int is_current = is_by_current(field->before->mode);
+    return is_current ? tag_of(field) == POWER_TAG : tag_of(field) == CURRENT_TAG;
+}
+
+static void tell_other_kind(struct told *told, const struct field *field)
+{
+    int is_current = is_by_current(field->before->mode);
+    say(&told->what, "In mode %u%s, which goes by %s, a reading has %s or is missing; ", field->before->mode,
+        mode_name(field->before->mode), is_current ? "current" : "watts", is_current ? "currents" : "powers");
+    say_field_of_step(&told->what, field);
+    say(&told->what, ", has %s.", is_current ? "powers" : "currents");
+    copy_or(told, is_current
+        ? "ask the manager for that row in amperes, or whether the mode of the settings is right, and to write the "
+        "stick anew."
+        : "ask the manager for that row in kW, or whether the mode of the settings is right, and to write the stick "
+        "anew.");
+}
+
+static void tell_range(struct told *told, const struct field *field)
+{
+    if (is_other_kind(field))
+        tell_other_kind(told, field);
+    else if (!say_out_of_range(&told->what, field))
+        tell_fault(told, "The library takes a value of this field for out of range, and the tool finds none that is");
+    else if (tag_of(field) == VOLTAGE_TAG)
+        copy_or(told, "ask the manager for the voltage of that row, and have it entered again or left out; without it "
+            "the vars last requested stay.");
     else
-        printf("the row of readings after the first %" PRIu32, steps);
+        copy_or(told, "ask the manager to correct it and to write the stick anew.");
 }
 
-/* The edition, the mode, and the numbers of a unit's field or of connections, by what marks them. */
-static uint64_t marked_number(char mark, const struct stick *stick)
+static void tell_usable(struct told *told, const struct field *field)
 {
-    switch (mark) {
-    case '~':
-        return edition_of(stick);
-    case '%':
-        return said_length(stick);
-    case '^':
-        return stick->before.mode;
-    case '&':
-        return refused_tag(stick) == UNIT_TAG ? unit_length(stick) : CONNECTION_BYTES * fleet_units(stick);
-    default:
-        return number_at(refused_bytes(stick) + HEADER + UNIT_S, UNIT_S_WIDTH);
+    if (!say_not_usable(&told->what, field))
+        tell_fault(told, "The library takes this reading for not usable, and the tool finds nothing wrong in it");
+    else if (tag_of(field) == WEATHER_TAG)
+        copy_or(told, "ask the manager for the weather of that row, and have it entered again or left out; without it "
+            "the step has no sun.");
+    else
+        copy_or(told, "ask the manager for that row, and have it entered again or marked as missing.");
+}
+
+static void tell_count(struct told *told, const struct field *field)
+{
+    struct part parts[MOST_PARTS];
+    unsigned count = take_parts(parts, field);
+    if (count != 1 || !is_there(parts, field) || number_of(parts, field) == field->step) {
+        tell_fault(told, "The library takes the count of the end for wrong, and the tool does not");
+        return;
     }
+    say(&told->what, "The end counts ");
+    say_many(&told->what, (uint64_t)number_of(parts, field), "step");
+    say(&told->what, ", and the file has ");
+    say_number(&told->what, field->step);
+    say(&told->what, ": rows were lost or added.");
+    copy_or(told, new_stick);
+}
+
+static void tell_end_missing(struct told *told, const struct field *field, int is_empty)
+{
+    if (is_empty) {
+        say(&told->what, "The file is empty.");
+    } else {
+        say(&told->what, "The file stops after ");
+        say_many(&told->what, field->step, "step");
+        say(&told->what, ", where ");
+        say(&told->what, say_due(&told->what, field) ? ", should be" : " should be");
+        say(&told->what, ": it was not written to its end, or not copied to it.");
+    }
+    copy_or(told, "ask the manager to write it anew.");
+}
+
+static void tell_after_end(struct told *told)
+{
+    say(&told->what, "Something follows the end: a second file, or what an older one left.");
+    copy_or(told, "ask the manager for a stick with this one season on it.");
+}
+
+/* A file that is too long to be lent as a whole is refused at its first byte, and one of too many steps never is. */
+static void tell_too_many(struct told *told, const struct stick *stick)
+{
+    if (stick->place != 0) {
+        say(&told->what, "The file goes on after 65,535 steps, and a stick holds no more.");
+        say(&told->advice, "Ask the manager to divide the season, with a stick for each part.");
+        return;
+    }
+    say(&told->what, "The file has more than the 2,097,152 bytes that are taken as a whole.");
+    say(&told->advice, "Check it with import check, which takes any length: if it is complete it needs no rescue, and "
+        "import summary judges its result too; else copy the stick again or ask the manager for a new one.");
+}
+
+/* One that has lost its fleet begins with a unit. */
+int is_foreign(const struct stick *stick)
+{
+    struct field field = refused_field(stick);
+    int is_about_beginning = stick->number == YB_CUT_SHORT || stick->number == YB_UNKNOWN_TAG ||
+        stick->number == YB_WRONG_LENGTH || stick->number == YB_TOO_MANY;
+    if (stick->place != 0 || !is_about_beginning || field.there == 0 || field.bytes[0] == FLEET_TAG)
+        return 0;
+    return tag_of(&field) != UNIT_TAG || said_by(&field) != LIMITED_UNIT_BYTES;
+}
+
+static void tell_number(struct told *told, const struct stick *stick, const struct field *field)
+{
+    switch (stick->number) {
+    case YB_CUT_SHORT:
+        tell_cut_short(told, field);
+        break;
+    case YB_UNKNOWN_TAG:
+        tell_tag(told, field);
+        break;
+    case YB_WRONG_LENGTH:
+        tell_length(told, field);
+        break;
+    case YB_OUT_OF_ORDER:
+        tell_order(told, field);
+        break;
+    case YB_OUT_OF_RANGE:
+        tell_range(told, field);
+        break;
+    case YB_NOT_USABLE:
+        tell_usable(told, field);
+        break;
+    case YB_WRONG_COUNT:
+        tell_count(told, field);
+        break;
+    case YB_END_MISSING:
+        tell_end_missing(told, field, stick->place == 0);
+        break;
+    case YB_AFTER_END:
+        tell_after_end(told);
+        break;
+    case YB_TOO_MANY:
+        tell_too_many(told, stick);
+        break;
+    default:
+        tell_fault(told, "There is no such refusal of a file");
+        break;
+    }
+}
+
+void tell_refusal(struct told *told, const struct stick *stick)
+{
+    struct field field = refused_field(stick);
+    *told = (struct told){.what = {.len = 0}};
+    if (is_foreign(stick))
+        tell_foreign(told, field.bytes, field.there);
+    else
+        tell_number(told, stick, &field);
+    /* Where a step has begun a rescue has something to keep. */
+    if (!told->is_fault && (has_steps_before(&stick->before) || stick->number == YB_AFTER_END))
+        say(&told->advice, " import rescue keeps what can be kept of this one.");
 }
 
 const char *refusal_name(const struct stick *stick)
 {
-    return words_of(stick)->name;
+    return yb_refusal_words(stick->number);
 }
 
 void print_advice(const struct stick *stick)
 {
-    uint8_t tag = refused_tag(stick);
-    printf("    ");
-    for (const char *at = words_of(stick)->advice; *at != '\0'; at++)
-        switch (*at) {
-        case '#':
-            print_field(tag, &stick->before);
-            break;
-        case '!':
-            print_due(tag, &stick->before);
-            break;
-        case '@':
-            print_row(stick->steps);
-            break;
-        case '~':
-        case '^':
-        case '%':
-        case '&':
-        case '$':
-            printf("%" PRIu64, marked_number(*at, stick));
-            break;
-        default:
-            putchar(*at);
-            break;
-        }
-    putchar('\n');
+    struct told told;
+    struct text all = {.len = 0};
+    tell_refusal(&told, stick);
+    say(&all, "%s %s", told.what.bytes, told.advice.bytes);
+    print_wrapped(&all);
 }

@@ -174,17 +174,10 @@ int is_input_twice(const char *file, const char *result)
     return 1;
 }
 
-/* What the run gives can always be shown. */
-static void look_at_powers(void *to, const struct run *run)
-{
-    int *is_showable = to;
-    *is_showable &= can_be_shown(run);
-}
-
 int open_result(struct stick *stick, const char *file, const char *result)
 {
     int is_showable = 1;
-    struct taker taker = {look_at_powers, &is_showable};
+    struct taker taker = {see_powers, &is_showable};
     struct beside beside = {.result = result, .stick = stick};
     *stick = (struct stick){.name = file, .result = result, .is_kept = 1};
     if (is_input_twice(file, result))

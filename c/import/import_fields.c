@@ -91,10 +91,20 @@ static int is_of_steps(uint8_t tag)
     return is_reading(tag) || tag == WEATHER_TAG || tag == VOLTAGE_TAG || tag == END_TAG;
 }
 
+void count_field(struct before *before, const uint8_t *field)
+{
+    before->last = field[0];
+    if (before->last == SETTINGS_TAG)
+        before->mode = field[HEADER];
+    before->units += before->last == UNIT_TAG;
+    before->inverters += before->last == INVERTER_TAG;
+    before->has_function |= before->last == FUNCTION_TAG;
+    before->curves = before->last == CURVE_TAG ? before->curves + 1 : 0;
+}
+
 /* Counts the whole fields from the window's start up to an end, and gives in *past the bytes that they have. */
 static int count_fields(struct stick *stick, size_t end, size_t *past)
 {
-    struct before *before = &stick->before;
     for (*past = 0; end - *past >= HEADER;) {
         const uint8_t *field = window + *past;
         size_t len = field_len(field);
@@ -102,13 +112,7 @@ static int count_fields(struct stick *stick, size_t end, size_t *past)
             break;
         if (!is_of_steps(field[0]) && put_aside(stick, field, len) != COMPLETE)
             return FAILED;
-        before->last = field[0];
-        if (before->last == SETTINGS_TAG)
-            before->mode = field[HEADER];
-        before->units += before->last == UNIT_TAG;
-        before->inverters += before->last == INVERTER_TAG;
-        before->has_function |= before->last == FUNCTION_TAG;
-        before->curves = before->last == CURVE_TAG ? before->curves + 1 : 0;
+        count_field(&stick->before, field);
         *past += len;
     }
     return COMPLETE;

@@ -7,7 +7,7 @@
 static const char no_verdict[] = "there is no verdict";
 
 /* The refusal is the one that the library has for the whole file. Of one that is too long only its beginning is looked
-** at, for it may be a result.
+** at, for it may be a result or no stick at all.
 */
 static int refuse(struct stick *stick, const uint8_t *file, size_t len)
 {

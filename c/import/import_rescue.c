@@ -7,7 +7,7 @@
 #include <stdlib.h>
 #include <string.h>
 
-#include "import.h"
+#include "import_output.h"
 #include "yesbrulka.h"
 
 /* A change in the list, by its first bytes; the values of a power reading and of a weather; and the end field, by its
@@ -175,13 +175,17 @@ static int ask_check(struct rescue *rescue)
     return is_about ? COMPLETE : fault(stick->name);
 }
 
-/* All that is asked of the library, before anything is said. A file that is too long is not looked at further. */
+/* All that is asked of the library, before anything is said. Of a file that is too long only its beginning is looked
+** at, for it may be no stick.
+*/
 static int ask_all(struct rescue *rescue)
 {
     if (ask_rescue(rescue) != COMPLETE)
         return FAILED;
     if (rescue->len > YB_MOST_FILE_BYTES) {
         rescue->stick.number = rescue->number;
+        rescue->stick.window = file;
+        rescue->stick.window_len = rescue->len;
         return rescue->number == YB_TOO_MANY ? COMPLETE : fault(rescue->stick.name);
     }
     if (rescue->number == 0 && !walk_changes(rescue, NULL))
@@ -265,7 +269,9 @@ static void print_change(const struct rescue *rescue, const struct change *chang
 {
     switch (change->kind) {
     case YB_MADE_MISSING:
-        print_counted(readings + 1, "reading could not be used and is now missing: ");
+        printf("the reading of ");
+        print_the_step(readings);
+        printf(", could not be used and is now missing: ");
         print_many(change->dropped, "byte", "", "");
         printf(" left out at byte ");
         break;
@@ -300,7 +306,9 @@ static void print_rescued(const struct rescue *rescue, const char *out)
     printf(" made missing; a rescued stick has lost data: keep the damaged one too\n");
 }
 
-/* The lines are out before there is anything of the file: where they cannot be, OUT is as it was. */
+/* The lines are out before there is anything of the file: where they cannot be, OUT is as it was. Without a target the
+** bytes go to standard output.
+*/
 static int rescue_into(struct rescue *rescue, const char *out, const char *target)
 {
     struct whole whole;
@@ -311,6 +319,8 @@ static int rescue_into(struct rescue *rescue, const char *out, const char *targe
     print_rescued(rescue, out);
     if (fflush(stdout) != 0)
         return FAILED;
+    if (target == NULL)
+        return write_output(kept, rescue->room);
     begin_whole(&whole, target, "OUT");
     write_more(&whole, kept, rescue->room);
     int outcome = end_whole(&whole);
@@ -321,6 +331,8 @@ static int rescue_into(struct rescue *rescue, const char *out, const char *targe
 int rescue_command(const char *file_name, const char *out)
 {
     struct rescue rescue = {.stick = {.name = file_name}};
+    if (is_standard_output(out))
+        return begin_output("OUT") == COMPLETE ? rescue_into(&rescue, out, NULL) : FAILED;
     char *target = target_of(file_name, out, "OUT");
     if (target == NULL)
         return FAILED;

@@ -1,4 +1,4 @@
-/* The records of a run: what they say, and import table, which shows all of them. */
+/* The records of a run: what they say. */
 #include <inttypes.h>
 #include <string.h>
 
@@ -67,12 +67,11 @@ static int has_powers(const struct run *run, uint32_t step)
     return 1;
 }
 
-int can_be_shown(const struct run *run)
+void see_powers(void *to, const struct run *run)
 {
-    for (uint32_t step = run->first; step < run->first + run->steps; step++)
-        if (!has_powers(run, step))
-            return 0;
-    return 1;
+    int *is_showable = to;
+    for (uint32_t step = run->first; step < run->first + run->steps && *is_showable; step++)
+        *is_showable = has_powers(run, step);
 }
 
 struct record record_at(const struct run *run, uint32_t step, unsigned unit)
@@ -117,49 +116,4 @@ void power_text(char *text, const uint8_t *kw)
         strcpy(text, "no number");
     else
         snprintf(text, KW_TEXT, "%.17g", number);
-}
-
-static void print_unit(const struct run *run, uint32_t step, unsigned unit)
-{
-    struct record r = record_at(run, step, unit);
-    char kw[KW_TEXT];
-    kw_text(kw, r.watts);
-    printf("%" PRIu32 "\t%u\t%" PRId32 "\t%s\t%" PRId32 "\t%" PRIu64 "\t%" PRIu64 "\n", step, unit, r.request, kw,
-        r.vars, r.stored, r.loss);
-}
-
-/* An inverter has no request, store and loss; what a unit has not comes behind. */
-static void print_inverter(const struct run *run, uint32_t step, unsigned inverter)
-{
-    struct solar s = solar_at(run, step, inverter);
-    char kw[KW_TEXT];
-    kw_text(kw, s.watts);
-    printf("%" PRIu32 "\tinverter %u\t-\t%s\t%" PRId32 "\t-\t-\t%d\t%" PRIu64 "\n", step, inverter, kw, s.vars, s.on,
-        s.dc);
-}
-
-static void print_steps(void *to, const struct run *run)
-{
-    (void)to;
-    for (uint32_t step = run->first; step < run->first + run->steps && !ferror(stdout); step++) {
-        for (unsigned unit = 0; unit < run->units; unit++)
-            print_unit(run, step, unit);
-        for (unsigned inverter = 0; inverter < run->inverters; inverter++)
-            print_inverter(run, step, inverter);
-    }
-}
-
-/* import table: the result file as lines of numbers parted by tabs. */
-int table_command(const char *file, const char *result)
-{
-    struct stick stick;
-    struct taker taker = {print_steps, NULL};
-    int outcome = open_result(&stick, file, result);
-    if (outcome != COMPLETE)
-        return outcome;
-    printf("step\tunit\trequest W\tdelivered kW\tvars\tstored J\tloss J%s\n",
-        stick.inverters != 0 ? "\ton\tDC W" : "");
-    outcome = feed_again(&stick, &taker);
-    free_kept(&stick);
-    return outcome;
 }

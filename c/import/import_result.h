@@ -55,10 +55,12 @@ struct solar {
 /* The bytes of all records of one step. */
 size_t step_bytes(unsigned units, unsigned inverters);
 
-/* What is said of a step that is among those of a run; and whether all of them can be shown, which always is so. */
+/* What is said of a step that is among those of a run. */
 struct record record_at(const struct run *run, uint32_t step, unsigned unit);
 struct solar solar_at(const struct run *run, uint32_t step, unsigned inverter);
-int can_be_shown(const struct run *run);
+
+/* See whether all that a run gives can be shown, which always is so: a number that is 1 at first is then 0. */
+void see_powers(void *to, const struct run *run);
 
 /* Watts as kW with all of their three decimals, in a text of at most so many bytes. */
 enum { KW_TEXT = 32 };

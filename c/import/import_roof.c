@@ -1,11 +1,10 @@
 /* The inverters' lines of the summary, and one for the roof, which is all of them. */
-#include <inttypes.h>
 #include <string.h>
 
 #include "import_summary.h"
 
 /* The columns of a line; its first is its name. */
-enum { ROOF_COLUMNS = 9 };
+enum { ROOF_COLUMNS = 6 };
 
 /* One step of an inverter, or the sum of one step of the roof. */
 static void see_power(struct roof_line *line, uint32_t step, int64_t watts)
@@ -46,24 +45,35 @@ void see_roof(struct roof_line *lines, const struct run *run, uint32_t seconds)
 /* Where no power was given there is no step that gave the most. */
 static void line_texts(row cells, const struct roof_line *line)
 {
-    kw_text(cells[1], line->out);
-    snprintf(cells[2], CELL, "%" PRIu32, line->out_step);
+    thousandths_text(cells[1], line->out);
+    whole_text(cells[2], line->out_step);
     if (line->out == 0)
         strcpy(cells[2], "-");
-    energy_texts(cells[3], cells[4], line->given);
-    time_texts(cells[5], cells[6], line->on);
-    energy_texts(cells[7], cells[8], line->unused);
+    kwh_text(cells[3], line->given);
+    hours_text(cells[4], line->on);
+    kwh_text(cells[5], line->unused);
 }
 
 void print_roof(const struct roof_line *lines, const struct stick *stick)
 {
-    static const char *const heading[ROOF_COLUMNS] = {"inverter", "out_kW", "at_step", "out_J", "out_kWh", "on_s",
-        "on_h", "unused_J", "unused_kWh"};
+    static const char *const heading[ROOF_COLUMNS] = {"inverter", "out_kW", AT_STEP, "out_kWh", "on_h",
+        "unused_kWh"};
     static row rows[ROWS];
     begin_rows(rows, heading, ROOF_COLUMNS, stick->inverters);
     for (unsigned i = 0; i <= stick->inverters; i++)
         line_texts(rows[i + 1], &lines[i]);
     strcpy(rows[stick->inverters + 1][0], "roof");
-    putchar('\n');
-    print_rows(rows, stick->inverters + 2, ROOF_COLUMNS);
+    print_blocks(rows, stick->inverters + 2, ROOF_COLUMNS);
+}
+
+void json_roof(const struct roof_line *line)
+{
+    json_number("out_W", line->out);
+    if (line->out == 0)
+        json_null("out_step");
+    else
+        json_number("out_step", line->out_step);
+    json_large("out_J", line->given);
+    json_number("on_s", (int64_t)line->on);
+    json_large("unused_J", line->unused);
 }

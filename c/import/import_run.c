@@ -1,7 +1,7 @@
 /* import run: a stick to its result file, which is written as the run goes on. */
 #include <stdlib.h>
 
-#include "import.h"
+#include "import_output.h"
 
 static void write_records(void *to, const struct run *run)
 {
@@ -24,8 +24,32 @@ static int run_into(const char *file, const char *target)
     return outcome;
 }
 
+static void put_records(void *to, const struct run *run)
+{
+    int *outcome = to;
+    if (*outcome == COMPLETE)
+        *outcome = write_output(run->bytes, run->len);
+}
+
+/* All of the stick is accepted before anything goes to standard output; so it is run twice. */
+static int run_to_output(const char *file)
+{
+    struct stick stick = {.name = file, .is_kept = 1};
+    int written = COMPLETE, outcome = begin_output("RESULT");
+    if (outcome == COMPLETE)
+        outcome = ask_complete(&stick, NULL, "no result is written");
+    if (outcome == COMPLETE) {
+        print_answer(&stick);
+        outcome = feed_again(&stick, &(struct taker){put_records, &written});
+    }
+    free_kept(&stick);
+    return outcome == COMPLETE ? written : outcome;
+}
+
 int run_command(const char *file, const char *result)
 {
+    if (is_standard_output(result))
+        return run_to_output(file);
     char *target = target_of(file, result, "RESULT");
     if (target == NULL)
         return FAILED;

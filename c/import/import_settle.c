@@ -73,9 +73,11 @@ static int refused_study(const char *name, uint32_t number, int64_t load, const 
     if (number != YB_OUT_OF_RANGE || (!bad_load && !bad_budget))
         return fault(name);
     if (bad_load)
-        printf("LOAD %s: refused 5 (value out of range)\n    A load is 0 to 100,000,000 W.\n", load_word);
+        printf("LOAD %s: refused %" PRIu32 " (%s)\n    A load is 0 to 100,000,000 W.\n", load_word, number,
+            yb_refusal_words(number));
     if (bad_budget)
-        printf("BUDGET %s: refused 5 (value out of range)\n    A budget is 1 to 10,000 passes.\n", budget_word);
+        printf("BUDGET %s: refused %" PRIu32 " (%s)\n    A budget is 1 to 10,000 passes.\n", budget_word, number,
+            yb_refusal_words(number));
     failed(name, "no study; ", bad_load ? "call again with another LOAD" : "call again with another BUDGET");
     return REFUSED;
 }
@@ -107,16 +109,22 @@ static void print_rest(const struct study *study)
         printf(": no further pass changes a request (every unit above reserve is at its rating)\n");
 }
 
+static const char *passes_word(int64_t passes)
+{
+    return passes == 1 ? "pass" : "passes";
+}
+
 static void print_study(const struct study *study, const char *name, int64_t load, int64_t budget)
 {
     int64_t target = study->settings.target, band = study->settings.band;
     print_name(stdout, name);
     if (study->settled)
-        printf(": settled after %" PRIu32 " changing passes\n", study->passes);
+        printf(": settled after %" PRIu32 " changing %s\n", study->passes, passes_word(study->passes));
     else
-        printf(": not settled within %" PRId64 " passes, %" PRIu32 " changed a request\n", budget, study->passes);
+        printf(": not settled within %" PRId64 " %s, %" PRIu32 " changed a request\n", budget, passes_word(budget),
+            study->passes);
     print_mode(study->settings.mode);
-    printf("unit\trequest W\trating W\n");
+    printf("units are counted from 0: unit 0 is the 1st unit\nunit\trequest W\trating W\n");
     for (unsigned i = 0; i < study->units; i++)
         printf("%u\t%" PRId32 "\t%" PRIu32 "\n", i, study->requests[i], study->ratings[i]);
     int64_t off = study->gap < 0 ? -study->gap : study->gap;

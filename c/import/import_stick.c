@@ -1,10 +1,9 @@
 /* Sticks: asking the library what one says, and the lines that say what came of it. */
-#define _POSIX_C_SOURCE 200809L /* for stat */
 #include <inttypes.h>
 #include <string.h>
-#include <sys/stat.h>
 
-#include "import.h"
+#include "import_files.h"
+#include "import_json.h"
 #include "import_result.h"
 #include "yesbrulka.h"
 
@@ -13,22 +12,6 @@ void print_name(FILE *out, const char *name)
 {
     for (; *name != '\0'; name++)
         putc((unsigned char)*name < ' ' || *name == 0x7F ? '?' : *name, out);
-}
-
-void print_commas(uint64_t number)
-{
-    if (number >= 1000) {
-        print_commas(number / 1000);
-        printf(",%03u", (unsigned)(number % 1000));
-    } else {
-        printf("%u", (unsigned)number);
-    }
-}
-
-void print_many(uint64_t number, const char *what, const char *of_one, const char *of_many)
-{
-    print_commas(number);
-    printf(" %s%s%s", what, number == 1 ? "" : "s", number == 1 ? of_one : of_many);
 }
 
 void print_bytes(const uint8_t *bytes, uint64_t count, uint64_t place)
@@ -42,6 +25,7 @@ void print_bytes(const uint8_t *bytes, uint64_t count, uint64_t place)
 
 int failed(const char *name, const char *what, const char *why)
 {
+    keep_failure(what, why);
     end_progress();
     fflush(stdout);
     fprintf(stderr, "import: ");
@@ -74,38 +58,11 @@ const char *mode_name(unsigned mode)
     return names[mode < sizeof names / sizeof names[0] ? mode : 0];
 }
 
-/* Why there are no value bytes where the field was refused. */
-static const char *no_value(const struct stick *stick)
-{
-    if (refused_len(stick) == 0)
-        return "the file ends before it";
-    if (refused_len(stick) < HEADER)
-        return "the file ends within its tag and length";
-    return said_length(stick) != 0 ? "the file ends after its tag and length" : "its length is 0";
-}
-
-static void print_value(const struct stick *stick)
-{
-    uint64_t place = stick->place - stick->window_from;
-    uint64_t start = yb_value_start(stick->window, stick->window_len, place);
-    uint64_t count = yb_value_len(stick->window, stick->window_len, place);
-    if (count == 0) {
-        printf("    The field has no value bytes: %s.\n", no_value(stick));
-        return;
-    }
-    if (said_length(stick) == count)
-        printf("    The field's %" PRIu64 " value bytes:\n", count);
-    else
-        printf("    The %" PRIu64 " value bytes that are there, of %u:\n", count, said_length(stick));
-    print_bytes(stick->window + start, count, stick->window_from + start);
-}
-
 /* A result in the stick's place is told from other bytes that are no stick, and from a stick that is too long. */
 static int looks_like_a_result(const struct stick *stick)
 {
     return (stick->number == YB_UNKNOWN_TAG || stick->number == YB_TOO_MANY) && stick->place == 0 &&
-        refused_len(stick) != 0 &&
-        (*refused_bytes(stick) == RECORD_TAG || *refused_bytes(stick) == RESULT_END_TAG);
+        begins_like_a_result(refused_bytes(stick), refused_len(stick));
 }
 
 int begins_like_a_stick(const uint8_t *bytes, size_t len)
@@ -114,25 +71,15 @@ int begins_like_a_stick(const uint8_t *bytes, size_t len)
     return len >= sizeof fleet && memcmp(bytes, fleet, sizeof fleet) == 0;
 }
 
-/* Whether the result that was given with the stick is one itself. Only of a plain file the first bytes can be read for
-** that and nothing waits.
-*/
-static int has_stick_for_result(const struct stick *stick)
+/* An archive of the kind gzip begins with the tag of a result's end too, and then goes on otherwise. */
+int begins_like_a_result(const uint8_t *bytes, size_t len)
 {
-    uint8_t first[HEADER];
-    struct stat there;
-    if (stick->result == NULL || stat(stick->result, &there) != 0 || !S_ISREG(there.st_mode))
-        return 0;
-    FILE *in = fopen(stick->result, "rb");
-    size_t len = in == NULL ? 0 : fread(first, 1, sizeof first, in);
-    if (in != NULL)
-        fclose(in);
-    return begins_like_a_stick(first, len);
+    return len != 0 && (bytes[0] == RECORD_TAG || bytes[0] == RESULT_END_TAG) && (len == 1 || bytes[1] == 0);
 }
 
 static void print_exchanged(const struct stick *stick)
 {
-    if (has_stick_for_result(stick)) {
+    if (stick->result != NULL && is_stick_file(stick->result)) {
         printf("    It looks like a result file, and ");
         print_name(stdout, stick->result);
         printf(" like a stick: they may have been exchanged; the stick's file comes first.\n");
@@ -154,7 +101,7 @@ void print_answer(const struct stick *stick)
     if (looks_like_a_result(stick))
         print_exchanged(stick);
     if (stick->is_shown)
-        print_value(stick);
+        print_refused_field(stick);
 }
 
 int refused(const struct stick *stick, const char *not_done)

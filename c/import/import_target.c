@@ -35,9 +35,11 @@ static const char *not_replaceable(const char *file, const char *name, const str
     for (int lines = STDOUT_FILENO; lines <= STDERR_FILENO; lines++)
         if (fstat(lines, &other) == 0 && is_same(there, &other))
             return "it is the file that the lines go to; give # another name";
-    if (access(name, W_OK) != 0)
-        return errno == EACCES ? "it is protected against writing; give # another name" : strerror(errno);
-    return NULL;
+    if (access(name, W_OK) == 0)
+        return NULL;
+    if (errno == EROFS)
+        return "the disk can only be read; give # a name on another disk";
+    return errno == EACCES ? "it is protected against writing; give # another name" : strerror(errno);
 }
 
 /* Why there can be no file under a name, or NULL. */
@@ -47,8 +49,6 @@ static const char *no_target(const char *file, const char *name)
     size_t len = strlen(name);
     if (len == 0)
         return "it is no name; give # the name of a file";
-    if (strcmp(name, "-") == 0)
-        return "standard output cannot be replaced whole; give # the name of a file";
     if (stat(name, &there) == 0)
         return not_replaceable(file, name, &there);
     if (lstat(name, &there) == 0 && S_ISLNK(there.st_mode))

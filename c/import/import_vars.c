@@ -1,7 +1,6 @@
 /* The var lines of the summary: what each unit may provide and absorb, and what it did; and for each unit and inverter
 ** the largest and the smallest vars.
 */
-#include <inttypes.h>
 #include <string.h>
 
 #include "import_summary.h"
@@ -34,12 +33,12 @@ int ask_vars(struct var_line *lines, const struct stick *stick)
 
 static void line_texts(row cells, const struct var_line *line)
 {
-    snprintf(cells[1], CELL, "%" PRIu32, line->unit.kva);
-    snprintf(cells[2], CELL, "%" PRId32, line->unit.var_request);
-    snprintf(cells[3], CELL, "%" PRIu32, line->limits.provide);
-    snprintf(cells[4], CELL, "%" PRIu32, line->limits.absorb);
-    snprintf(cells[5], CELL, "%" PRId64, line->out);
-    snprintf(cells[6], CELL, "%" PRId64, line->in);
+    whole_text(cells[1], line->unit.kva);
+    signed_text(cells[2], line->unit.var_request);
+    whole_text(cells[3], line->limits.provide);
+    whole_text(cells[4], line->limits.absorb);
+    signed_text(cells[5], line->out);
+    signed_text(cells[6], line->in);
 }
 
 void print_vars(const struct var_line *lines, const struct stick *stick)
@@ -50,8 +49,17 @@ void print_vars(const struct var_line *lines, const struct stick *stick)
     begin_rows(rows, heading, VAR_COLUMNS, stick->units);
     for (unsigned i = 0; i < stick->units; i++)
         line_texts(rows[i + 1], &lines[i]);
-    putchar('\n');
-    print_rows(rows, stick->units + 1, VAR_COLUMNS);
+    print_blocks(rows, stick->units + 1, VAR_COLUMNS);
+}
+
+void json_vars(const struct var_line *line)
+{
+    json_number("kva_VA", line->unit.kva);
+    json_number("request_var", line->unit.var_request);
+    json_number("provide_var", line->limits.provide);
+    json_number("absorb_var", line->limits.absorb);
+    json_number("out_var", line->out);
+    json_number("in_var", line->in);
 }
 
 static void see_step(struct var_ends *ends, uint32_t step, int32_t vars)
@@ -79,10 +87,10 @@ void see_var_ends(struct var_ends *ends, const struct run *run)
 /* Without a step there are none. */
 static void end_texts(row cells, const struct var_ends *ends, uint32_t steps)
 {
-    snprintf(cells[1], CELL, "%" PRId32, ends->high);
-    snprintf(cells[2], CELL, "%" PRIu32, ends->high_step);
-    snprintf(cells[3], CELL, "%" PRId32, ends->low);
-    snprintf(cells[4], CELL, "%" PRIu32, ends->low_step);
+    signed_text(cells[1], ends->high);
+    whole_text(cells[2], ends->high_step);
+    signed_text(cells[3], ends->low);
+    whole_text(cells[4], ends->low_step);
     for (int k = 1; k < END_COLUMNS && steps == 0; k++)
         strcpy(cells[k], "-");
 }
@@ -90,7 +98,7 @@ static void end_texts(row cells, const struct var_ends *ends, uint32_t steps)
 /* An inverter has the word before its number, as in a table. */
 void print_var_ends(const struct var_ends *ends, const struct stick *stick)
 {
-    static const char *const heading[END_COLUMNS] = {"unit", "high_var", "at_step", "low_var", "at_step"};
+    static const char *const heading[END_COLUMNS] = {"unit", "high_var", AT_STEP, "low_var", AT_STEP};
     static row rows[ROWS];
     unsigned count = stick->units + stick->inverters;
     begin_rows(rows, heading, END_COLUMNS, stick->units);
@@ -98,6 +106,16 @@ void print_var_ends(const struct var_ends *ends, const struct stick *stick)
         snprintf(rows[stick->units + i + 1][0], CELL, "inverter %u", i);
     for (unsigned i = 0; i < count; i++)
         end_texts(rows[i + 1], &ends[i], stick->steps);
-    putchar('\n');
-    print_rows(rows, count + 1, END_COLUMNS);
+    print_blocks(rows, count + 1, END_COLUMNS);
+}
+
+void json_var_ends(const struct var_ends *ends, const struct stick *stick)
+{
+    static const char *const keys[] = {"high_var", "high_var_step", "low_var", "low_var_step"};
+    const int64_t values[] = {ends->high, ends->high_step, ends->low, ends->low_step};
+    for (int k = 0; k < 4; k++)
+        if (stick->steps == 0)
+            json_null(keys[k]);
+        else
+            json_number(keys[k], values[k]);
 }

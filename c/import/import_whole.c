@@ -127,12 +127,37 @@ static int settle_name(int is_good, const char *last)
     return done ? 0 : -1;
 }
 
+/* What the system's error is to the person, where that has better words; and what to do, in which # is the word that
+** the name is given for.
+*/
+static const struct {
+    int error;
+    const char *why, *then;
+} failures[] = {
+    {ENOENT, "there is no such folder", "Make the folder or give # a name in one that is there"},
+    {ENOTDIR, NULL, "Give # a name in a folder"},
+    {EACCES, "there is no permission to write in its folder",
+        "Ask for that permission or give # a name in another folder"},
+    {EPERM, "there is no permission to write in its folder",
+        "Ask for that permission or give # a name in another folder"},
+    {EROFS, "the disk can only be read", "Give # a name on another disk"},
+    {ENOSPC, NULL, "Make room or give # a name on another disk"},
+    {EDQUOT, NULL, "Make room or give # a name on another disk"},
+    {EFBIG, NULL, "Give # a name on a disk that takes files of that size"},
+    {ENAMETOOLONG, NULL, "Give # a shorter name"},
+    {0, NULL, "Give # another name"},
+};
+
 static int unwritten(const struct whole *whole, int error)
 {
-    const char *why = error == ENOENT ? "there is no such folder" : strerror(error);
-    failed(whole->name, "cannot be written: ", why);
-    fprintf(stderr, "    Nothing under that name has changed. Make room or give %s another name, and call again.\n",
-        whole->word);
+    size_t i = 0;
+    while (failures[i].error != 0 && failures[i].error != error)
+        i++;
+    const char *then = failures[i].then;
+    int before = (int)strcspn(then, "#");
+    failed(whole->name, "cannot be written: ", failures[i].why != NULL ? failures[i].why : strerror(error));
+    fprintf(stderr, "    Nothing under that name has changed. %.*s%s%s, and call again.\n", before, then, whole->word,
+        then + before + 1);
     return FAILED;
 }
 

@@ -132,18 +132,18 @@ static void print_parts(const struct beside *beside, const struct ours *ours)
     print_rows(rows, count + 1, PARTS_COLUMNS);
 }
 
-/* Whose record is due, counted as in the files, from 0, and as people do; or the end. */
-static void print_due(const struct due *due, const char *step, const char *end)
+/* Whose record is due, counted as in the files and as people do; or the end. */
+static void print_due(const struct due *due, const char *the)
 {
-    const char *whose = due->tag == RECORD_TAG ? "unit" : "inverter";
     if (due->tag == RESULT_END_TAG) {
-        printf("%s", end);
+        printf("%s end", the);
         return;
     }
-    printf("%s %" PRIu32 ", %s %u (", step, due->step, whose, due->which);
-    print_counted(due->step + 1, "step, ");
-    print_counted(due->which + 1, whose);
-    printf(")");
+    printf("%s record of ", the);
+    print_which(due->tag == RECORD_TAG ? "unit" : "inverter", due->which);
+    printf(", in ");
+    print_the_step(due->step);
+    printf(",");
 }
 
 static void print_differing(const struct beside *beside, const struct ours *ours)
@@ -160,11 +160,12 @@ static void print_differing(const struct beside *beside, const struct ours *ours
 static void print_field(const struct beside *beside, const struct ours *ours)
 {
     printf("    ");
-    print_due(&ours->due, "Step", "The end");
+    print_due(&ours->due, "The");
     printf(" is due there");
-    if (beside->count < ours->due.len)
-        printf(", and is cut short: %d of its %d bytes are there, and %d are missing", (int)beside->count,
-            (int)ours->due.len, (int)(ours->due.len - beside->count));
+    int there = (int)beside->count, missing = (int)ours->due.len - there;
+    if (missing > 0)
+        printf(", and is cut short: %d of its %d bytes %s there, and %d %s missing", there, (int)ours->due.len,
+            there == 1 ? "is" : "are", missing, missing == 1 ? "is" : "are");
     printf(".");
     print_differing(beside, ours);
     print_parts(beside, ours);
@@ -173,7 +174,7 @@ static void print_field(const struct beside *beside, const struct ours *ours)
 static void print_lacking(const struct beside *beside, const struct due *due)
 {
     printf("    The result ends there: ");
-    print_due(due, "step", "the end");
+    print_due(due, "the");
     printf(" is missing. The %s of ", due->tag == RESULT_END_TAG ? "end field" : "reading");
     print_name(stdout, beside->stick->name);
     printf(" that asks for it is at byte ");

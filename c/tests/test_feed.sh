@@ -69,14 +69,18 @@ done
 
 # Refused ones: what and where, no result, and what had its name stays.
 call /dev/null - "$result"
-good test "$status|$output|$error" = '1||feed: standard input: refused 8 at byte 0, after 0 steps; there is no result'
+good test "$status|$output|$error" = \
+    '1||feed: standard input: refused 8 (end field missing) at byte 0, after 0 steps; there is no result'
 call <(head -c 100 examples/season.stick) - "$result"
-good test "$status|$output|$error" = '1||feed: standard input: refused 1 at byte 61, after 0 steps; there is no result'
+good test "$status|$output|$error" = \
+    '1||feed: standard input: refused 1 (field cut short) at byte 61, after 0 steps; there is no result'
+# The words are those that import has.
 for file in examples/refused-*.stick /dev/null; do
     number=${file#*refused-}
     number=${number%%-*}
     if [ "$file" = /dev/null ]; then number=8; fi
-    refused="refused $((10#$number)) at byte "
+    refused=$(build/import check "$file" 2>/dev/null | sed -n '1s/.*: \(refused [0-9]* ([a-z ]*) at byte \).*/\1/p')
+    good test "${refused%% (*}" = "refused $((10#$number))"
     for chunk in 7 65536; do
         rm -f "$result"
         call "$file" - "$result" "$chunk"

@@ -1,7 +1,13 @@
 #!/bin/bash
 # The command build/import as people call it, over the sample sticks and over hostile input: its lines, its
 # messages and its exit statuses. Each failed check is told on standard error; the last line counts them.
+#
+#   test_import.sh [plain | sanitized]   one half of them: the tool as it is, or with the compiler's sanitizers
 set -u
+case ${1-plain sanitized} in
+plain | sanitized | 'plain sanitized') halves=${1-plain sanitized} ;;
+*) echo "$0: plain or sanitized, not $1" >&2; exit 2 ;;
+esac
 cd "$(dirname "${BASH_SOURCE[0]}")/../.." || exit 2
 # shellcheck source=tools/env.sh
 . tools/env.sh
@@ -35,6 +41,11 @@ lines() {
     [ "$(wc -l <"$work/output")" = "$1" ]
 }
 
+# narrow: no line that came out is wider than 100 columns.
+narrow() {
+    [ "$(awk 'length > 100' "$work/output")" = '' ]
+}
+
 # call ARGUMENT..: call the command and keep what it gives.
 call() {
     called=$*
@@ -51,19 +62,104 @@ check() {
     good test "$status|$output|$error" = "$expected"
 }
 
-# refused NAME NUMBER WORDS PLACE STEPS: one file is refused; the second line is for the person.
-refused() {
-    call check "$1"
-    good test "$status|$error" = '1|import: 1 of 1 files refused'
-    good test "${output%%$'\n'*}" = "$1: refused $2 ($3) at byte $4 after $5 steps"
-    good lines 2
-    good like "$output" $'*\n    [A-Z]*.'
+# below: the lines below a file's first are for the person: sentences, in no more columns than a screen has.
+below() {
+    ! tail -n +2 "$work/output" | grep -qv '^    [^ ]' && like "$output" '*.' &&
+        [ "$(tail -n +2 "$work/output" | wc -L)" -le 100 ]
 }
 
-# shown FIRST LINE..: the lines after the first two, of a file that was shown.
+# refused NAME NUMBER WORDS PLACE STEPS: one file is refused, and what is below is for the person.
+refused() {
+    call check "$1"
+    good test "$status|$error" = '1|import: 1 of 1 file refused'
+    good test "${output%%$'\n'*}" = "$1: refused $2 ($3) at byte $4 after $5 steps"
+    good below
+}
+
+# advised PATTERN: what is below the first line of a refused file, as one line, is like that between anything.
+advised() {
+    good like " $(tail -n +2 "$work/output" | sed 's/^ *//' | tr '\n' ' ')" "* $1*"
+}
+
+# shown LINE..: the lines of the field, of a refused file that was shown.
 shown() {
-    good test "$status|$error" = '1|import: 1 of 1 files refused'
-    good test "$(tail -n +3 "$work/output")" = "$(printf '%s\n' "$@")"
+    good test "$status|$error" = '1|import: 1 of 1 file refused'
+    good test "$(sed -nE '/^    (At byte|There is no field|The bytes that are there|The first bytes)/,$p' \
+        "$work/output")" = "$(printf '%s\n' "$@")"
+}
+
+# wrapped TEXT: a text as it stands below a file's line.
+wrapped() {
+    fold -s -w 97 <<<"$1" | sed 's/^/    /; s/ *$//'
+}
+
+# measured FILE: the lines that check has below that of a complete file, made of the file by other means: its measures
+# are the phases that the settings choose, in whole watts or mA. No call of the library takes more than 2,097,152 bytes.
+measured() {
+    local size
+    size=$(wc -c <"$1")
+    if [ "$size" -gt 2097152 ]; then
+        wrapped "It has $(commas "$size") bytes, more than the 2,097,152 of a call that takes a whole file: it can be \
+fed, as the commands here do, and is too long for its smallest and largest measure to be told."
+        return
+    fi
+    od -An -v -tx1 "$1" | tr -d ' \n' | LC_ALL=C awk '
+        function byte(at) { return 16 * digit[substr($0, 2 * at + 1, 1)] + digit[substr($0, 2 * at + 2, 1)] }
+        function number(at, n,   v) { for (v = 0; n > 0; n--) v = 256 * v + byte(at++); return v }
+        function thousandths(at,   first, v) {
+            first = number(at, 4)
+            v = ((first % 1048576) * 4294967296 + number(at + 4, 4)) / 4503599627370496
+            v = (int(first / 1048576) % 2048 ? 1 + v : 2 * v) * 2 ^ (int(first / 1048576) % 2048 - 1023) * 1000
+            v = v - int(v) > 0.5 || (v - int(v) == 0.5 && int(v) % 2) ? int(v) + 1 : int(v)
+            return first >= 2147483648 ? -v : v
+        }
+        function chosen(at,   a, b, c) {
+            a = thousandths(at); b = thousandths(at + 8); c = thousandths(at + 16)
+            if (choice == 0) return a + b + c
+            if (choice < 4) return choice == 1 ? a : choice == 2 ? b : c
+            if (choice == 4) return a > b ? (a > c ? a : c) : (b > c ? b : c)
+            return a < b ? (a < c ? a : c) : (b < c ? b : c)
+        }
+        function commas(n) { return n < 1000 ? n : commas(int(n / 1000)) sprintf(",%03d", n % 1000) }
+        function kilo(n) {
+            return (n < 0 ? "-" : "") commas(int((n < 0 ? -n : n) / 1000)) sprintf(".%03d", (n < 0 ? -n : n) % 1000)
+        }
+        function row(step,   n) {
+            n = step + 1
+            return "step " commas(step) ", the " commas(n) \
+                (n % 100 ~ /^1[123]$/ || n % 10 == 0 || n % 10 > 3 ? "th" : substr("stndrd", 2 * (n % 10) - 1, 2)) " row"
+        }
+        function readings(n) { return commas(n) (n == 1 ? " reading" : " readings") }
+        BEGIN { for (i = 0; i < 16; i++) digit[sprintf("%x", i)] = i }
+        {
+            for (at = 0; 2 * at < length($0); at += 3 + number(at + 1, 2)) {
+                tag = byte(at)
+                if (tag == 3) { unit = byte(at + 3) > 3 ? "A" : "kW"; choice = byte(at + 14) }
+                if (tag == 4 || tag == 9) {
+                    m = chosen(at + 3)
+                    if (!seen || m < low) { low = m; low_at = steps }
+                    if (!seen || m > high) { high = m; high_at = steps }
+                    seen = 1
+                }
+                missing += tag == 5
+                steps += tag == 4 || tag == 5 || tag == 9
+            }
+            if (!steps) print "    It has no readings."
+            else if (!seen) print "    It has no measure: " readings(steps) " missing, which is all."
+            else {
+                print "    Smallest measure " kilo(low) " " unit " at " row(low_at) "."
+                print "    Largest measure " kilo(high) " " unit " at " row(high_at) "; " readings(missing) " missing."
+            }
+        }'
+}
+
+# complete FILE STEPS: check says that a file is complete, what its readings are, and what complete is about.
+about=$(sed -n 's/^    "\(Complete is about .*\)";$/\1/p' c/import/import_look.c)
+complete() {
+    call check "$1"
+    good test "$status|$error|$output" = "0||$1: complete, $2 steps
+$(measured "$1")
+$about"
 }
 
 # bytes HEX..: these bytes, from hexadecimal words.
@@ -76,6 +172,12 @@ bytes() {
 # hex FILE: the other way, without blanks.
 hex() {
     od -An -v -tx1 "$1" | tr -d ' \n'
+}
+
+# pour FILE PIPE: write a file into a named pipe. Where nobody reads the pipe it gives up, so that no suite waits for ever.
+pour() {
+    # shellcheck disable=SC2016 # the inner shell expands them
+    timeout 60 bash -c 'cat "$1" >"$2"' pour "$1" "$2"
 }
 
 # patch FILE PLACE HEX..: write these bytes over those at a place.
@@ -109,13 +211,17 @@ as_other() {
     output=$(cat "$work/output")
 }
 
-# text NAME: a text of the tool's source.
-text() {
-    sed -n "/^static const char $1\\[/,/;\$/s/^ *\"\\(.*\\)\\\\n\".*\$/\\1/p" c/import/import.c
-}
-
 # shellcheck disable=SC2034 # the suites use it
-usage=$(text usage)
+usage=$("$import" 2>&1)
+
+# What programs are told is read by other means, in Python.
+# shellcheck disable=SC2034 # the suites use it
+has_python=yes
+# shellcheck disable=SC2034 # the same
+if ! command -v python3 >/dev/null && ! yb_install python3; then
+    has_python=no
+    echo 'NOT RUN: what the import tool tells programs, read by other means; install the package python3'
+fi
 
 # The fields of small sticks: a fleet of one unit or two and steps of 60 s; the unit of the figures D1 to D3, with a
 # reserve of 100,000 J and a given store; settings with a mode, a target and a band; a reading; the end.
@@ -144,8 +250,8 @@ small_sticks() {
 }
 
 # The suites, each in a part of its own.
-for part in check run faults settle result limits older roof current advice voltage feed rescue rescue_out partner \
-    canned rescue_canned partner_canned; do
+for part in check run faults settle result limits older roof current advice voltage values show feed rescue rescue_out \
+    partner words peak summary json canned rescue_canned partner_canned peak_canned; do
     # shellcheck disable=SC1090 # one of the parts beside this
     . "c/tests/test_import_$part.sh" || exit 1
 done
@@ -154,6 +260,7 @@ done
 all_suites() {
     check_suite
     small_sticks
+    check_json_suite
     run_suite
     refused_run_suite
     target_suite
@@ -186,11 +293,32 @@ all_suites() {
     voltage_order_suite
     voltage_words_suite
     voltage_rescue_suite
+    wrong_values_suite
+    odd_values_suite
+    unusable_suite
+    show_refused_suite
+    show_large_suite
+    show_complete_suite
+    foreign_suite
+    readme_suite
     feed_suite
     refused_feed_suite
     pipe_suite
     feed_target_suite
     feed_progress_suite
+    options_suite
+    names_suite
+    dash_suite
+    peak_suite
+    sweep_suite
+    peak_words_suite
+    peak_files_suite
+    two_words_suite
+    many_suite
+    figure_words_suite
+    width_suite
+    json_suite
+    csv_suite
     rescue_examples_suite
     rescue_damage_suite
     rescue_large_suite
@@ -200,48 +328,59 @@ all_suites() {
     rm -rf "${work:?}"/*
 }
 
-small_sticks
-"$import" run examples/season.stick "$work/season.result" >/dev/null
-called='' status='' output='' error=''
-# shellcheck disable=SC2086 # YB_STATIC may be no word
-good "$YB_CC" -O2 -Wall -Wextra -Werror -std=c11 $YB_STATIC -Ic -Wl,--wrap=openat,--wrap=write,--wrap=fsync \
-    -Wl,--wrap=close,--wrap=renameat,--wrap=fread,--wrap=ferror,--wrap=realloc -o build/x86_64/import_faults \
-    c/import/*.c c/tests/test_faults.c "$YB_ARCHIVE"
-fault_suite
-ended_suite
-feed_fault_suite
-rescue_fault_suite
-partner_fault_suite
-largest_suite
-largest_roof_suite
-all_suites
-
-# The same with the compiler's sanitizers, which end the program at the first wrong step. Their search for leaks
-# takes seconds a call on some machines and fails on others.
-mkdir -p build/sanitized
-export ASAN_OPTIONS=detect_leaks=0
-sanitizers='-fsanitize=address,undefined -fno-sanitize-recover=all'
-# shellcheck disable=SC2086 # the sanitizers are words
-if yb_compiles gcc $sanitizers; then
-    flags="-g -O1 -Wall -Wextra -Werror -std=c11 -Ic $sanitizers"
-    import=build/sanitized/import-canned
+# plain_half: the tool as it is, also where a call of the system goes wrong.
+plain_half() {
+    small_sticks
+    "$import" run examples/season.stick "$work/season.result" >/dev/null
     called='' status='' output='' error=''
-    good gcc $flags -o "$import" c/import/*.c c/tests/stub_surface.c
-    canned_suite
-    canned_run_suite
-    canned_feed_suite
-    canned_rescue_suite
-    canned_partner_suite
-    if [ "$(uname -m)" = x86_64 ]; then
-        import=build/sanitized/import
-        good gcc $flags -o "$import" c/import/*.c "$YB_ARCHIVE"
-        all_suites
+    # shellcheck disable=SC2086 # YB_STATIC may be no word
+    good "$YB_CC" -O2 -Wall -Wextra -Werror -std=c11 $YB_STATIC -Ic -Wl,--wrap=openat,--wrap=write,--wrap=fsync \
+        -Wl,--wrap=close,--wrap=renameat,--wrap=fread,--wrap=ferror,--wrap=realloc -o build/x86_64/import_faults \
+        c/import/*.c c/tests/test_faults.c "$YB_ARCHIVE"
+    fault_suite
+    ended_suite
+    feed_fault_suite
+    rescue_fault_suite
+    partner_fault_suite
+    largest_suite
+    largest_roof_suite
+    all_suites
+}
+
+# sanitized_half: the same with the compiler's sanitizers, which end the program at the first wrong step. Their search for
+# leaks takes seconds a call on some machines and fails on others.
+sanitized_half() {
+    mkdir -p build/sanitized
+    export ASAN_OPTIONS=detect_leaks=0
+    sanitizers='-fsanitize=address,undefined -fno-sanitize-recover=all'
+    # shellcheck disable=SC2086 # the sanitizers are words
+    if yb_compiles gcc $sanitizers; then
+        flags="-g -O1 -Wall -Wextra -Werror -std=c11 -Ic $sanitizers"
+        import=build/sanitized/import-canned
+        called='' status='' output='' error=''
+        good gcc $flags -o "$import" c/import/*.c c/tests/stub_surface.c
+        canned_suite
+        canned_look_suite
+        canned_run_suite
+        canned_feed_suite
+        canned_rescue_suite
+        canned_partner_suite
+        canned_peak_suite
+        if [ "$(uname -m)" = x86_64 ]; then
+            import=build/sanitized/import
+            good gcc $flags -o "$import" c/import/*.c "$YB_ARCHIVE"
+            all_suites
+        else
+            echo 'NOT RUN: the import tool with sanitizers over the archive: it is x86-64 code, and this machine is not'
+        fi
     else
-        echo 'NOT RUN: the import tool with sanitizers over the archive: it is x86-64 code, and this machine is not'
+        echo 'NOT RUN: the import tool with sanitizers: gcc cannot link them here; install gcc and libc6-dev'
     fi
-else
-    echo 'NOT RUN: the import tool with sanitizers: gcc cannot link them here; install gcc and libc6-dev'
-fi
+}
+
+for half in $halves; do
+    "${half}_half"
+done
 
 echo "$passed passed, $failed failed"
 [ "$failed" = 0 ]

@@ -39,7 +39,7 @@ fault_suite() {
     told='import: interrupted; nothing under the name of RESULT has changed'
     for fault in openat:1:28 openat:1:13 write:1:28 write:1:27 write:1:5 'write:1:half write:2:28' \
         'write:1:half write:2:half write:3:122' fsync:1:5 fsync:1:28 fsync:1:122 close:1:5 close:1:28 close:1:122 \
-        renameat:1:5 renameat:1:13 renameat:1:28; do
+        renameat:1:5 renameat:1:13 renameat:1:28 openat:1:30 openat:1:1 renameat:1:1; do
         faulty "$fault" "$stick"
         failed_write "$work/out/result" "$(errno_text "${fault##*:}")"
         good kept
@@ -85,13 +85,14 @@ again: Input/output error"
     good written season
 }
 
-# errno_text NUMBER: what the system says of an error.
+# errno_text NUMBER: what is said of an error; of some it is what the system says.
 errno_text() {
     case $1 in
     5) echo 'Input/output error' ;;
-    13) echo 'Permission denied' ;;
+    1 | 13) echo "$denied" ;;
     27) echo 'File too large' ;;
     28) echo 'No space left on device' ;;
+    30) echo 'the disk can only be read' ;;
     122) echo 'Disk quota exceeded' ;;
     esac
 }

@@ -32,46 +32,51 @@ long_sticks() {
     rm "$work/day" "$work/days"
 }
 
-# idle_table STEPS: the table of the unit of these sticks, which idles in every step.
+# idle_table STEPS READINGS: the table of the unit of these sticks, which idles in every step; behind so many readings
+# all are missing.
 idle_table() {
-    echo "$heading"
-    awk -v steps="$1" 'BEGIN { for (i = 0; i < steps; i++) print i "\t0\t0\t-0.012\t0\t500000\t720" }'
+    echo "$heading$beside"
+    awk -v steps="$1" -v readings="$2" 'BEGIN {
+        for (i = 0; i < steps; i++)
+            print i "\t0\t0\t-0.012\t0\t500000\t720\t" (i < readings ? "0\t-12\t12" : "missing\t-12\t-")
+    }'
 }
 
-# too_long FILE: what check adds of a stick that no call of the library takes whole.
-too_long() {
-    local size
-    size=$(wc -c <"$1")
-    [ "$size" -gt 2097152 ] || return
-    printf '\n    It has %d bytes, more than the 2097152 of a call that takes a whole file: it can be fed, as the' "$size"
-    printf '\n    commands here do, and not lent to such a call.'
-}
+# What a summary says of the long stick, which the library's figures are not for.
+long_summary="$work/long: complete, 65535 steps
+1 unit, 65,535 steps of 60 s (1 min), 45 days 12 h 15 min
+mode 1 (PeakShave), target 0.000 kW, band 0.000 kW, factor 1,000 thousandths
+
+The smallest and the largest measure cannot be told of a stick that long: the library takes at most
+2,097,152 bytes for them. What follows is all that is there.
+$below
+ unit  request_kW  out_kW  in_kW  out_kWh  in_kWh  loss_kWh  low_kWh  at_step  not_met
+    0       0.000   0.000  0.012    0.000  13.107    13.107    0.139        0        0
+fleet       0.000   0.000  0.012    0.000  13.107    13.107    0.139        0        0
+
+$no_vars"
 
 feed_suite() {
-    local name steps
+    local name steps readings
     long_sticks
     good test "$(stat -c %s "$work/long" "$work/chunk" "$work/just" "$work/above" "$work/roofs" | tr '\n' ' ')" = \
         '3014693 65536 2097152 2097153 2807475 '
-    for name in 'long 65535' 'chunk 1450' 'just 45595' 'above 45589'; do
-        steps=${name#* } name=${name% *}
-        check 0 "$work/$name: complete, $steps steps$(too_long "$work/$name")" '' check "$work/$name"
-        check 0 "$work/$name: complete, $steps steps$(too_long "$work/$name")" '' show "$work/$name"
+    for name in 'long 65535 65535' 'chunk 1450 1421' 'just 45595 45588' 'above 45589 45588'; do
+        read -r name steps readings <<<"$name"
+        complete "$work/$name" "$steps"
+        call show "$work/$name"
+        good like "$status|$error|$output" \
+            "0||$work/$name: complete, $steps steps"$'\n*\n\n'"$(measured "$work/$name")"$'\n*'"$about"
         check 0 "$work/$name: complete, $steps steps" '' run "$work/$name" "$work/$name.result"
         good test "$(wc -c <"$work/$name.result")" = $((40 * steps + 7))
         call table "$work/$name" "$work/$name.result"
         good test "$status|$error" = '0|'
-        good cmp "$work/output" <(idle_table "$steps")
+        good cmp "$work/output" <(idle_table "$steps" "$readings")
     done
-    check 0 "$work/long: complete, 65535 steps
-1 units, steps of 60 s, mode 1 (PeakShave), target 0 W, band 0 W, factor 1000
- unit  request_W  out_kW  in_kW  out_J  out_kWh      in_J  in_kWh    loss_J  loss_kWh   low_J  at_step  not_met
-    0          0   0.000  0.012      0    0.000  47185200  13.107  47185200    13.107  500000        0        0
-fleet          0   0.000  0.012      0    0.000  47185200  13.107  47185200    13.107  500000        0        0
-
-$no_vars" '' \
-        summary "$work/long" "$work/long.result"
+    check 0 "$long_summary" '' summary "$work/long" "$work/long.result"
+    check 0 "$long_summary" '' summary "$work/long"
     call settle "$work/long" 6000
-    good like "$status|$error|$output" "0||$work/long: settled after 1 changing passes"$'\nunit*\n0\t5000\t5000\n*'
+    good like "$status|$error|$output" "0||$work/long: settled after 1 changing pass"$'\nunit*\n0\t5000\t5000\n*'
 
     # A fleet and a roof, whose first day is the sample's.
     check 0 "$work/roofs: complete, 65472 steps" '' run "$work/roofs" "$work/roofs.result"
@@ -84,9 +89,10 @@ $no_vars" '' \
     good cmp <(head -n 577 "$work/output") "$work/first"
     steps=$(summed_roof 900 <"$work/output" && echo && var_ends <"$work/output")
     call summary "$work/roofs" "$work/roofs.result"
-    good test "$(tail -n 12 "$work/output" | sed 's/^ *//; s/  */ /g')" = "$steps"
-    good test "$(head -n 2 "$work/output")" = "$work/roofs: complete, 65472 steps
-$(sed -n 2p <<<"$roof_summary")"
+    good test "$(columns <"$work/output" | tail -n 13)" = "$steps"
+    good test "$(head -n 3 "$work/output")" = "$work/roofs: complete, 65472 steps
+3 units, 3 inverters, 65,472 steps of 900 s (15 min), 682 days
+$(sed -n 3p <<<"$roof_summary")"
 
     # The longest stick that there is today: 64 units with limits and connections, 64 inverters, and a function.
     {
@@ -100,10 +106,10 @@ $(sed -n 2p <<<"$roof_summary")"
         bytes "$(end 65535)"
     } >"$work/longest"
     good test "$(wc -c <"$work/longest")" = 3364791
-    check 0 "$work/longest: complete, 65535 steps$(too_long "$work/longest")" '' check "$work/longest"
+    complete "$work/longest" 65535
     call settle "$work/longest" 6000 1
-    good like "$status|$error|$output" '0||*: not settled within 1 passes*'
-    good test "$(wc -l <"$work/output")" = 68
+    good like "$status|$error|$output" '0||*: not settled within 1 pass,*'
+    good test "$(wc -l <"$work/output")" = 69
     rm "$work/longest"
 
     # Results that are not those of a long stick.
@@ -164,27 +170,35 @@ refused_feed_suite() {
 
     # Rows far behind, which begin with 76 bytes and have 46; the reading begins 19 bytes further.
     bad_row $((76 + 46 * 60000 + 22)) 6 'reading not usable' 60000 7FF8000000000000
-    good like "$output" '*the row of readings after the first 60000,*'
+    advised 'The power of phase 1 in step 60,000, the 60,001st row, is no number; *'
     not_run "$work/damaged"
     call show "$work/damaged"
-    shown "    The field's 24 value bytes:" '     2760098  7F F8 00 00 00 00 00 00 00 00 00 00 00 00 00 00' \
-        '     2760114  00 00 00 00 00 00 00 00'
+    shown '    At byte 2,760,095: the reading of step 60,000, the 60,001st row, 27 bytes:' \
+        '                     value           here              may be                    bytes' \
+        '                       tag  power reading                                           04' \
+        '                    length             24                  24                    00 18' \
+        'wrong  power of phase 1 kW      no number  100,000 either way  7F F8 00 00 00 00 00 00' \
+        '       power of phase 2 kW          0.000  100,000 either way  00 00 00 00 00 00 00 00' \
+        '       power of phase 3 kW          0.000  100,000 either way  00 00 00 00 00 00 00 00'
     bad_row $((76 + 46 * 65534 + 3)) 6 'reading not usable' 65534 BFF0000000000000
-    good like "$output" '*Ask the manager for the weather of the row of readings after the first 65534,*'
+    advised 'The irradiance in step 65,534, the 65,535th row, is -1.000 kW/m2, below 0; *'
     bad_row $((76 + 46 * 50000)) 2 'unknown tag' 50000 EE
     bad_row $((76 + 46 * 50000 + 1)) 3 'wrong length' 50000 FFFF
-    good like "$output" '*The length of a weather is not *'
+    advised 'Here the file has the weather of step 50,000, the 50,001st row, with the tag hex 08 (8) and the length '\
+'hex FFFF (65,535); the length should be hex 0010 (16): *'
     call show "$work/damaged"
-    good test "$(sed -n 3p "$work/output") $(wc -l <"$work/output")" = "    The field's 65535 value bytes: 4099"
-    good test "$(sed -n '4p; $p' "$work/output" | cut -c -16)" = '     2300079  3F
-     2365599  04'
+    good test "$(sed -n '/value byte/,$p' "$work/output" | sed -n '1p; 2p; $p' | cut -c -52)" = \
+        "    The 65,535 value bytes that its length says:
+     2300079  3F F0 00 00 00 00 00 00 40 39 00 00 00
+     2365599  04 00 18 00 00 00 00 00 00 00 00 00 00"
+    good test "$(grep -c '^ \{5,8\}[0-9]*  [0-9A-F][0-9A-F] ' "$work/output")" = 4096
     bad_row $((all - 4)) 7 'wrong step count' 65535 00001000
     # A field that may not come there, at the edge of a chunk and across it.
     for place in 1424 45590 65534; do
         cp "$work/long" "$work/damaged"
         patch "$work/damaged" $((76 + 46 * place + 19)) "$clear"
         refused "$work/damaged" 4 'field out of order' $((76 + 46 * place + 19)) "$place"
-        good like "$output" '*Here the file has a weather, where the reading that follows a weather should be: *'
+        advised 'Here the file has a weather, where the reading that follows a weather should be: *'
     done
     # One step more, with weather and without.
     { head -c $((all - 7)) "$work/long" && bytes "$row $(end 65536)"; } >"$work/damaged"
@@ -229,22 +243,26 @@ pipe_suite() {
         good test "$status|$output|$error" = "0|$name: complete, 336 steps|"
         good written season
         piped "$work/above" check "$name" examples/season.stick
-        good test "$status|$output|$error" = \
-            "0|$name: complete, 45589 steps$(too_long "$work/above")"$'\n''examples/season.stick: complete, 336 steps|'
+        good test "$status|$output|$error" = "0|$name: complete, 45589 steps
+$(measured "$work/above")
+examples/season.stick: complete, 336 steps
+$(measured examples/season.stick)
+$about|"
         piped "$work/long" summary "$name" "$work/long.result"
         good test "$status|$error|$(tail -n +2 "$work/output")" = \
             "0||$("$import" summary "$work/long" "$work/long.result" | tail -n +2)"
         piped "$work/roofs.result" table "$work/roofs" "$name"
         good test "$status|$error|$(wc -l <"$work/output")" = "0||$((6 * 65472 + 1))"
         piped "$work/long" settle "$name" 6000
-        good like "$status|$error|$output" "0||$name: settled after 1 changing passes"*
+        good like "$status|$error|$output" "0||$name: settled after 1 changing pass"*
     done
-    check 0 "-: complete, 65535 steps$(too_long "$work/long")" '' check - <"$work/long"
+    lines=$(measured "$work/long")
+    check 0 "-: complete, 65535 steps"$'\n'"$lines"$'\n'"$about" '' check - <"$work/long"
     check 2 '' 'import: -: cannot be read: FILE is standard input already; give RESULT the name of a file' \
         table - - <"$work/long"
     mkfifo "$work/fifo"
     old
-    cat "$work/above" >"$work/fifo" &
+    pour "$work/above" "$work/fifo" &
     check 0 "$work/fifo: complete, 45589 steps" '' run "$work/fifo" "$work/out/result"
     good written above
     wait $!
@@ -289,15 +307,14 @@ feed_target_suite() {
     good like "$status $error" '2 *: it is FILE itself; give RESULT another name'
     not_written "$work/long" "$work/long" 'it is FILE itself; give RESULT another name'
     good test "$(wc -c <"$work/long")" = 3014693
-    not_written "$work/long" - 'standard output cannot be replaced whole; give RESULT the name of a file'
     call run "$work/long" "$work/no/folder/result"
     good test "$status|$output|$error" = "2|$lines|import: $work/no/folder/result: cannot be written: there is no such \
-folder"$'\n'"$advice"
+folder"$'\n'"$(then_do 'there is no such folder')"
     # A disk that is full far behind.
     error=$(ulimit -f 1000 && "$import" run "$work/long" "$work/out/result" 2>&1 >"$work/output")
     status=$? output=$(cat "$work/output") called='run, with a limit of 1,000 KiB'
     good test "$status|$output|$error" = \
-        "2|$lines|import: $work/out/result: cannot be written: File too large"$'\n'"$advice"
+        "2|$lines|import: $work/out/result: cannot be written: File too large"$'\n'"$(then_do 'File too large')"
     good kept
     # A refused stick is what is told, wherever its result was to go.
     head -c 3000000 "$work/long" >"$work/cut"
@@ -330,20 +347,20 @@ feed_progress_suite() {
     done
     good written long
     at_terminal "$import check '$work/just'"
-    good test "$status|$error|$output" = "0||$work/just: complete, 45595 steps"
+    good like "$status|$error|$output" "0||$work/just: complete, 45595 steps"$'\n    Smallest measure 0.000 kW *'
     at_terminal "cat '$work/long' | $import check -"
     good like "$status|$error" $'0|\r2162688 bytes, 47013 steps\r*\r3014693 bytes, 65535 steps'"$blanks"
     # It goes before a message.
     head -c 3000000 "$work/long" >"$work/cut"
     at_terminal "$import run '$work/cut' '$work/out/result'"
     good like "$status|$error" "1|*$blanks"'import: *: refused; no result is written?'
-    good lines 2
+    good below
     rm "$work/cut"
 }
 
 # Reading and writing that go wrong, or are interrupted, in the middle of a long stick.
 feed_fault_suite() {
-    local fault signal long=$work/long lines
+    local fault signal told long=$work/long lines
     long_stick
     lines="$long: complete, 65535 steps"
     "$import" run "$long" "$long.result" >/dev/null
@@ -357,8 +374,9 @@ feed_fault_suite() {
     done
     for fault in write:2:28 write:30:28 'write:30:half write:31:28' fsync:1:5 close:1:5; do
         faulty "$fault" "$long"
-        good test "$status|$output|$error" = "2|$lines|import: $work/out/result: cannot be written: $(errno_text \
-            "${fault##*:}")"$'\n'"$advice"
+        told=$(errno_text "${fault##*:}")
+        good test "$status|$output|$error" = \
+            "2|$lines|import: $work/out/result: cannot be written: $told"$'\n'"$(then_do "$told")"
         good kept
     done
     for signal in 1 2 3 13 15; do

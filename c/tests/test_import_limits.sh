@@ -29,107 +29,124 @@ limited_sticks() {
     tail -c +62 "$work/giving" >>"$work/giving2"
 }
 
-var_heading='unit  S_VA  request_var  provide_var  absorb_var  out_var  in_var'
+var_heading='unit   S_VA  request_var  provide_var  absorb_var  out_var  in_var'
 
-# summed_up STICK LINES: the summary of a stick from its fourth line on, one blank between the columns.
+# summed_up STICK LINES: the columns of a stick's summary, without their first heading and with one blank between them.
 summed_up() {
     call summary "$work/$1" "$work/$1.result"
-    good test "$status|$error|$(tail -n +4 "$work/output" | sed 's/^ *//; s/  */ /g')" = "0||$2"
+    good test "$status|$error|$(columns <"$work/output")" = "0||$fleet_columns"$'\n'"$2"
 }
 
 limits_suite() {
     local name steps
     limited_sticks
     while read -r name steps; do
-        check 0 "$work/$name: complete, $steps steps" '' check "$work/$name"
+        complete "$work/$name" "$steps"
         check 0 "$work/$name: complete, $steps steps" '' run "$work/$name" "$work/$name.result"
     done <<<$'provide 2\nabsorb 2\ntwo 2\nlimited0 0\nlimited_roof 2\ngiving2 3'
-    check 0 "$work/provide: complete, 2 steps" '' show "$work/provide"
 
     # Tables as ever; every number is that of the rules.
-    check 0 "$heading
-0	0	1000	0.800	600	3552000	0
-1	0	1000	0.800	600	3504000	0" '' table "$work/provide" "$work/provide.result"
-    check 0 "$heading
-0	0	1000	0.953	-300	3542820	0
-1	0	1000	0.953	-300	3485640	0" '' table "$work/absorb" "$work/absorb.result"
-    check 0 "$heading
-0	0	500	0.500	-300	3570000	0
-0	1	500	0.500	0	3570000	0
-1	0	500	0.500	-300	3540000	0
-1	1	500	0.500	0	3540000	0" '' table "$work/two" "$work/two.result"
-    check 0 "$heading" '' table "$work/limited0" "$work/limited0.result"
+    check 0 "$heading$beside
+0	0	1000	0.800	600	3552000	0	1000	800	200
+1	0	1000	0.800	600	3504000	0	missing	800	-" '' table "$work/provide" "$work/provide.result"
+    check 0 "$heading$beside
+0	0	1000	0.953	-300	3542820	0	1000	953	47
+1	0	1000	0.953	-300	3485640	0	missing	953	-" '' table "$work/absorb" "$work/absorb.result"
+    check 0 "$heading$beside
+0	0	500	0.500	-300	3570000	0	1000	1000	0
+0	1	500	0.500	0	3570000	0	1000	1000	0
+1	0	500	0.500	-300	3540000	0	missing	1000	-
+1	1	500	0.500	0	3540000	0	missing	1000	-" '' table "$work/two" "$work/two.result"
+    check 0 "$heading$beside" '' table "$work/limited0" "$work/limited0.result"
 
     # Summaries: below the fleet's line what each unit may provide and absorb, and what it did.
     check 0 "$work/provide: complete, 2 steps
-1 units, steps of 60 s, mode 1 (PeakShave), target 0 W, band 0 W, factor 1000
- unit  request_W  out_kW  in_kW  out_J  out_kWh  in_J  in_kWh  loss_J  loss_kWh    low_J  at_step  not_met
-    0       1000   0.800  0.000  96000    0.027     0   0.000       0     0.000  3504000        1        2
-fleet       1000   0.800  0.000  96000    0.027     0   0.000       0     0.000  3504000        1        2
+1 unit, 2 steps of 60 s (1 min), 2 min
+mode 1 (PeakShave), target 0.000 kW, band 0.000 kW, factor 1,000 thousandths
+
+The measure, as the meter logged it; 1 reading is missing
+    smallest  1.000 kW at step 0, the 1st row
+    largest   1.000 kW at step 0, the 1st row
+    1 step is above the target by more than half the band: above 0.000 kW
+
+The net measure
+    smallest  0.200 kW at step 0, the 1st row
+    largest   0.200 kW at step 0, the 1st row
+    1 step is above 0.000 kW
+$net_words
+
+The fleet
+    lowest store  0.973 kWh after step 1, the 2nd row
+    losses        0.000 kWh
+    not_met       in 2 steps$not_met_words
+$below
+ unit  request_kW  out_kW  in_kW  out_kWh  in_kWh  loss_kWh  low_kWh  at_step  not_met
+    0       1.000   0.800  0.000    0.027   0.000     0.000    0.973        1        2
+fleet       1.000   0.800  0.000    0.027   0.000     0.000    0.973        1        2
 
 $var_heading
-   0  1000          700          600         300      600       0
+   0  1,000          700          600         300      600       0
 
 unit  high_var  at_step  low_var  at_step
    0       600        0      600        0" '' summary "$work/provide" "$work/provide.result"
     local narrow='unit S_VA request_var provide_var absorb_var out_var in_var'
     local ends='unit high_var at_step low_var at_step'
-    summed_up absorb "0 1000 0.953 0.000 114360 0.032 0 0.000 0 0.000 3485640 1 2
-fleet 1000 0.953 0.000 114360 0.032 0 0.000 0 0.000 3485640 1 2
+    summed_up absorb "0 1.000 0.953 0.000 0.032 0.000 0.000 0.968 1 2
+fleet 1.000 0.953 0.000 0.032 0.000 0.000 0.968 1 2
 
 $narrow
-0 1000 -700 600 300 0 300
+0 1,000 -700 600 300 0 300
 
 $ends
 0 -300 0 -300 0"
-    summed_up two "0 500 0.500 0.000 60000 0.017 0 0.000 0 0.000 3540000 1 0
-1 500 0.500 0.000 60000 0.017 0 0.000 0 0.000 3540000 1 0
-fleet 1000 1.000 0.000 120000 0.033 0 0.000 0 0.000 7080000 1 0
+    summed_up two "0 0.500 0.500 0.000 0.017 0.000 0.000 0.983 1 0
+1 0.500 0.500 0.000 0.017 0.000 0.000 0.983 1 0
+fleet 1.000 1.000 0.000 0.033 0.000 0.000 1.967 1 0
 
 $narrow
-0 1000 -700 600 300 0 300
-1 1000 700 0 1000 0 0
+0 1,000 -700 600 300 0 300
+1 1,000 700 0 1,000 0 0
 
 $ends
 0 -300 0 -300 0
 1 0 0 0 0"
-    summed_up limited0 "0 0 0.000 0.000 0 0.000 0 0.000 0 0.000 - - 0
-fleet 0 0.000 0.000 0 0.000 0 0.000 0 0.000 - - 0
+    summed_up limited0 "0 0.000 0.000 0.000 0.000 0.000 0.000 - - 0
+fleet 0.000 0.000 0.000 0.000 0.000 0.000 - - 0
 
 $narrow
-0 1000 0 1000 0 0 0
+0 1,000 0 1,000 0 0 0
 
 $ends
 0 - - - -"
     # The inverters' lines come behind those of the units.
     call summary "$work/limited_roof" "$work/limited_roof.result"
-    good test "$status|$error|$(sed -n '2p; 6,$p' "$work/output")" = "0||1 units, 1 inverters, steps of 60 s, mode 1 \
-(PeakShave), target 0 W, band 0 W, factor 1000
-
+    good test "$status|$error|$(sed -n '2,3p; /^unit .*S_VA/,$p' "$work/output")" = "0||1 unit, 1 inverter, 2 steps of \
+60 s (1 min), 2 min
+mode 1 (PeakShave), target 0.000 kW, band 0.000 kW, factor 1,000 thousandths
 $var_heading
-   0  1000          700          600         300      600       0
+   0  1,000          700          600         300      600       0
 
-inverter  out_kW  at_step   out_J  out_kWh  on_s   on_h  unused_J  unused_kWh
-       0   5.000        0  300000    0.083    60  0.017    300000       0.083
-    roof   5.000        0  300000    0.083    60  0.017    300000       0.083
+inverter  out_kW  at_step  out_kWh   on_h  unused_kWh
+       0   5.000        0    0.083  0.017       0.083
+    roof   5.000        0    0.083  0.017       0.083
 
       unit  high_var  at_step  low_var  at_step
          0       600        0      600        0
-inverter 0         0        1    -3000        0"
+inverter 0         0        1   -3,000        0"
 
     # Limits of S change nothing, and edition 1 has none to show.
     good cmp "$work/giving.result" "$work/giving2.result"
     check 0 "$giving_table" '' table "$work/giving2" "$work/giving2.result"
-    summed_up giving2 "$("$import" summary "$work/giving" "$work/giving.result" | sed -n '4,5p' |
-        sed 's/^ *//; s/  */ /g')
+    summed_up giving2 "$("$import" summary "$work/giving" "$work/giving.result" | columns | sed -n '2,3p')
 
 $narrow
-0 5000 0 5000 5000 0 0
+0 5,000 0 5,000 5,000 0 0
 
 $ends
 0 0 0 0 0"
     # The study is about watts alone.
-    check 0 "$work/two: settled after 1 changing passes
+    check 0 "$work/two: settled after 1 changing pass
+$from_0
 unit	request W	rating W
 0	1000	1000
 1	1000	1000
@@ -148,24 +165,27 @@ length_advised() {
 # What the person is told where the edition, or a unit by its edition, is refused.
 limits_words_suite() {
     local stick=$work/pieces anew='fleet and units are not of one edition. Copy the stick again; if it stays so, ask '
-    local name place words
+    local name place words wrong='Here the file has unit 0, the 1st unit, with the tag hex 02 (2) and the length'
+    local copy='Copy the stick again; if it stays so, ask the manager to correct it and to write the stick anew. '
     anew+='the manager to write it anew, all of it in one edition.'
 
     # Units of another edition than the fleet's: all of them, and one.
     cp "$work/two" "$stick"
     patch "$stick" 3 01
     length_advised "$stick" 9 \
-        "The length of the 1st unit is 57, and in edition 1, which the fleet names, it is 49: $anew"
+        "$wrong hex 0039 (57); the length should be hex 0031 (49) in edition 1, which the fleet names: $anew"
     not_run "$stick"
     cp "$work/giving" "$stick"
     patch "$stick" 3 02
     length_advised "$stick" 9 \
-        "The length of the 1st unit is 49, and in edition 2, which the fleet names, it is 57: $anew"
+        "$wrong hex 0031 (49); the length should be hex 0039 (57) in edition 2, which the fleet names: $anew"
     not_run "$stick"
     bytes "$fleet_e2_2" "$(unit_v 0 0 0 0)" "$(unit_d 1)" "$efficiencies_d" "$(settings 1 0 0)" "$(end 0)" >"$stick"
-    length_advised "$stick" 69 "The length of the 2nd unit is 49, and in edition 2, *it is 57: $anew"
+    length_advised "$stick" 69 "${wrong/unit 0, the 1st/unit 1, the 2nd} hex 0031 (49); the length should be hex 0039 \
+(57) in edition 2, *: $anew"
     bytes "$fleet_2" "$(unit_d 1)" "$efficiencies_d" "$(unit_v 0 0 0 0)" "$(settings 1 0 0)" "$(end 0)" >"$stick"
-    length_advised "$stick" 61 "The length of the 2nd unit is 57, and in edition 1, *it is 49: $anew"
+    length_advised "$stick" 61 "${wrong/unit 0, the 1st/unit 1, the 2nd} hex 0039 (57); the length should be hex 0031 \
+(49) in edition 1, *: $anew"
     # Of no edition; and cut short.
     cp "$work/provide" "$work/provide3"
     patch "$work/provide3" 3 03
@@ -173,33 +193,34 @@ limits_words_suite() {
         for place in 10 11; do
             cp "$work/$name" "$stick"
             patch "$stick" "$place" 30
-            length_advised "$stick" 9 "The length of the 1st unit is *, and $words: bytes were changed or lost here. \
-Copy the stick again; if it stays so, ask the manager for a new one."
+            length_advised "$stick" 9 "$wrong hex *; the length should be $words, which the fleet names: bytes were \
+changed or lost here. Copy the stick again; if it stays so, ask the manager for a new one."
         done
         for place in 12 60; do
             head -c "$place" "$work/$name" >"$stick"
             refused "$stick" 1 'field cut short' 9 0
-            advised 'The file ends in the middle of the 1st unit: the copy is not whole.'
+            advised "The file ends in the middle of unit 0, the 1st unit: $((place - 9)) of its * bytes are there. The \
+copy is not whole."
         done
     done <<'END'
-giving in edition 1 it is 49
-provide in edition 2 it is 57
-provide3 in edition 3 it is 57
+giving hex 0031 (49) in edition 1
+provide hex 0039 (57) in edition 2
+provide3 hex 0039 (57) in edition 3
 END
     # Before any fleet.
     tail -c +10 "$work/provide" >"$stick"
-    length_advised "$stick" 0 'The file begins with the 1st unit, whose length is 57 and not 49: the fleet, which '\
-'comes first, is not there. Copy the stick again; if it stays so, ask the manager for a new one.'
+    length_advised "$stick" 0 "$wrong hex 0039 (57); the length should be hex 0031 (49): the fleet, which comes first, \
+is not there. Copy the stick again; if it stays so, ask the manager for a new one."
     tail -c +10 "$work/giving" >"$stick"
     refused "$stick" 4 'field out of order' 0 0
-    advised 'Here the file has the 1st unit, where the fleet should be: a field is missing'
+    advised 'Here the file has unit 0, the 1st unit, where the fleet should be: a field is missing'
     # A unit too many, and one too few.
     bytes "$fleet_e2" "$(unit_v 0 0 0 0)" "$(unit_v 0 0 0 0)" >"$stick"
     refused "$stick" 4 'field out of order' 69 0
-    advised 'Here the file has the 2nd unit, where the settings should be: a field is missing'
+    advised 'Here the file has unit 1, the 2nd unit, where the settings should be: a field is missing'
     bytes "$fleet_e2_2" "$(unit_v 0 0 0 0)" "$(settings 1 0 0)" >"$stick"
     refused "$stick" 4 'field out of order' 69 0
-    advised 'Here the file has the settings, where the 2nd unit should be: a field is missing'
+    advised 'Here the file has the settings, where unit 1, the 2nd unit, should be: a field is missing'
 
     # Editions that there are not, and other values of the fleet.
     for words in '3 00' '3 04' '3 FF' '4 00' '4 41' '5 01' '8 00'; do
@@ -207,28 +228,23 @@ END
         # shellcheck disable=SC2086 # place and byte are words
         patch "$stick" $words
         refused "$stick" 5 'value out of range' 0 0
-        advised 'The edition of the fleet is not 1, 2 or 3, or its units are not 1 to 64, or its seconds are not 1 to '\
-'86,400. Ask the manager to correct the fleet and to write the stick anew, in edition 1, 2 or 3.'
+        advised "The * of the fleet is *; it may be * $copy"
     done
     # Limits beyond S, and another value of such a unit; in edition 1 no limits are named.
     for words in '1000 1001' '1001 0' '4294967295 1000'; do
         # shellcheck disable=SC2086 # the limits are words
         bytes "$fleet_e2_2" "$(unit_v 0 0 1000 1000)" "$(unit_v 0 0 $words)" "$(settings 1 0 0)" "$(end 0)" >"$stick"
         refused "$stick" 5 'value out of range' 69 0
-        advised 'A value of the 2nd unit is smaller or larger than it may be, or its provide limit or its absorb '\
-'limit is above its S, which is 1000 VA. Ask the manager to correct the 2nd unit and to write the stick anew.'
+        advised "The * limit of unit 1, the 2nd unit, is * var; it may be 0 to its kVA rating S, which is 1,000 VA. \
+$copy"
     done
     not_run "$stick"
-    call show "$stick"
-    shown "    The field's 57 value bytes:" '          72  00 00 00 00 00 36 EE 80 00 00 00 00 00 00 00 00' \
-        '          88  00 00 00 00 00 36 EE 80 00 00 03 E8 00 00 03 E8' \
-        '         104  00 00 00 00 00 00 00 00 00 01 27 10 27 10 27 10' '         120  00 FF FF FF FF 00 00 03 E8'
     cp "$work/provide" "$stick"
     patch "$stick" 40 FFFFFFFF
     refused "$stick" 5 'value out of range' 9 0
-    advised 'A value of the 1st unit is *, which is 4294967295 VA. Ask the manager to correct the 1st unit and *'
+    advised "The kVA rating S of unit 0, the 1st unit, is 4,294,967,295 VA; it may be 1 to 100,000,000 VA. $copy"
     cp "$work/giving" "$stick"
     patch "$stick" 60 02
     refused "$stick" 5 'value out of range' 9 0
-    advised 'A value of the 1st unit is smaller or larger than it may be. Ask the manager to correct the 1st unit and *'
+    advised "The priority of unit 0, the 1st unit, is 2; it may be 0 (watts first) or 1 (vars first). $copy"
 }

@@ -18,13 +18,16 @@ counted() {
     echo "$(commas "$1")$end"
 }
 
-# due STEP NUMBER WHOSE WHICH: whose record is due, counted both ways; due 'The end' and nothing else is the end.
+# due STEP NUMBER WHOSE WHICH: whose record is due, counted both ways, with the sentence's first word small or not as
+# that of the step is; due 'The end' and nothing else is the end.
 due() {
+    local the=The
     if [ $# = 1 ]; then
         echo "$1"
-    else
-        echo "$1 $2, $3 $4 (the $(counted $(($2 + 1))) step, the $(counted $(($4 + 1))) $3)"
+        return
     fi
+    [ "$1" = Step ] || the=the
+    echo "$the record of $3 $4, the $(counted $(($4 + 1))) $3, in step $(commas "$2"), the $(counted $(($2 + 1))) row,"
 }
 
 # not_shown FILE RESULT PLACE WORDS: all three commands say the same of a result that is wrong from a place on, and show
@@ -41,8 +44,14 @@ not_shown() {
     $4
 *$other_rules"
     lines=$output
-    for command in table summary; do
-        check 1 "$lines" "import: $2: not shown; it is not what the run gives" "$command" "$1" "$2"
+    for command in summary table; do
+        if [ "$command" = summary ] && [ "$(part "$2" 0 3)" = 010006 ]; then
+            # A second stick is none that is given for a result.
+            call summary "$1" "$2"
+            good like "$output" "$1: complete, *"$'\n\n'"$2: *"
+        else
+            check 1 "$lines" "import: $2: not shown; it is not what the run gives" "$command" "$1" "$2"
+        fi
     done
 }
 
@@ -74,11 +83,17 @@ other_byte() {
     shown_bytes "$work/bad" "$2" "$4" "$5"
 }
 
+# cut_words_of THERE BYTES: how many of a field's bytes are there, and how many are missing.
+cut_words_of() {
+    local missing=$(($2 - $1))
+    echo "$1 of its $2 bytes $([ "$1" = 1 ] && echo is || echo are) there, and $missing \
+$([ "$missing" = 1 ] && echo is || echo are) missing."
+}
+
 # cut_result FILE RIGHT CUT FROM BYTES DUE: a right result is cut within the field that begins at FROM.
 cut_result() {
     head -c "$3" "$2" >"$work/bad"
-    not_shown "$1" "$work/bad" "$4" "$6 is due there, and is cut short: $(($3 - $4)) of its $5 bytes are there, and \
-$(($4 + $5 - $3)) are missing."
+    not_shown "$1" "$work/bad" "$4" "$6 is due there, and is cut short: $(cut_words_of $(($3 - $4)) "$5")"
     good test "$(column 1 | sort -u | tr '\n' ' ' | grep -c differs)" = 0
     good test "$(column 5 | tr -d ' \n-' | tr A-F a-f)" = "$(part "$work/bad" "$4" "$5")"
 }
@@ -227,8 +242,7 @@ partner_bytes_suite() {
                 head -c "$place" "$work/$name.result" >"$work/bad"
                 call partner "$work/$name" "$work/bad"
                 good like "$status|$error|$output" "1||*, from byte $from on
-    $(due_of Step "$from" "$steps" "$roof") is due there, and is cut short: $((place - from)) of its $len bytes are \
-there, and $((from + len - place)) are missing.
+    $(due_of Step "$from" "$steps" "$roof") is due there, and is cut short: $(cut_words_of $((place - from)) "$len")
 *"
             else
                 lacking "$work/$name" "$work/$name.result" "$place" "${asking[2 * (place / (40 + roof))]}" \
@@ -378,17 +392,20 @@ partner_refused_suite() {
     cut_result "$work/just" "$work/just.result" $((40 * 45594 + 13)) $((40 * 45594)) 40 "$(due Step 45594 unit 0)"
     lacking "$work/just" "$work/just.result" $((40 * 45588)) $((76 + 46 * 45588)) 3 "$(due step 45588 unit 0)"
     printf '\0' >>"$work/just"
-    too_long='refused 12 (too many bytes or steps) at byte 0 after 0 steps
-    The file has more than the 2,097,152 bytes that are taken as a whole. Check it with import check, which takes any '
-    too_long+='length: if it is complete it needs no rescue, and import summary judges its result too; else copy the '
-    too_long+='stick again or ask the manager for a new one.'
-    for name in "$work/just" /dev/zero; do
-        check 1 "$name: $too_long" "import: $name: refused; there is no verdict" partner "$name" "$work/just.result"
-        check 1 "$name: $too_long" "import: $name: refused; there is no verdict" partner "$name" none
+    too_long='The file has more than the 2,097,152 bytes that are taken as a whole. Check it with import check, which '
+    too_long+='takes any length: if it is complete it needs no rescue, and import summary judges its result too; else '
+    too_long+='copy the stick again or ask the manager for a new one.'
+    too_long="refused 12 (too many bytes or steps) at byte 0 after 0 steps"$'\n'$(wrapped "$too_long")
+    for name in "$work/just.result" none; do
+        check 1 "$work/just: $too_long" "import: $work/just: refused; there is no verdict" partner "$work/just" "$name"
+        check 1 "/dev/zero: ${too_long%%$'\n'*}
+$(told /dev/zero | tail -n +2)" 'import: /dev/zero: refused; there is no verdict' partner /dev/zero "$name"
+        advised 'This is no stick: it begins with nothing but zeros, as a file does that was never written. *'
     done
     # It may be a result, which is longer than its stick.
     for name in {1..53}; do cat "$work/season.result"; done >"$work/just"
-    check 1 "$work/just: $too_long
+    check 1 "$work/just: ${too_long%%$'\n'*}
+$(told "$work/season.result" | tail -n +2)
     It looks like a result file, and $stick like a stick: they may have been exchanged; the stick's file comes first." \
         "import: $work/just: refused; there is no verdict" partner "$work/just" "$stick"
     rm "$work/just" "$work/just.result"
@@ -417,7 +434,7 @@ partner_pipe_suite() {
         good like "$status|$output" "1|$name: refused 12 *"
     done
     mkfifo "$work/fifo"
-    cat "$work/season.result" >"$work/fifo" &
+    pour "$work/season.result" "$work/fifo" &
     check 0 "$work/fifo: right: the result of $stick, 336 steps, 40,327 bytes" '' partner "$stick" "$work/fifo"
     wait $!
     rm "$work/fifo"

@@ -5,7 +5,11 @@
 
 # A reading that cannot be used, its first power a NaN; and what a reading that is made missing is told with.
 nan='04 0018 7FF8000000000000 0000000000000000 0000000000000000'
-unusable() { printf 'the %s reading could not be used and is now missing: 24 bytes left out at byte %s' "$1" "$2"; }
+unusable() {
+    local step=${1//[!0-9]/}
+    printf 'the reading of step %s, the %s row, could not be used and is now missing: 24 bytes left out at byte %s' \
+        "$(commas $((step - 1)))" "$1" "$2"
+}
 
 # lost STEPS READINGS: the end of the last line of a stick that was changed.
 lost() { printf '%s kept, %s made missing; a rescued stick has lost data: keep the damaged one too' "$1" "$2"; }
@@ -16,9 +20,14 @@ same='the same bytes; the stick is complete, and nothing had to be changed'
 # commas NUMBER: a number, its thousands parted by commas.
 commas() { sed -E ':a; s/^([0-9]+)([0-9]{3})/\1,\2/; ta' <<<"$1"; }
 
-# told FILE: what check says of a file.
+# told FILE: what check says of a refused file, but for its being a result.
 told() {
-    "$import" check "$1" 2>/dev/null | head -n 2
+    "$import" check "$1" 2>/dev/null | sed '/^    It looks like a result file/,$d'
+}
+
+# changes: the lines of a rescue that are no advice.
+changes() {
+    grep -v '^    ' "$work/output"
 }
 
 # rescued FILE STEPS READINGS LINE..: a file is rescued into the old result, with these lines of its changes and these
@@ -190,7 +199,7 @@ rescue_damage_suite() {
             177) words=$(unusable 5th 174) ;;
             esac
             call rescue "$stick" "$work/again"
-            good test "$status|$error|$(tail -n +3 "$work/output")" = \
+            good test "$status|$error|$(changes | tail -n +2)" = \
                 "0||$words"$'\n'"$work/again: $(lost '5 steps' '1 reading')"
             good test "$(wc -c <"$work/again")" = $((208 - 24))
         done
@@ -243,20 +252,20 @@ rescue_large_suite() {
     { bytes "$head_d" && repeated "$nan" 65535 && bytes "$(end 65535)"; } >"$stick"
     old
     call rescue "$stick" "$work/out/result"
-    good test "$status|$error|$(wc -l <"$work/output")" = '0||65538'
+    good test "$status|$error|$(changes | wc -l)" = '0||65537'
     for words in 1st 2nd 3rd 4th 11th 12th 13th 21st 22nd 23rd 101st 111th 112th 113th 121st 122nd 1,001st 1,011th \
         65,535th; do
         reading=${words//[!0-9]/}
         expected+=$(unusable "$words" "$(commas $((76 + 27 * (reading - 1))))")$'\n'
     done
     expected+="$work/out/result: $(lost '65,535 steps' '65,535 readings')"
-    good test "$(sed -n '3,6p; 13,15p; 23,25p; 103p; 113,115p; 123,124p; 1003p; 1013p; 65537,$p' "$work/output")" = \
+    good test "$(changes | sed -n '2,5p; 12,14p; 22,24p; 102p; 112,114p; 122,123p; 1002p; 1012p; 65536,$p')" = \
         "$expected"
     good cmp "$work/out/result" <(bytes "$head_d" && repeated "$missing" 65535 && bytes "$(end 65535)")
     # One change more than steps.
     { bytes "$head_d" && repeated "$nan" 65535 && bytes "$missing $(end 65535)"; } >"$stick"
     call rescue "$stick" "$work/again"
-    good test "$status|$error|$(wc -l <"$work/output")|$(sed -n 65538p "$work/output")" = "0||65539|the stick goes on \
+    good test "$status|$error|$(changes | wc -l)|$(changes | sed -n 65537p)" = "0||65538|the stick goes on \
 at byte 1,769,521 after as many steps as there can be: $(ended '65,535 steps') and 10 bytes were left out from there on"
     good cmp "$work/out/result" "$work/again"
 
@@ -266,10 +275,10 @@ at byte 1,769,521 after as many steps as there can be: $(ended '65,535 steps') a
     printf '\0' >>"$stick"
     old
     call rescue "$stick" "$work/out/result"
-    good like "$status|$output|$error" "1|$too_long"$'\n'"    The file has more than the 2,097,152 bytes that are \
-taken as a whole. Check it *: if it is complete it needs no rescue, and *; else copy the stick again or ask the \
-manager for a new one.|import: $stick: cannot be rescued: it is longer than a rescue takes; nothing is written"
-    good lines 2
+    good test "$status|${output%%$'\n'*}|$error" = \
+        "1|$too_long|import: $stick: cannot be rescued: it is longer than a rescue takes; nothing is written"
+    advised 'The file has more than the 2,097,152 bytes that are taken as a whole. Check it with import check, *: if '\
+'it is complete it needs no rescue, and *; else copy the stick again or ask the manager for a new one. '
     good kept
     { bytes "$head_d" && repeated "$row" 45588 && bytes "$clear $missing $(end 45589)"; } >"$stick"
     call rescue "$stick" "$work/out/result"
@@ -318,6 +327,7 @@ rescue_files_suite() {
     old
     call rescue "$work/season.result" "$work/out/result"
     good like "$status|$output" '1|*: refused 2 (unknown tag) at byte 0 *
+    This is no stick: a stick begins with the bytes 01 00 06, and this file with 11 00 25. *
     It looks like a result file; where a command takes both, the stick*s file comes first.'
     good kept
     check 2 '' 'import: none: cannot be read: No such file or directory' rescue none "$work/out/result"
@@ -336,7 +346,7 @@ rescue_files_suite() {
         old
         piped examples/refused-06-three-faults.stick rescue "$name" "$work/out/result"
         good like "$status|$error|$output" "0||$name: refused 6 (reading not usable) at byte 2773 after 40 steps*"
-        good lines 6
+        good test "$(changes | wc -l)" = 5
         good cmp examples/rescued-three-faults.stick "$work/out/result"
         old
         piped examples/roof.stick rescue "$name" "$work/out/result"
@@ -351,7 +361,7 @@ rescue_files_suite() {
         good kept
     done
     mkfifo "$work/fifo"
-    cat examples/refused-07-wrong-count.stick >"$work/fifo" &
+    pour examples/refused-07-wrong-count.stick "$work/fifo" &
     call rescue "$work/fifo" "$work/out/result"
     wait $!
     good like "$status|$error|$output" "0||*: 335 steps kept, 0 readings made missing; *"

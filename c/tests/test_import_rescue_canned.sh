@@ -36,7 +36,7 @@ $work/out/result: $(lost '83 steps' '2 readings')"
     # Every number where the stick ends, those that it never has among them.
     for number in 1 2 3 4 5 6 7 8 9 12 13 4294967295; do
         canned_rescue "$number 4550 83 6 2773 40" "0 4538 3 83 $two 4579 2 30"
-        good like "$status|$error|$(sed -n 5p "$work/output")" "0||*at byte 4,598*: $(ended '83 steps') *"
+        good like "$status|$error|$(changes | sed -n 4p)" "0||*at byte 4,598*: $(ended '83 steps') *"
         good saved
     done
     # A complete one; one that is refused, for a field before its steps and for its output.
@@ -147,8 +147,8 @@ range) at byte 61 after 0 steps*"
     error=$(CANNED_CHECK='6 76 0' CANNED_RESCUE=$answers "$import" rescue "$work/damaged" "$work/out/result" 2>&1 \
         >"$work/output")
     status=$? output=$(cat "$work/output") called='rescue of 1,500 readings'
-    good test "$status|$error|$(wc -l <"$work/output")|$(sed -n 1502p "$work/output")" = \
-        "0||1503|$(unusable 1,500th 40,549)"
+    good test "$status|$error|$(changes | wc -l)|$(changes | sed -n 1501p)" = \
+        "0||1502|$(unusable 1,500th 40,549)"
     good cmp "$work/out/result" <(bytes "$head_d" && repeated "$missing" 1500 && bytes "$(end 1500)")
     rm "$work/damaged" "$work/damaged2"
 }

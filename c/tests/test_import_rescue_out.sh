@@ -10,7 +10,7 @@ no_place() {
 # failed_rescue OUT WHY: what is said where a name that is to be written was tried.
 wreck=examples/refused-06-three-faults.stick
 failed_rescue() {
-    good test "$status|$error" = "2|import: $1: cannot be written: $2"$'\n'"${advice/RESULT/OUT}"
+    good test "$status|$error" = "2|import: $1: cannot be written: $2"$'\n'"$(then_do "$2" OUT)"
     good like "$output" "*: $(lost '83 steps' '2 readings')"
 }
 
@@ -37,7 +37,6 @@ rescue_target_suite() {
     no_place "$wreck" "$work" 'it is a folder; give the name of a file in it'
     no_place "$wreck" "$work/new/" 'it is the name of a folder; give the name of a file in it'
     no_place "$wreck" '' 'it is no name; give OUT the name of a file'
-    no_place "$wreck" - 'standard output cannot be replaced whole; give OUT the name of a file'
     for name in /dev/null /dev/full; do
         no_place "$wreck" "$name" "$device"
     done
@@ -54,7 +53,7 @@ rescue_target_suite() {
     call rescue "$wreck" "$wreck/out"
     failed_rescue "$wreck/out" 'Not a directory'
     cp "$wreck" "$work/a.stick"
-    unwritable rescue "$work/a.stick" OUT failed_rescue "$work/out/result" 'Permission denied'
+    unwritable rescue "$work/a.stick" OUT failed_rescue "$work/out/result" "$denied"
     # A link stays, and what it leads to is replaced and keeps its permissions; a new file is as the mask says.
     old
     chmod 640 "$work/out/result"

@@ -2,18 +2,24 @@
 # shellcheck disable=SC2034,SC2154 # the variables are those of test_import.sh
 # Sourced by test_import.sh: table and summary: results, and files that are none.
 
-# The tables of small sticks.
+# The tables of small sticks: what the result says, and behind it what the meter saw beside the fleet.
 heading=$'step\tunit\trequest W\tdelivered kW\tvars\tstored J\tloss J'
-giving_table="$heading
-0	0	900	0.900	0	175749	21750
-1	0	900	0.899	0	100074	21735
-2	0	900	-0.012	0	100074	720"
-taking_table="$heading
-0	0	-1000	-1.000	0	957281	17280
-1	0	-1000	-0.999	0	999953	17268
-2	0	-1000	-0.012	0	999953	720"
+beside=$'\tmeasure W\tfleet W\tnet W'
+giving_table="$heading$beside
+0	0	900	0.900	0	175749	21750	900	900	0
+1	0	900	0.899	0	100074	21735	missing	899	-
+2	0	900	-0.012	0	100074	720	missing	-12	-"
+taking_table="$heading$beside
+0	0	-1000	-1.000	0	957281	17280	-1000	-1000	0
+1	0	-1000	-0.999	0	999953	17268	missing	-999	-
+2	0	-1000	-0.012	0	999953	720	missing	-12	-"
 
-# decoded RESULT: the table of a result file, read by other means.
+# fronts <TABLE: a table without its last three columns, as the result says it.
+fronts() {
+    sed 's/\(\t[^\t]*\)\{3\}$//'
+}
+
+# decoded RESULT: the front of the table of a result file, read by other means.
 decoded() {
     od -An -v -tu1 -w1 "$1" | awk -v heading="$heading" '
         function number(from, width,    n) { for (n = 0; width-- > 0; from++) n = n * 256 + byte[from]; return n }
@@ -25,27 +31,47 @@ decoded() {
             return byte[from] < 128 ? m : -m
         }
         function unit(v) {
-            return sprintf("%.0f\t%d\t%.0f\t%.3f\t%.0f\t%.0f\t%.0f\n", number(v, 4), byte[v + 4],
+            return sprintf("%.0f\t%d\t%.0f\t%.3f\t%.0f\t%.0f\t%.0f", number(v, 4), byte[v + 4],
                 sign(number(v + 5, 4)), kw(v + 9), sign(number(v + 17, 4)), number(v + 21, 8), number(v + 29, 8))
         }
         function inverter(v) {
-            return sprintf("%.0f\tinverter %d\t-\t%.3f\t%.0f\t-\t-\t%d\t%.0f\n", number(v, 4), byte[v + 4], kw(v + 6),
+            return sprintf("%.0f\tinverter %d\t-\t%.3f\t%.0f\t-\t-\t%d\t%.0f", number(v, 4), byte[v + 4], kw(v + 6),
                 sign(number(v + 14, 4)), byte[v + 5], number(v + 18, 8))
         }
         { byte[NR - 1] = $1 }
         END {
-            for (at = 0; at < NR; at += 3 + number(at + 1, 2)) {
-                if (byte[at] == 17) lines[n++] = unit(at + 3)
+            for (at = n = 0; at < NR; at += 3 + number(at + 1, 2)) {
+                if (byte[at] == 17) { lines[n] = unit(at + 3); is_unit[n++] = 1 }
                 if (byte[at] == 18) { lines[n++] = inverter(at + 3); heads = "\ton\tDC W" }
             }
             print heading heads
-            for (at = 0; at < n; at++) printf "%s", lines[at]
+            for (at = 0; at < n; at++) print lines[at] (is_unit[at] && heads != "" ? "\t-\t-" : "")
         }'
 }
 
-# summed SECONDS <TABLE: the lines of a summary, made of a table by other means, with one blank between the columns.
+# What awk scripts share that make a summary of a table: numbers with commas, and joules as kWh.
+grouping='
+    function commas(text,    sign, rest, end) {
+        sign = sub(/^-/, "", text) ? "-" : ""
+        end = match(text, /\./) ? substr(text, RSTART) : ""
+        rest = end == "" ? text : substr(text, 1, RSTART - 1)
+        for (; length(rest) > 3; rest = substr(rest, 1, length(rest) - 3)) end = "," substr(rest, length(rest) - 2) end
+        return sign rest end
+    }
+    function thousandths(n) { return commas(sprintf("%.3f", n / 1000)) }
+    function kwh(j) { return commas(sprintf("%.3f", int((j + 1800) / 3600) / 1000)) }'
+
+# columns <SUMMARY: the blocks of a summary, with one blank between the columns.
+columns() {
+    sed -n '/^Below, units, inverters and steps are counted from 0/,$p' | tail -n +3 | sed 's/^ *//; s/  */ /g'
+}
+fleet_columns='unit request_kW out_kW in_kW out_kWh in_kWh loss_kWh low_kWh at_step not_met'
+roof_columns='inverter out_kW at_step out_kWh on_h unused_kWh'
+
+# summed SECONDS <TABLE: the units' block of a summary, made of a table by other means.
 summed() {
-    awk -v seconds="$1" '
+    echo "$fleet_columns"
+    awk -F '\t' -v seconds="$1" "$grouping"'
         function size(n) { return n < 0 ? -n : n }
         function see(u, step, request, watts, stored, met) {
             if (size(request) > size(most[u])) most[u] = request
@@ -54,13 +80,12 @@ summed() {
             if (!(u in low) || stored < low[u]) { low[u] = stored; at[u] = step }
             not_met[u] += !met
         }
-        function energy(j) { return sprintf("%.0f %.3f", j, int((j + 1800) / 3600) / 1000) }
         function close_step() { if (step != "") see("fleet", step, r, w, s, m); r = w = s = 0; m = 1 }
         function line(u) {
-            printf "%s %.0f %.3f %.3f %s %s %s %.0f %.0f %.0f\n", u, most[u], out[u] / 1000, into[u] / 1000,
-                energy(given[u]), energy(taken[u]), energy(lost[u]), low[u], at[u], not_met[u]
+            print u, thousandths(most[u]), thousandths(out[u]), thousandths(into[u]), kwh(given[u]), kwh(taken[u]),
+                kwh(lost[u]), kwh(low[u]), commas(at[u]), commas(not_met[u] + 0)
         }
-        NR == 1 { next }
+        NR == 1 || $2 ~ /inverter/ { next }
         $1 "" != step { close_step(); step = $1 "" }
         {
             watts = $4 * 1000; watts = int(watts + (watts < 0 ? -0.5 : 0.5)); met = $3 == 0 || watts == $3
@@ -76,14 +101,15 @@ summed() {
 
 # var_ends <TABLE: the same of the last lines, those of the largest and the smallest vars.
 var_ends() {
-    awk -F '\t' '
+    awk -F '\t' "$grouping"'
         NR == 1 { next }
         !($2 in high) { name[n++] = $2; high[$2] = low[$2] = $5; high_at[$2] = low_at[$2] = $1 }
         $5 + 0 > high[$2] + 0 { high[$2] = $5; high_at[$2] = $1 }
         $5 + 0 < low[$2] + 0 { low[$2] = $5; low_at[$2] = $1 }
         END {
             print "unit high_var at_step low_var at_step"
-            for (i = 0; i < n; i++) print name[i], high[name[i]], high_at[name[i]], low[name[i]], low_at[name[i]]
+            for (i = 0; i < n; i++) print name[i], commas(high[name[i]]), commas(high_at[name[i]]),
+                commas(low[name[i]]), commas(low_at[name[i]])
         }'
 }
 
@@ -93,69 +119,144 @@ no_vars='unit  high_var  at_step  low_var  at_step
 never_vars='unit  high_var  at_step  low_var  at_step
    0         -        -        -        -'
 
+# The lines that a summary has before its columns, and those that say what a net measure is.
+below='
+Below, units, inverters and steps are counted from 0, as in the files: at_step 0 is the 1st row.
+'
+net_words="The net measure is the measure less the fleet's power: what the meter would have shown with the
+fleet at work, if the log was taken without it. Of any other log it says nothing."
+not_met_words=' some unit gives or takes another power than it is asked for;
+                  that alone says nothing of the peak'
+
+none_summary="$work/none: complete, 0 steps
+1 unit, 0 steps of 60 s (1 min), 0 s
+mode 1 (PeakShave), target 0.000 kW, band 0.000 kW, factor 1,000 thousandths
+
+The measure, as the meter logged it; no reading is missing
+    No step has a reading: there is no smallest and no largest.
+$below
+ unit  request_kW  out_kW  in_kW  out_kWh  in_kWh  loss_kWh  low_kWh  at_step  not_met
+    0       0.000   0.000  0.000    0.000   0.000     0.000        -        -        0
+fleet       0.000   0.000  0.000    0.000   0.000     0.000        -        -        0
+
+$never_vars"
+
+giving_summary="$work/giving: complete, 3 steps
+1 unit, 3 steps of 60 s (1 min), 3 min
+mode 1 (PeakShave), target 0.000 kW, band 0.000 kW, factor 1,000 thousandths
+
+The measure, as the meter logged it; 2 readings are missing
+    smallest  0.900 kW at step 0, the 1st row
+    largest   0.900 kW at step 0, the 1st row
+    1 step is above the target by more than half the band: above 0.000 kW
+
+The net measure
+    smallest  0.000 kW at step 0, the 1st row
+    largest   0.000 kW at step 0, the 1st row
+    no step is above 0.000 kW
+$net_words
+
+The fleet
+    lowest store  0.028 kWh after step 1, the 2nd row
+    losses        0.012 kWh
+    not_met       in 2 steps$not_met_words
+$below
+ unit  request_kW  out_kW  in_kW  out_kWh  in_kWh  loss_kWh  low_kWh  at_step  not_met
+    0       0.900   0.900  0.012    0.030   0.000     0.012    0.028        1        2
+fleet       0.900   0.900  0.012    0.030   0.000     0.012    0.028        1        2
+
+$no_vars"
+
+taking_summary="$work/taking: complete, 3 steps
+1 unit, 3 steps of 60 s (1 min), 3 min
+mode 3 (PeakShaveLow), target 0.000 kW, band 0.000 kW, factor 1,000 thousandths
+
+The measure, as the meter logged it; 2 readings are missing
+    smallest  -1.000 kW at step 0, the 1st row
+    largest   -1.000 kW at step 0, the 1st row
+    1 step is below the target by more than half the band: below 0.000 kW
+
+The net measure
+    smallest  0.000 kW at step 0, the 1st row
+    largest   0.000 kW at step 0, the 1st row
+    no step is below 0.000 kW
+$net_words
+
+The fleet
+    lowest store  0.266 kWh after step 0, the 1st row
+    losses        0.010 kWh
+    not_met       in 2 steps$not_met_words
+$below
+ unit  request_kW  out_kW  in_kW  out_kWh  in_kWh  loss_kWh  low_kWh  at_step  not_met
+    0      -1.000   0.000  1.000    0.000   0.034     0.010    0.266        0        2
+fleet      -1.000   0.000  1.000    0.000   0.034     0.010    0.266        0        2
+
+$no_vars"
+
+season_summary="examples/season.stick: complete, 336 steps
+3 units, 336 steps of 3,600 s (1 h), 14 days
+mode 1 (PeakShave), target 120.000 kW, band 6.000 kW, factor 1,000 thousandths
+
+The measure, as the meter logged it; 9 readings are missing
+    smallest  -33.000 kW at step 251, the 252nd row
+    largest   205.800 kW at step 151, the 152nd row
+    129 steps are above the target by more than half the band: above 123.000 kW
+
+The net measure
+    smallest  -32.332 kW at step 251, the 252nd row
+    largest   206.468 kW at step 151, the 152nd row
+    130 steps are above 123.000 kW
+$net_words
+
+The fleet
+    lowest store  37.504 kWh after step 6, the 7th row
+    losses        241.455 kWh
+    not_met       in 196 steps$not_met_words
+$below
+ unit  request_kW  out_kW  in_kW  out_kWh   in_kWh  loss_kWh  low_kWh  at_step  not_met
+    0     100.000  75.986  0.363  118.500  121.242   132.740   20.002        6      196
+    1      50.000  21.257  0.209   31.366   69.806    73.439   15.001        6      196
+    2      15.000  10.628  0.096   19.287   32.064    35.276    2.501        6      167
+fleet     165.000  94.754  0.668  169.153  223.112   241.455   37.504        6      196
+
+unit  high_var  at_step  low_var  at_step
+   0    20,000        0   20,000        0
+   1    -8,000        0   -8,000        0
+   2         0        0        0        0"
+
 result_suite() {
-    local stick=examples/season.stick name
-    for name in table summary; do
-        check 2 '' "import: $name needs a FILE and its RESULT"$'\n'"$usage" "$name"
-        check 2 '' "import: $name needs a FILE and its RESULT"$'\n'"$usage" "$name" "$stick"
-        check 2 '' "import: $name needs a FILE and its RESULT"$'\n'"$usage" "$name" "$stick" "$stick" "$stick"
+    local stick=examples/season.stick
+    for name in '' "$stick" "$stick $stick $stick"; do
+        # shellcheck disable=SC2086 # the names are words
+        check 2 '' 'import: table needs a FILE and its RESULT'$'\n'"$usage" table $name
     done
+    check 2 '' 'import: summary needs a FILE or several, or a FILE and its RESULT'$'\n'"$usage" summary
 
     # Tables and summaries whose every number is the document's.
-    check 0 "$heading"$'\n''0	0	0	-1.000	0	3600000	60000' '' table "$work/whole" "$work/whole.result"
-    check 0 "$heading" '' table "$work/none" "$work/none.result"
+    check 0 "$heading$beside"$'\n''0	0	0	-1.000	0	3600000	60000	missing	-1000	-' '' \
+        table "$work/whole" "$work/whole.result"
+    check 0 "$heading$beside" '' table "$work/none" "$work/none.result"
     check 0 "$giving_table" '' table "$work/giving" "$work/giving.result"
     check 0 "$taking_table" '' table "$work/taking" "$work/taking.result"
-    check 0 "$work/none: complete, 0 steps
-1 units, steps of 60 s, mode 1 (PeakShave), target 0 W, band 0 W, factor 1000
- unit  request_W  out_kW  in_kW  out_J  out_kWh  in_J  in_kWh  loss_J  loss_kWh  low_J  at_step  not_met
-    0          0   0.000  0.000      0    0.000     0   0.000       0     0.000      -        -        0
-fleet          0   0.000  0.000      0    0.000     0   0.000       0     0.000      -        -        0
-
-$never_vars" '' \
-        summary "$work/none" "$work/none.result"
-    check 0 "$work/giving: complete, 3 steps
-1 units, steps of 60 s, mode 1 (PeakShave), target 0 W, band 0 W, factor 1000
- unit  request_W  out_kW  in_kW   out_J  out_kWh  in_J  in_kWh  loss_J  loss_kWh   low_J  at_step  not_met
-    0        900   0.900  0.012  107940    0.030   720   0.000   44205     0.012  100074        1        2
-fleet        900   0.900  0.012  107940    0.030   720   0.000   44205     0.012  100074        1        2
-
-$no_vars" '' \
-        summary "$work/giving" "$work/giving.result"
-    check 0 "$work/taking: complete, 3 steps
-1 units, steps of 60 s, mode 3 (PeakShaveLow), target 0 W, band 0 W, factor 1000
- unit  request_W  out_kW  in_kW  out_J  out_kWh    in_J  in_kWh  loss_J  loss_kWh   low_J  at_step  not_met
-    0      -1000   0.000  1.000      0    0.000  120660   0.034   35268     0.010  957281        0        2
-fleet      -1000   0.000  1.000      0    0.000  120660   0.034   35268     0.010  957281        0        2
-
-$no_vars" '' \
-        summary "$work/taking" "$work/taking.result"
+    check 0 "$none_summary" '' summary "$work/none" "$work/none.result"
+    check 0 "$giving_summary" '' summary "$work/giving" "$work/giving.result"
+    check 0 "$taking_summary" '' summary "$work/taking" "$work/taking.result"
 
     # The season, beside what other means make of it, and as a planner sees it.
     call table "$stick" "$work/season.result"
     good test "$status|$error|$(wc -l <"$work/output")" = "0||$((1 + 3 * 336))"
-    good test "$output" = "$(decoded "$work/season.result")"
+    good test "$(fronts <"$work/output")" = "$(decoded "$work/season.result")"
     local expected
-    expected=$(printf '%s\n' "$output" | summed 3600
+    expected=$(summed 3600 <"$work/output"
         echo
-        printf '%s\n' "$output" | var_ends)
+        var_ends <"$work/output")
     call summary "$stick" "$work/season.result"
-    good test "$(tail -n +4 "$work/output" | sed 's/^ *//; s/  */ /g')" = "$expected"
+    good test "$(columns <"$work/output")" = "$expected"
     check 0 "$season_summary" '' summary "$stick" "$work/season.result"
+    # The same without a result.
+    check 0 "$season_summary" '' summary "$stick"
+    check 0 "$giving_summary" '' summary "$work/giving"
 }
-
-season_summary='examples/season.stick: complete, 336 steps
-3 units, steps of 3600 s, mode 1 (PeakShave), target 120000 W, band 6000 W, factor 1000
- unit  request_W  out_kW  in_kW      out_J  out_kWh       in_J   in_kWh     loss_J  loss_kWh      low_J  at_step  not_met
-    0     100000  75.986  0.363  426600000  118.500  436471200  121.242  477863622   132.740   72007578        6      196
-    1      50000  21.257  0.209  112917600   31.366  251301600   69.806  264380191    73.439   54003809        6      196
-    2      15000  10.628  0.096   69433200   19.287  115430400   32.064  126993288    35.276    9003912        6      167
-fleet     165000  94.754  0.668  608950800  169.153  803203200  223.112  869237101   241.455  135015299        6      196
-
-unit  high_var  at_step  low_var  at_step
-   0     20000        0    20000        0
-   1     -8000        0    -8000        0
-   2         0        0        0        0'
 
 other_result_suite() {
     local stick=examples/season.stick place part
@@ -252,11 +353,17 @@ largest_suite() {
     check 0 "$work/largest: complete, 65535 steps" '' run "$work/largest" "$work/largest.result"
     good test "$(wc -c <"$work/largest.result")" = $((40 * 64 * 65535 + 7))
     call summary "$work/largest" "$work/largest.result"
-    good test "$status|$error|$(wc -l <"$work/output")" = '0||134'
-    good test "$(sed -n '4p;68p;$p' "$work/output" | sed 's/^ *//; s/  */ /g')" = "0 0 0.000 100000.000 0 0.000 \
-566222400000000000 157284000000.000 566222400000000000 157284000000.000 10000000000000 0 0
-fleet 0 0.000 6400000.000 0 0.000 36238233600000000000 10066176000000.000 36238233600000000000 10066176000000.000 \
-640000000000000 0 0
+    good test "$status|$error|$(columns <"$work/output" | sed -n '2p; 66p; 69p; 133p; $p')" = "0||0 0.000 0.000 \
+100,000.000 0.000 157,284,000,000.000 157,284,000,000.000
+fleet 0.000 0.000 6,400,000.000 0.000 10,066,176,000,000.000 10,066,176,000,000.000
+0 2,777,777.778 0 0
+fleet 177,777,777.778 0 0
 63 0 0 0 0"
+    good test "$(grep -A 3 '^The fleet' "$work/output")" = 'The fleet
+    lowest store  177,777,777.778 kWh after step 0, the 1st row
+    losses        10,066,176,000,000.000 kWh
+    not_met       in no step: every unit gives or takes what it is asked for'
+    good narrow
+    large_json "$work/largest" '36238233600000000000 36238233600000000000 36238233600000000000 0 0'
     rm "$work/largest" "$work/largest.result"
 }

@@ -23,52 +23,79 @@ roof_sticks() {
     bytes "$head $first $clear $missing $missing $(end 2)" >"$work/sunny1"
 }
 
-sunny_table="$heading	on	DC W
-0	0	0	-0.012	0	500000	720
-0	inverter 0	-	0.000	0	-	-	0	60
-1	0	0	-0.012	0	500000	720
-1	inverter 0	-	5.000	-3000	-	-	1	10000
-2	0	0	-0.012	0	500000	720
-2	inverter 0	-	0.057	-3000	-	-	1	60
-3	0	0	-0.012	0	500000	720
-3	inverter 0	-	0.000	0	-	-	0	0"
-sunny_fleet=' unit  request_W  out_kW  in_kW  out_J  out_kWh  in_J  in_kWh  loss_J  loss_kWh   low_J  at_step  not_met
-    0          0   0.000  0.012      0    0.000  2880   0.001    2880     0.001  500000        0        0
-fleet          0   0.000  0.012      0    0.000  2880   0.001    2880     0.001  500000        0        0'
+sunny_table="$heading	on	DC W$beside
+0	0	0	-0.012	0	500000	720	-	-	missing	-12	-
+0	inverter 0	-	0.000	0	-	-	0	60	missing	-12	-
+1	0	0	-0.012	0	500000	720	-	-	missing	-12	-
+1	inverter 0	-	5.000	-3000	-	-	1	10000	missing	-12	-
+2	0	0	-0.012	0	500000	720	-	-	missing	-12	-
+2	inverter 0	-	0.057	-3000	-	-	1	60	missing	-12	-
+3	0	0	-0.012	0	500000	720	-	-	missing	-12	-
+3	inverter 0	-	0.000	0	-	-	0	0	missing	-12	-"
+sunny_fleet="mode 1 (PeakShave), target 0.000 kW, band 0.000 kW, factor 1,000 thousandths
 
-roof_summary='examples/roof.stick: complete, 96 steps
-3 units, 3 inverters, steps of 900 s, mode 3 (PeakShaveLow), target -15000 W, band 3000 W, factor 700
- unit  request_W  out_kW    in_kW  out_J  out_kWh       in_J   in_kWh     loss_J  loss_kWh      low_J  at_step  not_met
-    0     -60000   0.000   60.000      0    0.000  626003100  173.890   68003388    18.890  162000000        0       19
-    1     -40000   0.000   40.000      0    0.000  254895300   70.804   38895795    10.804  216000000        0       24
-    2     -10000   0.000    6.964      0    0.000   26120700    7.256    8121015     2.256   72000000        0       28
-fleet    -110000   0.000  100.064      0    0.000  907019100  251.950  115020198    31.950  450000000        0       29
+The measure, as the meter logged it; 4 readings are missing
+    No step has a reading: there is no smallest and no largest.
 
-inverter   out_kW  at_step       out_J  out_kWh   on_s    on_h   unused_J  unused_kWh
-       0   49.457       52  1159412400  322.059  47700  13.250   65435400      18.177
-       1   63.000       42  1692311400  470.087  48600  13.500  140299200      38.972
-       2   14.000       42   419583600  116.551  67500  18.750   91172700      25.326
-    roof  126.457       52  3271307400  908.697  68400  19.000  296907300      82.474
+The fleet
+    lowest store  0.139 kWh after step 0, the 1st row
+    losses        0.001 kWh
+    not_met       in no step: every unit gives or takes what it is asked for
+$below
+ unit  request_kW  out_kW  in_kW  out_kWh  in_kWh  loss_kWh  low_kWh  at_step  not_met
+    0       0.000   0.000  0.012    0.000   0.001     0.001    0.139        0        0
+fleet       0.000   0.000  0.012    0.000   0.001     0.001    0.139        0        0"
+
+roof_summary="examples/roof.stick: complete, 96 steps
+3 units, 3 inverters, 96 steps of 900 s (15 min), 1 day
+mode 3 (PeakShaveLow), target -15.000 kW, band 3.000 kW, factor 700 thousandths
+
+The measure, as the meter logged it; 7 readings are missing
+    smallest  -54.880 kW at step 48, the 49th row
+    largest    37.390 kW at step 76, the 77th row
+    23 steps are below the target by more than half the band: below -16.500 kW
+
+The net measure
+    smallest  -47.697 kW at step 53, the 54th row
+    largest    49.374 kW at step 45, the 46th row
+    11 steps are below -16.500 kW
+$net_words
+
+The fleet
+    lowest store  125.000 kWh after step 0, the 1st row
+    losses        31.950 kWh
+    not_met       in 29 steps$not_met_words
+$below
+ unit  request_kW  out_kW    in_kW  out_kWh   in_kWh  loss_kWh  low_kWh  at_step  not_met
+    0     -60.000   0.000   60.000    0.000  173.890    18.890   45.000        0       19
+    1     -40.000   0.000   40.000    0.000   70.804    10.804   60.000        0       24
+    2     -10.000   0.000    6.964    0.000    7.256     2.256   20.000        0       28
+fleet    -110.000   0.000  100.064    0.000  251.950    31.950  125.000        0       29
+
+inverter   out_kW  at_step  out_kWh    on_h  unused_kWh
+       0   49.457       52  322.059  13.250      18.177
+       1   63.000       42  470.087  13.500      38.972
+       2   14.000       42  116.551  18.750      25.326
+    roof  126.457       52  908.697  19.000      82.474
 
       unit  high_var  at_step  low_var  at_step
          0         0        0        0        0
-         1      9000        0        0       44
+         1     9,000        0        0       44
          2         0        0        0        0
 inverter 0         0        0        0        0
-inverter 1         0        0   -12000       20
-inverter 2     10500       21        0        0'
+inverter 1         0        0  -12,000       20
+inverter 2    10,500       21        0        0"
 
-# summed_roof SECONDS <TABLE: the inverters' lines of a summary, made of a table by other means, with one blank between
+# summed_roof SECONDS <TABLE: the inverters' block of a summary, made of a table by other means, with one blank between
 # the columns.
 summed_roof() {
-    awk -F '\t' -v seconds="$1" '
+    echo "$roof_columns"
+    awk -F '\t' -v seconds="$1" "$grouping"'
         function see(i, step, watts) { if (watts > out[i]) { out[i] = watts; at[i] = step } }
-        function thousandths(n) { return sprintf("%.3f", int((n + 1800) / 3600) / 1000) }
         function close_step() { if (step != "") { see("roof", step, w); on["roof"] += any } w = any = 0 }
         function line(i) {
-            printf "%s %.3f %s %.0f %s %.0f %s %.0f %s\n", i, out[i] / 1000, out[i] ? at[i] : "-", given[i],
-                thousandths(given[i]), on[i] * seconds, thousandths(1000 * on[i] * seconds), unused[i],
-                thousandths(unused[i])
+            print i, thousandths(out[i]), out[i] ? commas(at[i]) : "-", kwh(given[i]), kwh(1000 * on[i] * seconds),
+                kwh(unused[i])
         }
         sub(/^inverter /, "", $2) {
             if ($1 "" != step) { close_step(); step = $1 "" }
@@ -96,48 +123,46 @@ roof_result_suite() {
 
     # Tables and summaries whose every number is that of the rules.
     check 0 "$sunny_table" '' table "$work/sunny" "$work/sunny.result"
-    check 0 "$heading	on	DC W" '' table "$work/sunny0" "$work/sunny0.result"
+    check 0 "$heading	on	DC W$beside" '' table "$work/sunny0" "$work/sunny0.result"
     call table "$work/sunny2" "$work/sunny2.result"
     good test "$status|$error|$(grep -v 'inverter 1' "$work/output")" = "0||$sunny_table"
-    good test "$(grep 'inverter 1' "$work/output")" = '0	inverter 1	-	0.000	0	-	-	0	6
-1	inverter 1	-	0.000	0	-	-	0	1000
-2	inverter 1	-	0.000	0	-	-	0	6
-3	inverter 1	-	0.000	0	-	-	0	0'
+    good test "$(grep 'inverter 1' "$work/output")" = '0	inverter 1	-	0.000	0	-	-	0	6	missing	-12	-
+1	inverter 1	-	0.000	0	-	-	0	1000	missing	-12	-
+2	inverter 1	-	0.000	0	-	-	0	6	missing	-12	-
+3	inverter 1	-	0.000	0	-	-	0	0	missing	-12	-'
     check 0 "$work/sunny: complete, 4 steps
-1 units, 1 inverters, steps of 60 s, mode 1 (PeakShave), target 0 W, band 0 W, factor 1000
+1 unit, 1 inverter, 4 steps of 60 s (1 min), 4 min
 $sunny_fleet
 
-inverter  out_kW  at_step   out_J  out_kWh  on_s   on_h  unused_J  unused_kWh
-       0   5.000        1  303420    0.084   120  0.033    303780       0.084
-    roof   5.000        1  303420    0.084   120  0.033    303780       0.084
+inverter  out_kW  at_step  out_kWh   on_h  unused_kWh
+       0   5.000        1    0.084  0.033       0.084
+    roof   5.000        1    0.084  0.033       0.084
 
       unit  high_var  at_step  low_var  at_step
          0         0        0        0        0
-inverter 0         0        0    -3000        1" '' \
+inverter 0         0        0   -3,000        1" '' \
         summary "$work/sunny" "$work/sunny.result"
     check 0 "$work/sunny2: complete, 4 steps
-1 units, 2 inverters, steps of 60 s, mode 1 (PeakShave), target 0 W, band 0 W, factor 1000
+1 unit, 2 inverters, 4 steps of 60 s (1 min), 4 min
 $sunny_fleet
 
-inverter  out_kW  at_step   out_J  out_kWh  on_s   on_h  unused_J  unused_kWh
-       0   5.000        1  303420    0.084   120  0.033    303780       0.084
-       1   0.000        -       0    0.000     0  0.000     60720       0.017
-    roof   5.000        1  303420    0.084   120  0.033    364500       0.101
+inverter  out_kW  at_step  out_kWh   on_h  unused_kWh
+       0   5.000        1    0.084  0.033       0.084
+       1   0.000        -    0.000  0.000       0.017
+    roof   5.000        1    0.084  0.033       0.101
 
       unit  high_var  at_step  low_var  at_step
          0         0        0        0        0
-inverter 0         0        0    -3000        1
+inverter 0         0        0   -3,000        1
 inverter 1         0        0        0        0" '' \
         summary "$work/sunny2" "$work/sunny2.result"
     check 0 "$work/sunny0: complete, 0 steps
-1 units, 1 inverters, steps of 60 s, mode 1 (PeakShave), target 0 W, band 0 W, factor 1000
- unit  request_W  out_kW  in_kW  out_J  out_kWh  in_J  in_kWh  loss_J  loss_kWh  low_J  at_step  not_met
-    0          0   0.000  0.000      0    0.000     0   0.000       0     0.000      -        -        0
-fleet          0   0.000  0.000      0    0.000     0   0.000       0     0.000      -        -        0
+1 unit, 1 inverter, 0 steps of 60 s (1 min), 0 s
+$(tail -n +3 <<<"$none_summary" | head -n 10)
 
-inverter  out_kW  at_step  out_J  out_kWh  on_s   on_h  unused_J  unused_kWh
-       0   0.000        -      0    0.000     0  0.000         0       0.000
-    roof   0.000        -      0    0.000     0  0.000         0       0.000
+inverter  out_kW  at_step  out_kWh   on_h  unused_kWh
+       0   0.000        -    0.000  0.000       0.000
+    roof   0.000        -    0.000  0.000       0.000
 
       unit  high_var  at_step  low_var  at_step
          0         -        -        -        -
@@ -148,15 +173,15 @@ inverter 0         -        -        -        -" '' \
     call run "$work/sunny1" "$work/sunny1.result"
     call summary "$work/sunny1" "$work/sunny1.result"
     good test "$(grep roof "$work/output" | sed 's/^ *//; s/  */ /g')" = \
-        'roof 5.000 0 300000 0.083 60 0.017 300000 0.083'
+        'roof 5.000 0 0.083 0.017 0.083'
 
     # The sample, beside what other means make of it, and as a planner sees it.
-    check 0 "$stick: complete, 96 steps" '' check "$stick"
+    complete "$stick" 96
     check 0 "$stick: complete, 96 steps" '' run "$stick" "$work/roof.result"
     good test "$(wc -c <"$work/roof.result")" = $(((40 * 3 + 29 * 3) * 96 + 7))
     call table "$stick" "$work/roof.result"
     good test "$status|$error|$(wc -l <"$work/output")" = "0||$((1 + 6 * 96))"
-    good test "$output" = "$(decoded "$work/roof.result")"
+    good test "$(fronts <"$work/output")" = "$(decoded "$work/roof.result")"
     good test "$(cut -f 2 "$work/output" | sort | uniq -c | sed 's/^ *//')" = '96 0
 96 1
 96 2
@@ -164,13 +189,13 @@ inverter 0         -        -        -        -" '' \
 96 inverter 1
 96 inverter 2
 1 unit'
-    expected=$(printf '%s\n' "$output" | grep -v inverter | summed 900
+    expected=$(summed 900 <"$work/output"
         echo
-        printf '%s\n' "$output" | summed_roof 900
+        summed_roof 900 <"$work/output"
         echo
-        printf '%s\n' "$output" | var_ends)
+        var_ends <"$work/output")
     call summary "$stick" "$work/roof.result"
-    good test "$(sed '1,3d; /^inverter  *out_kW/d; s/^ *//; s/  */ /g' "$work/output")" = "$expected"
+    good test "$(columns <"$work/output")" = "$expected"
     check 0 "$roof_summary" '' summary "$stick" "$work/roof.result"
 
     # A stick without inverters has none of it, with weather or without.
@@ -186,7 +211,7 @@ inverter 0         -        -        -        -" '' \
     call settle "$stick" 50000
     good like "$status|$error|$output" "0||$stick: settled after *"
     call settle "$work/sunny" 6000
-    good like "$status|$error|$output" "0||$work/sunny: settled after 1 changing passes"$'\nunit*\n0\t5000\t5000\n*'
+    good like "$status|$error|$output" "0||$work/sunny: settled after 1 changing pass"$'\nunit*\n0\t5000\t5000\n*'
 }
 
 other_roof_suite() {
@@ -264,11 +289,13 @@ largest_roof_suite() {
     check 0 "$work/largest: complete, 65535 steps" '' run "$work/largest" "$work/largest.result"
     good test "$(wc -c <"$work/largest.result")" = $(((40 + 29 * 64) * 65535 + 7))
     call summary "$work/largest" "$work/largest.result"
-    good test "$status|$error|$(wc -l <"$work/output")" = '0||139'
-    good test "$(sed -n '8p;72p;$p' "$work/output" | sed 's/^ *//; s/  */ /g')" = "0 100000.000 0 566222400000000000 \
-157284000000.000 5662224000 1572840.000 113243913777600000000000 31456642716000000.000
-roof 6400000.000 0 36238233600000000000 10066176000000.000 5662224000 1572840.000 7247610481766400000000000 \
-2013225133824000000.000
+    good test "$status|$error|$(columns <"$work/output" | sed -n '6p; 70p; 73p; 137p; $p')" = "0||0 100,000.000 0 \
+157,284,000,000.000 1,572,840.000
+roof 6,400,000.000 0 10,066,176,000,000.000 1,572,840.000
+0 31,456,642,716,000,000.000
+roof 2,013,225,133,824,000,000.000
 inverter 63 0 0 0 0"
+    good narrow
+    large_json "$work/largest" '67946688000 67946688000 67946688000 36238233600000000000 7247610481766400000000000'
     rm "$work/largest" "$work/largest.result"
 }

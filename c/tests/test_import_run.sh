@@ -113,26 +113,44 @@ not_written() {
     check 2 '' "import: $2: cannot be written: $3" run "$1" "$2"
 }
 
+# then_do WHY [WORD]: what is said to do where a file cannot be written, by why not.
+then_do() {
+    local then="Give # another name"
+    case $1 in
+    'there is no such folder') then='Make the folder or give # a name in one that is there' ;;
+    'Not a directory') then='Give # a name in a folder' ;;
+    "$denied") then='Ask for that permission or give # a name in another folder' ;;
+    'the disk can only be read') then='Give # a name on another disk' ;;
+    'No space left on device' | 'Disk quota exceeded') then='Make room or give # a name on another disk' ;;
+    'File too large') then='Give # a name on a disk that takes files of that size' ;;
+    'File name too long') then='Give # a shorter name' ;;
+    esac
+    echo "    Nothing under that name has changed. ${then/\#/${2:-RESULT}}, and call again."
+}
+denied='there is no permission to write in its folder'
+
 # failed_write RESULT WHY [FILE]: the same for a result that was tried.
-advice='    Nothing under that name has changed. Make room or give RESULT another name, and call again.'
 failed_write() {
     good test "$status|$output|$error" = \
-        "2|${3:-examples/season.stick}: complete, 336 steps|import: $1: cannot be written: $2"$'\n'"$advice"
+        "2|${3:-examples/season.stick}: complete, 336 steps|import: $1: cannot be written: $2"$'\n'"$(then_do "$2")"
 }
 
-# unwritable COMMAND FILE WORD DENIED..: a folder and then a file that another user may not write; DENIED is the check of
-# what is said of the first.
+# unwritable COMMAND FILE WORD DENIED..: folders that another user may not write to or even enter, and then a file that
+# he may not write; DENIED is the check of what is said of a folder.
 unwritable() {
     local command=$1 file=$2 word=$3
     shift 3
     old
     chmod 644 "$file"
-    chmod 555 "$work/out"
     chmod 666 "$work/out/result"
-    if as_other "$command" "$file" "$work/out/result"; then
-        "$@"
-        good kept
-    fi
+    local mode
+    for mode in 555 000; do
+        chmod "$mode" "$work/out"
+        if as_other "$command" "$file" "$work/out/result"; then
+            "$@"
+            good kept
+        fi
+    done
     chmod 777 "$work/out"
     chmod 444 "$work/out/result"
     if as_other "$command" "$file" "$work/out/result"; then
@@ -187,7 +205,7 @@ target_suite() {
     failed_write "$name" 'File name too long'
     cp "$stick" "$work/season.stick"
     unwritable run "$work/season.stick" RESULT \
-        failed_write "$work/out/result" 'Permission denied' "$work/season.stick"
+        failed_write "$work/out/result" "$denied" "$work/season.stick"
 
     # Files that cannot be read, and lines that cannot be written, leave the result as it was.
     old
@@ -226,6 +244,13 @@ full_suite() {
         good test "$(ls -A "$work/disk")" = ''
         call run "$work/giving" "$work/out/result"
         good written giving
+        # One that can only be read, with the result and without.
+        echo old >"$work/disk/result"
+        mount -o remount,ro "$work/disk"
+        not_written "$stick" "$work/out/result" 'the disk can only be read; give RESULT a name on another disk'
+        good kept
+        call run "$stick" "$work/out/new"
+        failed_write "$work/out/new" 'the disk can only be read'
         umount "$work/disk"
         rm "$work/out"
     else

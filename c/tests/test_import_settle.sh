@@ -8,6 +8,14 @@ most_left() {
     echo "gap left $2 W: at most $1 a request ($2 W to the target, $3 W left to the ratings of units above reserve)"
 }
 
+# passes NUMBER: so many passes.
+passes() {
+    echo "$1 pass$([ "$1" = 1 ] || echo es)"
+}
+
+# What stands above the units, which the files count otherwise than people do.
+from_0='units are counted from 0: unit 0 is the 1st unit'
+
 settle_suite() {
     local stick=examples/season.stick name needs='import: settle needs a FILE, a LOAD and perhaps a BUDGET'
     check 2 '' "$needs"$'\n'"$usage" settle
@@ -19,7 +27,7 @@ settle_suite() {
     for budget in 1 2 3 4 5 10000; do
         second=$(cut -d ' ' -f $((budget < 5 ? budget : 5)) <<<'150 175 187 193 193')
         sum=$((100 + second))
-        words="not settled within $budget passes, $budget changed a request"
+        words="not settled within $(passes "$budget"), $budget changed a request"
         if [ "$budget" -gt 4 ]; then words='settled after 4 changing passes'; fi
         where=within
         if [ "$sum" -lt 290 ]; then where='not within'; fi
@@ -31,6 +39,7 @@ settle_suite() {
         4) rest=$'\n''gap left 7 W, within half the band: no further pass changes a request' ;;
         esac
         lines="$work/c1: $words
+$from_0
 unit	request W	rating W
 0	100	100
 1	$second	1000
@@ -40,11 +49,13 @@ sum of requests $sum W, reading left $((1000 - sum)) W: $where half the band (20
     check 0 "$lines" '' settle "$work/c1" 1000
     check 0 "$lines" '' settle "$work/c1" 0001000 00010000
     check 0 "$work/c1: settled after 0 changing passes
+$from_0
 unit	request W	rating W
 0	0	100
 1	0	1000
 sum of requests 0 W, reading left 0 W: not within half the band (20 W) of the target (700 W)" '' settle "$work/c1" 0
-    check 0 "$work/c1: not settled within 1 passes, 1 changed a request
+    check 0 "$work/c1: not settled within 1 pass, 1 changed a request
+$from_0
 unit	request W	rating W
 0	100	100
 1	1000	1000
@@ -52,13 +63,15 @@ sum of requests 1100 W, reading left 99998900 W: not within half the band (20 W)
 gap left 99998200 W: no further pass changes a request (every unit above reserve is at its rating)" '' \
         settle "$work/c1" 100000000 1
     # The mode of the file is not the study's.
-    check 0 "$work/taking: settled after 1 changing passes
+    check 0 "$work/taking: settled after 1 changing pass
 a study is in mode 1 (PeakShave) and by watts; the stick's mode is 3 (PeakShaveLow)
+$from_0
 unit	request W	rating W
 0	5000	5000
 sum of requests 5000 W, reading left 1000 W: not within half the band (0 W) of the target (0 W)" '' \
         settle "$work/taking" 6000
-    check 0 "$stick: settled after 1 changing passes
+    check 0 "$stick: settled after 1 changing pass
+$from_0
 unit	request W	rating W
 0	17142	100000
 1	8571	50000
@@ -67,11 +80,14 @@ sum of requests 29998 W, reading left 120002 W: within half the band (6000 W) of
         settle "$stick" 150000
 
     # Words that are no whole numbers, and numbers outside their ranges.
-    for name in '' x 1x +5 ' 5' '5 ' 1e3 0x10 1.5 1,000 - --5; do
+    for name in '' x 1x +5 ' 5' '5 ' 1e3 0x10 1.5 1,000 -; do
         check 2 '' "import: $name: LOAD is no whole number; give it in watts, such as 150000" settle "$stick" "$name"
         check 2 '' "import: $name: BUDGET is no whole number; give the most passes, such as 100" \
             settle "$stick" 1 "$name"
     done
+    # A dash and more is an option, unless a whole number follows it.
+    check 2 '' "import: settle has no option --5; a file of that name comes behind --"$'\n'"$usage" settle "$stick" --5
+    check 2 '' 'import: -1.5: LOAD is no whole number; give it in watts, such as 150000' settle "$stick" -- -1.5
     local refused=': refused 5 (value out of range)'
     for name in -1 100000001 4294967296 9223372036854775807 9223372036854775808 18446744073709551617 \
         99999999999999999999999999 -99999999999999999999999999; do
@@ -134,12 +150,12 @@ bounded() {
     local file=$1 load=$2 whole budget most
     shift 2
     call settle "$file" "$load" 10000
-    good like "$status $output" "0 $file: settled after * changing passes"$'\n*'
+    good like "$status $output" "0 $file: settled after * changing pass*"$'\n*'
     whole=${output#"$file: settled after "} whole=${whole%% *}
     good like "${output##*$'\n'}" 'sum of requests *'
     for ((budget = 1; budget <= whole; budget++)); do
         call settle "$file" "$load" "$budget"
-        good like "$status $output" "0 $file: not settled within $budget passes, $budget changed a request"$'\n*'
+        good like "$status $output" "0 $file: not settled within $(passes "$budget"), $budget changed a request"$'\n*'
         good test "${output##*$'\n'}" = "$(rest_of "$@")"
         most=0
         if like "$output" $'*\ngap left * W: at most *'; then most=${output##*: at most } most=${most%% *}; fi

@@ -45,10 +45,10 @@ voltage_suite() {
     local name steps stick=examples/voltage.stick
     led_sticks
     while read -r name steps; do
-        check 0 "$work/$name: complete, $steps steps" '' check "$work/$name"
+        complete "$work/$name" "$steps"
         check 0 "$work/$name: complete, $steps steps" '' run "$work/$name" "$work/$name.result"
         call table "$work/$name" "$work/$name.result"
-        good test "$status|$output|$error" = "0|$(decoded "$work/$name.result")|"
+        good test "$status|$(fronts <"$work/output")|$error" = "0|$(decoded "$work/$name.result")|"
     done <<<$'led0 6\nled1 6\nled_roof0 4\nled_roof1 4\nnot_led 2\nplain 2\nled_none 0'
 
     # Its own 700 var before the first voltage, of which 600 may be provided; half of the base; the same without a
@@ -60,21 +60,20 @@ voltage_suite() {
     # Of an inverter that is off none; what was requested of it stands. Beside 5,000 W there are 6,244 var.
     good test "$(vars_of led_roof0)" = '500 4000 500 0 500 4000 -300 -6244 '
     good test "$(vars_of led_roof1)" = '500 3122 500 0 500 3122 -300 -6244 '
-    good test "$(ends_of led_roof0)" = $'0 500 0 -300 3\ninverter 0 4000 0 -6244 3'
-    good test "$(ends_of led_roof1)" = $'0 500 0 -300 3\ninverter 0 3122 0 -6244 3'
+    good test "$(ends_of led_roof0)" = $'0 500 0 -300 3\ninverter 0 4,000 0 -6,244 3'
+    good test "$(ends_of led_roof1)" = $'0 500 0 -300 3\ninverter 0 3,122 0 -6,244 3'
     good test "$(ends_of led_none)" = '0 - - - -'
     # A function changes nothing before the first voltage.
     good cmp "$work/not_led.result" "$work/plain.result"
     not_shown "$work/led0" "$work/led1.result" 40 "$(due Step 1 unit 0) is due there. What differs: vars."
 
     # The sample: the vars beside what other means make of them.
-    check 0 "$stick: complete, 48 steps" '' check "$stick"
-    check 0 "$stick: complete, 48 steps" '' show "$stick"
+    complete "$stick" 48
     check 0 "$stick: complete, 48 steps" '' run "$stick" "$work/voltage.result"
     good test "$(wc -c <"$work/voltage.result")" = $(((40 * 3 + 29 * 2) * 48 + 7))
     call table "$stick" "$work/voltage.result"
-    good test "$status|$output|$error" = "0|$(decoded "$work/voltage.result")|"
-    steps=$(printf '%s\n' "$output" | var_ends)
+    good test "$status|$(fronts <"$work/output")|$error" = "0|$(decoded "$work/voltage.result")|"
+    steps=$(var_ends <"$work/output")
     call summary "$stick" "$work/voltage.result"
     good test "$status|$error|$(tail -n 6 "$work/output" | sed 's/^ *//; s/  */ /g')" = "0||$steps"
     good test "$(tail -n 6 "$work/output")" = "$voltage_ends"
@@ -94,20 +93,22 @@ voltage_suite() {
 }
 
 voltage_ends='      unit  high_var  at_step  low_var  at_step
-         0     28495       43   -15000       12
-         1     15626       43   -19999       13
-         2      8999       19    -8999       13
-inverter 0     49860       19   -15133       15
-inverter 1     74760       19   -40693       13'
+         0    28,495       43  -15,000       12
+         1    15,626       43  -19,999       13
+         2     8,999       19   -8,999       13
+inverter 0    49,860       19  -15,133       15
+inverter 1    74,760       19  -40,693       13'
 
 # Fields that stand where they may not, and what should be there.
 voltage_order_suite() {
     local order='field out of order' led none lone
-    local anew='a field is missing, or this one is there twice or in the wrong place. Do not repair the file; ask the*'
-    local early='connections, inverters, the function and all curves come before the first step. Do not repair the *'
+    local anew='a field is missing, or this one is there twice or in the wrong place. Copy the stick again; if it*'
+    local early='connections, inverters, the function and all curves come before the first step. Copy the stick *'
+    local copy='Copy the stick again; if it stays so, ' first='inverter 0, the 1st inverter,' temperature
+    temperature="the temperature curve of $first"
     led=$(function_of 0)
     none='Here the file has a voltage, and the stick has no function, whose curve would say which vars it asks for. '
-    none+='Ask the manager for the function, or to leave all voltages out, and to write the stick anew.'
+    none+="${copy}ask the manager for the function, or to leave all voltages out, and to write the stick anew."
     # A voltage without a function, wherever one could stand with it; and where none could.
     turned_down 4 "$order" 84 0 "$none" "$plain_head $(voltage 9500) $missing $(end 1)"
     turned_down 4 "$order" 87 1 "$none" "$plain_head $missing $(voltage 9500) $missing"
@@ -116,16 +117,16 @@ voltage_order_suite() {
     turned_down 4 "$order" 370 0 "$none" "$sunny_head $(voltage 9500) $missing"
     lone='Here the file has a voltage, where'
     turned_down 4 "$order" 0 0 "$lone the fleet should be: $anew" "$(voltage 9500)"
-    turned_down 4 "$order" 9 0 "$lone the 1st unit should be: $anew" "$fleet_e2 $(voltage 9500)"
-    turned_down 4 "$order" 106 0 "$lone the 1st inverter's temperature curve should be: $anew" \
+    turned_down 4 "$order" 9 0 "$lone unit 0, the 1st unit, should be: $anew" "$fleet_e2 $(voltage 9500)"
+    turned_down 4 "$order" 106 0 "$lone $temperature should be: $anew" \
         "$plain_head $(inverter 10000 100 5000) $(voltage 9500)"
-    turned_down 4 "$order" 84 0 "$lone the connections should be: in mode 4 *, with the connections." \
+    turned_down 4 "$order" 84 0 "$lone the connections should be: in mode 4 (I-PeakShave) *, with the connections." \
         "$fleet_e2 $(unit_v 0 0 0 0) $(settings 4 0 0) $(voltage 9500)"
     turned_down 4 "$order" 88 0 "$lone the volt-var curve should be: $anew" "$plain_head $led $(voltage 9500)"
 
     # A function too early, twice, behind a step, and without its curve.
     turned_down 4 "$order" 0 0 "Here the file has the function, where the fleet should be: $anew" "$led"
-    turned_down 4 "$order" 238 0 "Here the file has the function, where the 1st inverter's efficiency curve should *" \
+    turned_down 4 "$order" 238 0 "Here the file has the function, where the efficiency curve of $first should be: *" \
         "$plain_head $(inverter 10000 100 5000) $(level 10000) $led"
     turned_down 4 "$order" 88 0 "Here the file has the function, where the volt-var curve should be: $anew" \
         "$plain_head $led $led"
@@ -141,14 +142,14 @@ voltage_order_suite() {
         "$plain_head $led $missing"
     turned_down 4 "$order" 88 0 "Here the file has the end, where the volt-var curve should be: $anew" \
         "$plain_head $led $(end 0)"
-    turned_down 4 "$order" 88 0 "Here the file has the 1st inverter, where the volt-var curve should be: $anew" \
+    turned_down 4 "$order" 88 0 "Here the file has $first where the volt-var curve should be: $anew" \
         "$plain_head $led $(inverter 10000 100 5000)"
     # Behind the function there are only steps.
     turned_down 4 "$order" 220 0 "Here the file has a curve, where a step or the end should be: $anew" \
         "$led_head $volt_var"
-    turned_down 4 "$order" 220 0 "Here the file has the 1st inverter, where a step or the end should be: $anew" \
+    turned_down 4 "$order" 220 0 "Here the file has $first where a step or the end should be: $anew" \
         "$led_head $(inverter 10000 100 5000)"
-    turned_down 4 "$order" 506 0 "Here the file has the 2nd inverter, where a step or the end should be: $anew" \
+    turned_down 4 "$order" 506 0 "Here the file has inverter 1, the 2nd inverter, where a step or the end should *" \
         "$sunny_head $led $volt_var $(inverter 10000 100 5000)"
     turned_down 4 "$order" 220 0 "Here the file has the connections, where a step or the end should be: $anew" \
         "$led_head $(joined 230 1)"
@@ -162,80 +163,56 @@ voltage_order_suite() {
         "$led_head $clear $(voltage 1) $(voltage 1)"
     turned_down 4 "$order" 239 0 '*the end, and the weather before it has no reading, *leave that weather out, *' \
         "$led_head $clear $(end 0)"
-    none='Here the file has the end, and the voltage before it has no reading, which would close its step. Ask the '
-    lone=', or to leave that voltage out, with its weather if it has one, and to write the stick anew.'
-    turned_down 4 "$order" 225 0 "${none}manager for the first row of readings$lone" "$led_head $(voltage 1) $(end 0)"
-    turned_down 4 "$order" 247 1 "${none}manager for the row of readings after the first 1$lone" \
-        "$led_head $missing $clear $(voltage 1) $(end 1)"
-    turned_down 8 'end field missing' 225 0 'The file is empty or stops between two fields: *' "$led_head $(voltage 1)"
+    none='Here the file has the end, and the voltage before it has no reading, which would close'
+    lone=". ${copy}ask the manager for that row, or to leave that voltage out, with its weather if it has one, and to \
+write the stick anew. import rescue keeps *"
+    turned_down 4 "$order" 225 0 "$none step 0, the 1st row$lone" "$led_head $(voltage 1) $(end 0)"
+    turned_down 4 "$order" 247 1 "$none step 1, the 2nd row$lone" "$led_head $missing $clear $(voltage 1) $(end 1)"
+    turned_down 8 'end field missing' 225 0 'The file stops after 0 steps, where the reading that follows a voltage '\
+'should be: *' "$led_head $(voltage 1)"
+    turned_down 8 'end field missing' 242 1 'The file stops after 1 step, where the voltage or the reading that '\
+'follows a weather should be: *' "$led_head $missing $clear"
 }
 
 # Values out of range, lengths, and fields that are cut short.
 voltage_words_suite() {
-    local range='value out of range' points words curve place
-    for words in 02 FF; do
-        turned_down 5 "$range" 84 0 'The base of the function is not 0, for the S of a unit or an inverter, or 1, for '\
-'what the watts leave of it. Ask the manager to correct the function and to write the stick anew.' \
-            "$plain_head 0B 0001 $words $volt_var"
-    done
-    for words in 20001 65535; do
-        turned_down 5 "$range" 242 1 'The voltage is above 20,000 ten-thousandths of per unit. Ask the manager for '\
-'the voltage of the row of readings after the first 1, and have it entered again or left out; without it the vars *' \
-            "$led_head $missing $clear $(voltage "$words") $missing"
-    done
+    local range='value out of range' words place tag len
     for words in 0 20000; do
         bytes "$led_head $(voltage "$words") $missing $(end 1)" >"$work/current"
-        check 0 "$work/current: complete, 1 steps" '' check "$work/current"
+        complete "$work/current" 1
     done
-    # Points of too few or too many, whose x fall or stay, beyond the ranges on either side, and more past them.
-    while read -r points curve; do
-        turned_down 5 "$range" 88 0 'The points of the volt-var curve are fewer than 2 or more than 16, or their '\
-'voltages do not rise *Ask the manager to correct this curve and to write the stick anew.' \
-            "$plain_head $(function_of 1) $(curve_of "$points" "$curve")"
-    done <<'END'
-1 00002710 00000000
-2 00002710 00000000 0000270F 00000000
-2 00002710 00000000 00002710 00000000
-2 FFFFFFFF 00000000 00002710 00000000
-2 00002710 00000000 00004E21 00000000
-2 00002710 00002711 00002711 00000000
-2 00002710 00000000 00002711 FFFFD8EF
-END
-    turned_down 5 "$range" 88 0 'The points of the volt-var curve are *' \
-        "$plain_head $(function_of 1) ${volt_var/0081 04/0081 03}"
-    turned_down 5 "$range" 88 0 'The points of the volt-var curve are *' \
-        "$plain_head $(function_of 1) ${volt_var/0081 04/0081 11}"
     bytes "$plain_head $(function_of 1) $(curve_of 2 '00000000 FFFFD8F0 00004E20 00002710') $(end 0)" >"$work/current"
-    check 0 "$work/current: complete, 0 steps" '' check "$work/current"
+    complete "$work/current" 0
     # An inverter's curve is called by its own name, with a function behind it or not.
-    turned_down 5 "$range" 106 0 "The points of the 1st inverter's temperature curve are *or their x do not rise *" \
+    turned_down 5 "$range" 106 0 'The number of points of the temperature curve of inverter 0, the 1st inverter, is *' \
         "$plain_head $(inverter 10000 100 5000) ${volt_var/0081 04/0081 11} $(level 9500) $(function_of 0) $volt_var"
 
     # Each field with a wrong length and cut short.
     bytes "$led_head $clear $(voltage 9500) $missing $(end 1)" >"$work/led"
-    while read -r place words; do
+    while IFS='|' read -r place tag len words; do
         cp "$work/led" "$work/current"
         patch "$work/current" $((place + 1)) 01
         refused "$work/current" 3 'wrong length' "$place" 0
-        advised "The length of $words is not the one that its tag has: bytes were changed or lost here."
+        advised "Here the file has $words, with the tag hex $tag ($((16#$tag))) and the length hex 01$len \
+($((16#01$len))); the length should be hex 00$len ($((16#$len))): bytes were changed or lost here."
         head -c $((place + 3)) "$work/led" >"$work/current"
         refused "$work/current" 1 'field cut short' "$place" 0
-        advised "The file ends in the middle of $words: the copy is not whole."
+        advised "The file ends in the middle of $words: 3 of its $((16#$len + 3)) bytes are there. The copy is not *"
     done <<'END'
-84 the function
-88 the volt-var curve
-220 a weather
-239 a voltage
+84|0B|01|the function
+88|07|81|the volt-var curve
+220|08|10|the weather of step 0, the 1st row
+239|0C|02|the voltage of step 0, the 1st row
 END
     # The sample sticks.
     refused examples/refused-04-voltage-without-function.stick 4 'field out of order' 887 2
     advised 'Here the file has a voltage, and the stick has no function, *'
     refused examples/refused-05-volt-var-order.stick 5 "$range" 780 0
-    advised 'The points of the volt-var curve are *, or their voltages do not rise from each to the next, *'
+    advised 'The x of point 1, the 2nd point, of the volt-var curve is 10,200 ten-thousandths of per unit; it must be '\
+'above that of the point before it, which is 10,800 ten-thousandths of per unit. Besides, 2 more of its values are *'
     refused examples/refused-05-voltage-out-of-range.stick 5 "$range" 2213 26
-    advised 'The voltage is above 20,000 *for the voltage of the row of readings after the first 26, *'
-    call show examples/refused-05-voltage-out-of-range.stick
-    shown "    The field's 2 value bytes:" '        2216  5A 64'
+    advised 'The voltage in step 26, the 27th row, is 23,140 ten-thousandths of per unit; it may be 0 to 20,000. Copy '\
+'the stick again; if it stays so, ask the manager for the voltage of that row, and have it entered again or left *'
 }
 
 # after_cut BYTES STEPS LINE: what is kept of the stick with two led steps that is cut there.

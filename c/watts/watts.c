@@ -40,7 +40,7 @@ int main(int argc, char **argv)
         if (refusal == 0) {
             printf("%s kW: %" PRId32 " W\n", argv[i], watts);
         } else {
-            printf("%s kW: refused %" PRIu32 " (reading not usable)\n", argv[i], refusal);
+            printf("%s kW: refused %" PRIu32 " (%s)\n", argv[i], refusal, yb_refusal_words(refusal));
             status = 1;
         }
     }
