@@ -8,12 +8,17 @@
 #   YB_CC_WHY    where it is empty: why, and what to do about it
 #   YB_STATIC    -static where the programs run under the emulator
 #   YB_EMULATOR  the kit's emulator, empty on an x86-64 machine
+#   YB_CHARTS_WHY, YB_BROWSER_WHY  where the season's page cannot be made, or not be tried in a browser: what to do
+#   YB_PYTHON_WHY  where there is no Python for the desk's commands: why, and what to do about it
 
 YB_ARCHIVE=${YB_ARCHIVE:-target/staticlib/libyesbrulka.a}
 YB_CC=
 YB_CC_WHY=
 YB_STATIC=
 YB_EMULATOR=
+YB_CHARTS_WHY=
+YB_BROWSER_WHY=
+YB_PYTHON_WHY=
 
 # yb_install PACKAGE..: install Debian's packages where this is root, and say so on one line.
 yb_install() {
@@ -60,6 +65,35 @@ yb_toolchain() {
         YB_CC=$compiler
     else
         YB_CC_WHY="no compiler for x86-64 code; install the packages $packages"
+        return 1
+    fi
+}
+
+# yb_charts: have the chart library that is put into the season's page.
+yb_charts() {
+    local library=/usr/share/javascript/dygraphs/dygraph.min.js
+    if [ -f "$library" ] || { yb_install libjs-dygraphs && [ -f "$library" ]; }; then
+        return 0
+    fi
+    YB_CHARTS_WHY='no chart library; install the package libjs-dygraphs'
+    return 1
+}
+
+# yb_browser: have a browser to try the season's page in.
+yb_browser() {
+    if command -v chromium >/dev/null || { yb_install chromium && command -v chromium >/dev/null; }; then
+        return 0
+    fi
+    YB_BROWSER_WHY='no Chromium; install the package chromium'
+    return 1
+}
+
+# yb_python: there is a Python that runs the desk's commands, installed if it is missing and that can be done.
+yb_python() {
+    local has='import tomllib, zoneinfo; zoneinfo.ZoneInfo("Europe/Berlin")'
+    mkdir -p build
+    if ! python3 -c "$has" 2>/dev/null && ! { yb_install python3 tzdata && python3 -c "$has" 2>/dev/null; }; then
+        YB_PYTHON_WHY='no Python 3.11 that knows time zones; install the packages python3 and tzdata'
         return 1
     fi
 }
