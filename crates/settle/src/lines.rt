@@ -23,17 +23,29 @@ fn signed(z: i64) {
     number(whole::size64(z));
 }
 
+// The word behind a number of passes.
+fn passes_word(n: u32) {
+    if n == 1 {
+        text(b" pass");
+    } else {
+        text(b" passes");
+    }
+}
+
 // Whether the study settled, and after how many passes.
 pub fn outcome(r: Studied, budget: u32) {
     let passes = r.passes;
     if r.settled {
         text(b"standard input: settled after ");
         number(passes as u64);
-        text(b" changing passes\n");
+        text(b" changing");
+        passes_word(passes);
+        text(b"\n");
     } else {
         text(b"standard input: not settled within ");
         number(budget as u64);
-        text(b" passes, ");
+        passes_word(budget);
+        text(b", ");
         number(passes as u64);
         text(b" changed a request\n");
     }
@@ -78,7 +90,7 @@ fn unit(i: usize, request: i32, rating: u32) {
 pub fn units(file: &[u8], requests: &[i32])
     requires { ⌜ Accepted (now file) ⌝ }
 {
-    text(b"unit\trequest W\trating W\n");
+    text(b"units are counted from 0: unit 0 is the 1st unit\nunit\trequest W\trating W\n");
     let n = stick::units(file);
     let mut i = 0;
     while i < requests.len() && i < n {
