@@ -1,0 +1,85 @@
+"""What the desk's commands share as programs: signals that end them, on whose way out what is unfinished is removed, and
+standard output and error as the caller has left them."""
+
+import errno
+import io
+import os
+import signal
+import sys
+
+ENDING = (signal.SIGINT, signal.SIGTERM, signal.SIGHUP)
+
+
+class Ended(BaseException):
+    """One of them came."""
+
+    def __init__(self, number):
+        super().__init__(number)
+        self.number = number
+
+
+class Waiting:
+    """While it is held a signal waits. It is set without a call, before which one could come through."""
+    held = False
+    number = None
+
+
+def come(number, _frame):
+    if Waiting.held:
+        Waiting.number = number
+        return
+    for ending in ENDING:
+        signal.signal(ending, signal.SIG_IGN)
+    raise Ended(number)
+
+
+def watch():
+    """Signals that are ignored from the start, as under nohup, stay so."""
+    for number in ENDING:
+        if signal.getsignal(number) != signal.SIG_IGN:
+            signal.signal(number, come)
+
+
+def release():
+    """Lets the signal through that has waited."""
+    Waiting.held = False
+    if Waiting.number is not None:
+        come(Waiting.number, None)
+
+
+def die(number):
+    """Ends the program by the signal itself, so that who called it sees that."""
+    signal.signal(number, signal.SIG_DFL)
+    os.kill(os.getpid(), number)
+
+
+class Closed(io.TextIOBase):
+    """A stream that the caller has closed: writing says so."""
+
+    def write(self, _):
+        raise OSError(errno.EBADF, os.strerror(errno.EBADF))
+
+
+def streams():
+    """Characters that a stream cannot write are escaped. The number of a closed one is taken, lest a file gets it."""
+    while (number := os.open(os.devnull, os.O_RDWR)) <= 2:
+        pass
+    os.close(number)
+    sys.stdout = sys.stdout or Closed()
+    sys.stderr = sys.stderr or open(os.devnull, 'w', encoding='utf-8')
+    for stream in (sys.stdout, sys.stderr):
+        if isinstance(stream, io.TextIOWrapper):
+            stream.reconfigure(errors='backslashreplace')
+
+
+def run(work):
+    """Does the work, which gives the exit status; a signal that ends it ends the program."""
+    try:
+        watch()
+        streams()
+        status = work()
+        # Behind this there is nothing left to be ended.
+        Waiting.held = True
+        return status
+    except Ended as ended:
+        die(ended.number)
