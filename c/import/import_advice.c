@@ -351,8 +351,9 @@ static void tell_too_many(struct told *told, const struct stick *stick)
         return;
     }
     say(&told->what, "The file has more than the 2,097,152 bytes that are taken as a whole.");
-    say(&told->advice, "Check it with import check, which takes any length: if it is complete it needs no rescue, and "
-        "import summary judges its result too; else copy the stick again or ask the manager for a new one.");
+    say(&told->advice, "Check it with import check, which takes any length: if it is complete it needs no rescue, import "
+        "summary judges its result too, and for other targets ask the manager to divide the season, with a stick for "
+        "each part; else copy the stick again or ask the manager for a new one.");
 }
 
 /* One that has lost its fleet begins with a unit. */

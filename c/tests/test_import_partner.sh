@@ -393,8 +393,9 @@ partner_refused_suite() {
     lacking "$work/just" "$work/just.result" $((40 * 45588)) $((76 + 46 * 45588)) 3 "$(due step 45588 unit 0)"
     printf '\0' >>"$work/just"
     too_long='The file has more than the 2,097,152 bytes that are taken as a whole. Check it with import check, which '
-    too_long+='takes any length: if it is complete it needs no rescue, and import summary judges its result too; else '
-    too_long+='copy the stick again or ask the manager for a new one.'
+    too_long+='takes any length: if it is complete it needs no rescue, import summary judges its result too, and for '
+    too_long+='other targets ask the manager to divide the season, with a stick for each part; else copy the stick again '
+    too_long+='or ask the manager for a new one.'
     too_long="refused 12 (too many bytes or steps) at byte 0 after 0 steps"$'\n'$(wrapped "$too_long")
     for name in "$work/just.result" none; do
         check 1 "$work/just: $too_long" "import: $work/just: refused; there is no verdict" partner "$work/just" "$name"

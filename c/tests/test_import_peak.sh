@@ -234,6 +234,7 @@ import: 2 of 4 files not shown' peak none "$work/peaky" examples "$work/low"
     call peak "$work/long"
     good test "$status|$error" = "1|import: $work/long: refused; nothing is shown"
     good like "$output" "$work/long: refused 12 (too many bytes or steps) at byte 0 after 0 steps"$'\n*2,097,152 bytes*'
+    advised 'The file has more than the 2,097,152 bytes*for other targets ask the manager to divide the season, *'
     check 0 "${one/$work\/peaky:/-:}" '' peak - <"$work/peaky"
     # A line says how far it is, at a terminal and from a second on.
     error=$(script -qec "$import peak '$work/just' -1000000 -1000 1000 >'$work/output'" /dev/null </dev/null 2>&1)

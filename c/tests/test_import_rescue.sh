@@ -278,7 +278,7 @@ at byte 1,769,521 after as many steps as there can be: $(ended '65,535 steps') a
     good test "$status|${output%%$'\n'*}|$error" = \
         "1|$too_long|import: $stick: cannot be rescued: it is longer than a rescue takes; nothing is written"
     advised 'The file has more than the 2,097,152 bytes that are taken as a whole. Check it with import check, *: if '\
-'it is complete it needs no rescue, and *; else copy the stick again or ask the manager for a new one. '
+'it is complete it needs no rescue, *; else copy the stick again or ask the manager for a new one. '
     good kept
     { bytes "$head_d" && repeated "$row" 45588 && bytes "$clear $missing $(end 45589)"; } >"$stick"
     call rescue "$stick" "$work/out/result"

@@ -55,7 +55,7 @@ typed() {
 }
 
 # Machines that ssh reaches: each is a folder below far, and knows nothing of where it was called from. The command that
-# ssh is given goes to a shell there, as it does on a machine.
+# ssh is given goes to a shell there, which SHELL names, as it does on a machine.
 far_machines() {
     mkdir -p "$work"/far/{barn-2,barn-3}
     cat >"$work/far/ssh" <<END
@@ -65,6 +65,7 @@ host=\$1
 shift
 if [ "\$1" = -- ]; then shift; fi
 echo "\$host" >>'$work/reached'
+export SHELL=/bin/sh
 cd '$work/far/'"\$host" && exec sh -c "\$*"
 END
     chmod +x "$work/far/ssh"
