@@ -12,6 +12,7 @@ log=$(mktemp -d) || exit 2
 # The count is the last line even where the gate itself breaks off, which is a failure.
 whole=no
 finish() {
+    [ ! -f "$log/again" ] || cat "$log/again"
     rm -rf "$log"
     if [ "$whole" = no ]; then
         echo 'the gate broke off'
@@ -32,7 +33,9 @@ unset YB_ARCHIVE
 #   cargo   the sum of cargo's `test result:` lines
 #   one     the step is one test
 #   none    the step is no test, but may fail
-# A step that fails or dies without counting a failure counts as one.
+# A step that fails or dies without counting a failure counts as one. What a step said that failed is told again at the
+# end, without the lines that tell of success: a gate's output is long, and people see its end first.
+success='^(test .* \.\.\. ok|rt: [a-z_]+ proved .*|rt: must-fail .*: refused, as it must be .*|(logic|library|logic=).*|)$'
 step() {
     local counts=$1 name=$2 good=0 bad=0 counted=yes status started=$SECONDS
     shift 2
@@ -67,6 +70,10 @@ step() {
     fi
     passed=$((passed + good))
     failed=$((failed + bad))
+    if [ "$bad" != 0 ]; then
+        echo "== $name, again: $bad failed"
+        grep -vE "$success" "$log/step" | cut -c 1-400 | head -n 50
+    fi >>"$log/again"
     echo "-- $name: $good passed, $bad failed, $((SECONDS - started)) s"
 }
 
@@ -83,12 +90,13 @@ stored_cases() {
     return 1
 }
 
-# The sample sticks are those that the reference writes today, and no others.
+# The sample sticks are those that the reference writes today, and no others; the sample log lies beside them, and the
+# desk's tests hold it to the program that writes it.
 sample_sticks() {
     if mkdir "$log/examples" &&
         cargo run --quiet --release --offline --manifest-path reference/Cargo.toml --bin sticks -- \
             "$log/examples" &&
-        diff -r "$log/examples" examples; then
+        diff -r --exclude=log "$log/examples" examples; then
         return 0
     fi
     echo 'examples is not what the reference writes; make examples rewrites it'
@@ -110,8 +118,55 @@ stack() {
     $YB_EMULATOR build/x86_64/test_stack
 }
 
+# The README's two commands from a log to a page. Without the desk's the season begins with a stick.
+sample() {
+    if [ -n "$YB_PYTHON_WHY" ]; then
+        make --no-print-directory sample SAMPLE=examples/harvest.stick
+        return
+    fi
+    make --no-print-directory sample || return
+    if [ -z "$YB_CHARTS_WHY" ]; then build/season-page build/barn.stick build/barn.html; fi
+}
+
 reference() {
     (cd reference && cargo test --release --offline --no-fail-fast "$@")
+}
+
+# later COUNTS NAME COMMAND..: a step of those that run together.
+names=() counts=() commands=()
+later() {
+    counts+=("$1") names+=("$2")
+    shift 2
+    commands+=("$(printf '%q ' "$@")")
+}
+
+# apart K: run the command of such a step, and keep what it said, its status and its seconds.
+apart() {
+    local started=$SECONDS status
+    eval "${commands[$1]}" >"$log/said.$1" 2>&1
+    status=$?
+    echo "$status $((SECONDS - started))" >"$log/status.$1"
+}
+
+told() {
+    local status=1 seconds
+    read -r status seconds <"$log/status.$1" && echo "it took $seconds s, beside others"
+    cat "$log/said.$1"
+    return "$status"
+}
+
+# together: run those steps, one more at a time than there are cores, since each waits now and then; then tell them in
+# their order.
+together() {
+    local i
+    for i in "${!names[@]}"; do
+        while [ "$(jobs -rp | wc -l)" -gt "$(nproc)" ]; do wait -n; done
+        apart "$i" &
+    done
+    wait
+    for i in "${!names[@]}"; do
+        step "${counts[i]}" "${names[i]}" told "$i"
+    done
 }
 
 export CARGO_TARGET_DIR=$PWD/build/reference
@@ -119,9 +174,21 @@ yb_toolchain
 # Relative to reference/, where cargo runs the tests: the host's command is split at blanks.
 export YB_HOST="$YB_EMULATOR ../build/x86_64/host"
 
+# The reference is compiled beside the proofs, which leave a core idle at times, and what the tests need of Debian's
+# packages is installed. What goes wrong with either shows in the steps below: they compile or install what is not there.
+ahead() {
+    yb_python
+    yb_charts
+    yb_browser
+    (cd reference && nice -n 19 cargo build --quiet --release --offline --all-targets)
+}
+ahead >"$log/ahead" 2>&1 &
+ahead=$!
+
 # More at a time than there are cores: each waits for the slowest of its batch.
-step line 'proofs' env RT_JOBS="${RT_JOBS:-4}" rt ci
+step line 'proofs' env RT_JOBS="${RT_JOBS:-6}" rt ci
 step line 'wrong programs' tools/refusals.sh
+wait "$ahead"
 step one 'stored cases' stored_cases
 step one 'sample sticks' sample_sticks
 step none 'archive' archive
@@ -129,21 +196,34 @@ if [ -n "$YB_CC" ]; then
     step none 'C programs' tools/build.sh
     # Where it was not built the tests that need it say so.
     [ -x build/x86_64/host ] || unset YB_HOST
-    step line 'C surface' surface
-    step line 'C stack' stack
-    step cargo 'reference and archive' reference
-    step line 'watts command' c/tests/test_watts.sh
-    step line 'feed command' c/tests/test_feed.sh
-    step line 'import command' c/tests/test_import.sh
-    step line 'programs' c/tests/test_programs.sh
-    step one 'sample season' make --no-print-directory sample
+    # The longest first, so that none of them is left over at the end.
+    later line 'import command' c/tests/test_import.sh plain
+    later line 'import command, sanitized' c/tests/test_import.sh sanitized
+    later cargo 'reference and archive' reference
+    if yb_python; then
+        later line 'desk' desk/tests/run.sh
+        if yb_charts && yb_browser; then
+            later line 'page in a browser' desk/tests/browser.py
+        fi
+    fi
+    later line 'install' c/tests/test_install.sh
+    later line 'programs' c/tests/test_programs.sh
+    later line 'feed command' c/tests/test_feed.sh
+    later line 'watts command' c/tests/test_watts.sh
+    later line 'C surface' surface
+    later line 'C stack' stack
+    together
+    step one 'sample season' sample
 else
     step cargo 'reference' reference --lib --bins
     for tests in 'C surface' 'C stack' 'the archive beside the reference' 'watts command' 'feed command' \
-        'import command' 'programs' 'sample season'; do
+        'import command' 'programs' 'install' 'desk' 'sample season'; do
         echo "NOT RUN: $tests: $YB_CC_WHY"
     done
 fi
 
+# What was left out is said where it is seen.
+[ -z "$YB_PYTHON_WHY" ] || echo "NOT RUN: desk, and the page in a browser: $YB_PYTHON_WHY"
+[ -z "$YB_CHARTS_WHY$YB_BROWSER_WHY" ] || echo "NOT RUN: the page in a browser: ${YB_CHARTS_WHY:-$YB_BROWSER_WHY}"
 echo "-- all steps: $SECONDS s"
 whole=yes
