@@ -200,6 +200,7 @@ if [ -n "$YB_CC" ]; then
     later line 'import command' c/tests/test_import.sh plain
     later line 'import command, sanitized' c/tests/test_import.sh sanitized
     later cargo 'reference and archive' reference
+    later line 'C surface' surface
     if yb_python; then
         later line 'desk' desk/tests/run.sh
         if yb_charts && yb_browser; then
@@ -210,7 +211,6 @@ if [ -n "$YB_CC" ]; then
     later line 'programs' c/tests/test_programs.sh
     later line 'feed command' c/tests/test_feed.sh
     later line 'watts command' c/tests/test_watts.sh
-    later line 'C surface' surface
     later line 'C stack' stack
     together
     step one 'sample season' sample
