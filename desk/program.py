@@ -1,13 +1,29 @@
-"""What the desk's commands share as programs: signals that end them, on whose way out what is unfinished is removed, and
-standard output and error as the caller has left them."""
+"""What the desk's commands share as programs: where the import tool is, signals that end them, on whose way out what is
+unfinished is removed, and standard output and error as the caller has left them."""
 
 import errno
 import io
 import os
+import shutil
 import signal
 import sys
 
 ENDING = (signal.SIGINT, signal.SIGTERM, signal.SIGHUP)
+
+
+def is_program(path):
+    return os.path.isfile(path) and os.access(path, os.X_OK)
+
+
+def import_tool():
+    """The import tool: that of YB_IMPORT, whatever is there; the one beside this program, or on the path; or None."""
+    if os.environ.get('YB_IMPORT'):
+        return os.environ['YB_IMPORT']
+    for path in (os.path.realpath(sys.argv[0]), os.path.abspath(sys.argv[0])):
+        beside = os.path.join(os.path.dirname(path), 'import')
+        if is_program(beside):
+            return beside
+    return shutil.which('import')
 
 
 class Ended(BaseException):

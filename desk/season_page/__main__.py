@@ -13,7 +13,7 @@ import program
 from . import output, page, season
 from .faults import Failed, Refused
 from .library import Library
-from .tool import Tool, copy_stick, found, version_of
+from .tool import Tool, copy_stick, version_of
 from .words import batteries, grouped, many, name_shown
 
 USAGE = 'usage: season-page STICK OUT.html'
@@ -88,7 +88,7 @@ def make(stick, out):
         path = output.path_of(out, stick)
     except Failed as fault:
         raise about(out, fault) from fault
-    command = found(os.path.dirname(os.path.realpath(sys.argv[0])), os.environ)
+    command = program.import_tool()
     if command is None:
         raise Failed('the import tool is not found; YB_IMPORT names it, or it stands beside this command as import')
     try:

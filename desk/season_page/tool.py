@@ -1,7 +1,5 @@
 """Asking the import tool. Every number of the page comes from here."""
 import json
-import os
-import shutil
 import subprocess
 import textwrap
 from contextlib import contextmanager
@@ -13,16 +11,6 @@ MOST_BYTES = 4 * 1024 * 1024
 
 # The refusal of peak for a stick that is longer than the library takes at once.
 TOO_LONG = 12
-
-
-def found(beside, environ):
-    """The import tool: the one that is named, the one beside this command, or the first on the path."""
-    if environ.get('YB_IMPORT'):
-        return environ['YB_IMPORT']
-    near = os.path.join(beside, 'import')
-    if os.path.isfile(near) and os.access(near, os.X_OK):
-        return near
-    return shutil.which('import', path=environ.get('PATH'))
 
 
 def version_of(command):

@@ -4,12 +4,10 @@ import contextlib
 import errno
 import json
 import os
-import shutil
 import stat
 import subprocess
-import sys
 
-from program import Waiting, release
+from program import Waiting, import_tool, is_program, release
 
 from .words import Failed, plain
 
@@ -28,25 +26,13 @@ ADVICE = {
 
 
 def find_import():
-    """The import tool: that of YB_IMPORT, the one beside this program, or the one on the path."""
-    named = os.environ.get('YB_IMPORT')
-    if named:
-        if not is_program(named):
-            raise Failed(f'YB_IMPORT is {plain(named)}, and there is no program there')
-        return named
-    for path in (os.path.realpath(sys.argv[0]), os.path.abspath(sys.argv[0])):
-        beside = os.path.join(os.path.dirname(path), 'import')
-        if is_program(beside):
-            return beside
-    found = shutil.which('import')
-    if found:
-        return found
-    raise Failed('the command import, which checks the stick, is neither beside this program nor on the path; build it '
-                 'with tools/build.sh, or name it in YB_IMPORT')
-
-
-def is_program(path):
-    return os.path.isfile(path) and os.access(path, os.X_OK)
+    tool = import_tool()
+    if tool is None:
+        raise Failed('the command import, which checks the stick, is neither beside this program nor on the path; build '
+                     'it with tools/build.sh, or name it in YB_IMPORT')
+    if not is_program(tool):
+        raise Failed(f'YB_IMPORT is {plain(tool)}, and there is no program there')
+    return tool
 
 
 def target_of(name, inputs):

@@ -79,6 +79,7 @@ STEP_MINUTES = Quantity('step_minutes', 'step', 'min', 60, 's', 1, 86_400, 'Q6')
 STEP_SECONDS = Quantity('step_seconds', 'step', 's', 1, 's', 1, 86_400, 'Q6')
 TOLERANCE = Quantity('tolerance_seconds', 'tolerance', 's', 1, 's', 0, 43_199, '')
 HEADER_ROW = Quantity('header_row', 'row of the header', '', 1, '', 1, 1000, '')
+NIGHT = Quantity('night_offset_W_m2', 'night offset', 'W/m2', 1000, 'mW/m2', 0, 50_000, '')
 NOMINAL = Quantity('nominal_V', 'nominal voltage', 'V', 1000, 'mV', 1, 10 ** 9, '')
 
 MODES = {'PeakShave': 1, 'Support': 2, 'PeakShaveLow': 3, 'I-PeakShave': 4, 'I-PeakShaveLow': 5}
@@ -98,7 +99,7 @@ KNOWN = {
     'top': ('name', 'edition', 'log', 'settings', 'unit', 'inverter', 'function'),
     'log': ('time', 'format', 'zone', 'step_minutes', 'step_seconds', 'tolerance_seconds', 'from', 'to', 'powers',
             'currents', 'unit', 'delimiter', 'decimal', 'missing', 'header_row', 'irradiance', 'irradiance_unit',
-            'temperature', 'voltage', 'voltage_unit', 'nominal_V'),
+            'night_offset_W_m2', 'temperature', 'voltage', 'voltage_unit', 'nominal_V'),
     'settings': ('mode', 'target_kW', 'target_A', 'band_kW', 'band_A', 'factor', 'factor_percent', 'phase'),
     'unit': ('name', 'rated_kWh', 'reserve_kWh', 'reserve_percent', 'stored_kWh', 'stored_percent', 'rating_kW',
              'rating_kVA', 'idle_loss_W', 'var_request_kvar', 'weight', 'inverter_efficiency_percent',

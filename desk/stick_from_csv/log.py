@@ -19,6 +19,8 @@ MOST_SECONDS = 86_400
 # So many rows are looked at to see how far they are apart.
 LOOKED_AT = 50
 SAY_STEP = kept('step_minutes = 15')
+SAY_NIGHT = ('If the sensor shows a little below 0 at night, say how far in [log], as in '
+             f'{kept("night_offset_W_m2 = 5")}: such readings are then taken as 0.')
 
 
 @dataclass(frozen=True)
@@ -56,7 +58,8 @@ GAP = Step(0)
 @dataclass
 class Log:
     """The steps of a log, and what there is to say of it. Gaps have their first step and their length, lacking are the
-    rows of which a phase is missing; instants and the length of a step are in microseconds.
+    rows of which a phase is missing, dark are those whose irradiance is below 0 and taken as 0; instants and the length
+    of a step are in microseconds.
     """
     moments: Moments
     cells: Cells
@@ -66,6 +69,7 @@ class Log:
     steps: list = field(default_factory=list)
     gaps: list = field(default_factory=list)
     lacking: list = field(default_factory=list)
+    dark: list = field(default_factory=list)
 
     def instant(self, step):
         return self.origin + step * self.step
@@ -90,8 +94,8 @@ class Reader:
     def refuse(self, *sentences):
         raise Refused(self.table.name, *sentences)
 
-    def refuse_cell(self, row, place, why):
-        self.refuse(f'Row {commas(row)}, column {self.table.column(place)}: {why}.')
+    def refuse_cell(self, row, place, why, *then):
+        self.refuse(f'Row {commas(row)}, column {self.table.column(place)}: {why}.', *then)
 
     def read(self):
         rows = self.log.moments.taken()
@@ -199,11 +203,19 @@ class Reader:
             self.refuse_cell(row, place, why)
         if 0 <= number <= SURE or -SURE <= number < 0 and kind.low < 0:
             return number
+        if kind is IRRADIANCE and -1 < number < 0 and self.is_dark(text, unit):
+            self.log.dark.append(row)
+            return 0.0
         if not math.isfinite(number) or not kind.low <= round(Fraction(number) * 1000) <= kind.high:
             low, high = (commas(end // 1000) for end in (kind.low, kind.high))
             self.refuse_cell(row, place, f'{quoted(text)} is {number:,.10g} {kind.unit}; the {kind.words} may be {low} '
-                                         f'to {high} {kind.unit}')
+                                         f'to {high} {kind.unit}',
+                             *([SAY_NIGHT] if kind is IRRADIANCE and number < 0 else ()))
         return number
+
+    def is_dark(self, text, unit):
+        """Whether an irradiance that is below 0 is so by no more than the night offset."""
+        return -self.log.cells.exact(text) * 10 ** (6 + SHIFTS[unit]) <= self.plan.night
 
     def voltage(self, row, cells, place):
         """Ten-thousandths of per unit, the closest whole number, and midway the even one; None where it is missing."""

@@ -19,7 +19,7 @@ VOLTAGE_UNITS = {'V': 0, 'per unit': 0}
 @dataclass
 class Plan:
     """What a site file says of the log. Instants and the tolerance are in microseconds, the nominal voltage in
-    thousandths of a volt; what is not said is None.
+    thousandths of a volt, the night offset in those of a W/m2; what is not said is None.
     """
     time: tuple
     format: str
@@ -37,6 +37,7 @@ class Plan:
     header_row: int
     irradiance: str
     irradiance_unit: str
+    night: int
     temperature: str
     voltage: str
     voltage_unit: str
@@ -70,6 +71,7 @@ def log_plan(block, mode):
         decimal=block.option('decimal', ('.', ',')), missing=missing_in(block),
         header_row=block.value(keys.HEADER_ROW) if block.has('header_row') else None,
         irradiance=irradiance, irradiance_unit=unit_in(block, 'irradiance_unit', IRRADIANCE_UNITS),
+        night=block.value(keys.NIGHT, 0) or 0,
         temperature=temperature, voltage=voltage, voltage_unit=unit_in(block, 'voltage_unit', VOLTAGE_UNITS),
         nominal=block.value(keys.NOMINAL) if block.has('nominal_V') else None)
     fits(block, plan)
@@ -86,9 +88,10 @@ def fits(block, plan):
         block.fault('nominal_V is for a voltage column in V alone, and there is none; leave it out')
     if plan.voltage_unit == 'V' and not block.has('nominal_V'):
         block.missing('nominal_V', '230')
-    for key in ('irradiance', 'voltage'):
-        if block.has(f'{key}_unit') and not block.has(key):
-            block.fault(f'{key}_unit is for the column {key}, and none is named')
+    for key, column_key in (('irradiance_unit', 'irradiance'), (keys.NIGHT.key, 'irradiance'),
+                            ('voltage_unit', 'voltage')):
+        if block.has(key) and not block.has(column_key):
+            block.fault(f'{key} is for the column {column_key}, and none is named')
     if None not in (plan.first, plan.last) and plan.first > plan.last:
         block.fault('from is later than to, so that no row would be left')
     names = [name for _, name in plan.roles()]

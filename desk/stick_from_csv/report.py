@@ -130,6 +130,9 @@ def other_words(site, log):
     if 'irradiance' in places and log.without('weather'):
         yield (f'{many(log.without("weather"), "row")} without irradiance or temperature: these steps, like those in '
                'gaps, have no sun.')
+    if log.dark:
+        yield (f'{many(len(log.dark), "row")} with an irradiance below 0, by no more than night_offset_W_m2, taken as '
+               f'0: {some(map(commas, log.dark), NAMED)}.')
     if site.inverters and 'irradiance' not in places:
         yield 'The site has inverters and the log no weather: no step has sun, and they give nothing.'
     if 'voltage' in places and log.without('voltage'):

@@ -532,8 +532,8 @@ class Quick(Pages):
         columns = page.evaluate(self.COLUMNS)
         self.assertEqual(page.troubles(), [])
         print(f'a year of hours of 64 batteries: made in {making:.1f} s, {os.path.getsize(out):,} bytes, open in '
-              f'{opening:.2f} s; all charts redrawn in {statistics.median(times):.3f} s, at most {max(times):.3f} s, with '
-              f'{max(calls):,} calls of the canvases at most, for {columns:,} columns of pixels')
+              f'{opening:.2f} s; all charts redrawn in {statistics.median(times):.3f} s, at most {max(times):.3f} s, '
+              f'with {max(calls):,} calls of the canvases at most, for {columns:,} columns of pixels')
         # A redraw takes what the screen has and not what the year has.
         self.assertGreater(min(calls), 0)
         self.assertLess(max(calls), 2 * columns)

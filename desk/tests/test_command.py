@@ -136,8 +136,8 @@ out.stick: complete, 2 steps
                          (2, b'stick-from-csv: what is to be said cannot be written: Bad file descriptor\n'))
         self.assertEqual(len(self.bytes_of('out.stick')), 137)
         os.unlink(self.path('out.stick'))
-        done = subprocess.run(['sh', '-c', 'exec "$@" <&- >&- 2>&-', 'sh', COMMAND, 'log.csv', 'site.toml', 'out.stick'],
-                              cwd=self.folder, check=False)
+        done = subprocess.run(['sh', '-c', 'exec "$@" <&- >&- 2>&-', 'sh', COMMAND, 'log.csv', 'site.toml',
+                               'out.stick'], cwd=self.folder, check=False)
         self.assertEqual((done.returncode, len(self.bytes_of('out.stick'))), (2, 137))
 
 

@@ -277,6 +277,31 @@ class Units(Desk):
         # A little below 0 is 0 once it is rounded, as the library takes it.
         self.steps(log.replace(';812;', ';-0,4;'), site)
 
+    def test_a_sensor_that_is_a_little_below_zero_at_night(self):
+        head = LOG + 'irradiance = "G [W/m2]"\ntemperature = "T"\n'
+        tail = SETTINGS + UNIT + INVERTER
+        log = ('time;L1;L2;L3;G [W/m2];T\n2025-06-01 00:00;1;2;3;-2,5;10\n2025-06-01 00:15;1;2;3;-0,4;10\n'
+               '2025-06-01 00:30;1;2;3;0;10\n2025-06-01 00:45;1;2;3;7;10\n')
+        advice = 'say how far in [log], as in night_offset_W_m2 = 5: such readings are then taken as 0.'
+        self.refused(advice, log, head + tail)
+        self.refused(advice, log, head + 'night_offset_W_m2 = 2.499\n' + tail)
+        for offset in ('2.5', '5', '50'):
+            with self.subTest(offset=offset):
+                steps = self.steps(log, f'{head}night_offset_W_m2 = {offset}\n{tail}')
+                self.assertEqual([step[0] for step in steps], [(0.0, 10), (0.0, 10), (0.0, 10), (0.007, 10)])
+                self.says('2 rows with an irradiance below 0, by no more than night_offset_W_m2, taken as 0: 2 and 3.')
+        # It is for the night alone: a number that is large, or none that a column can have, is refused as ever.
+        site = f'{head}night_offset_W_m2 = 50\n{tail}'
+        for text in ('-50,001', '-812', '-1e400', '-1e999999999'):
+            with self.subTest(text=text):
+                self.refused('Row 2, column "G [W/m2]": "', log.replace('-2,5', text), site)
+        self.refused('is no number', log.replace('-2,5', 'minus two'), site)
+        # The same in the other unit, and only of the irradiance.
+        other = site.replace('"G [W/m2]"', '"G [kW/m2]"')
+        in_kw = log.replace('W/m2', 'kW/m2').replace('-2,5', '-0,05').replace('-0,4', '0')
+        self.assertEqual(self.steps(in_kw, other)[0][0], (0.0, 10))
+        self.assertEqual(self.steps(log.replace(';10\n', ';-3\n'), site)[0][0], (0.0, -3))
+
     def test_voltage_in_volts(self):
         site = LOG + 'voltage = "U [V]"\nnominal_V = 230\n' + SETTINGS + UNIT + FUNCTION
         log = 'time;L1;L2;L3;U [V]\n2025-06-01 00:00;1;2;3;231,4\n2025-06-01 00:15;1;2;3;460\n'

@@ -357,7 +357,7 @@ class Documented(unittest.TestCase):
             kind = re.match(r'`\[*([a-z]+)', part)
             for row in re.findall(r'^\| (.*) \|$', part, flags=re.M):
                 cells = [cell.strip() for cell in row.split(' | ')]
-                for key in re.findall(r'`([A-Za-z_]+)`', cells[0]):
+                for key in re.findall(r'`([A-Za-z_0-9]+)`', cells[0]):
                     rows[kind.group(1) if kind else 'top', key] = cells
         tables = {'top': 'name edition'.split(),
                   **{kind: list(names) for kind, names in keys.KNOWN.items() if kind != 'top'}}

@@ -170,6 +170,8 @@ class Site(Desk):
                           LOG + voltage.replace('per unit', 'V') + SETTINGS + UNIT + FUNCTION)
         self.site_refused('log: irradiance_unit is for the column irradiance, and none is named.',
                           LOG + 'irradiance_unit = "W/m2"\n' + SETTINGS + UNIT)
+        self.site_refused('log: night_offset_W_m2 is for the column irradiance, and none is named.',
+                          LOG + 'night_offset_W_m2 = 5\n' + SETTINGS + UNIT)
         self.site_refused('log: nominal_V is for a voltage column in V alone',
                           LOG + 'nominal_V = 230\n' + SETTINGS + UNIT)
         self.site_refused('log: weather is both, the columns irradiance and temperature; name the other one too, or '
