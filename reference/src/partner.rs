@@ -111,7 +111,7 @@ mod tests {
     use crate::reading::{Phases, Reading};
     use crate::samples::inverters::document_inverter;
     use crate::samples::sticks::{self, power_of, whole_case};
-    use crate::samples::wrecks::wreck;
+    use crate::samples::wrecks::damaged_by_turns;
     use crate::samples::{currents, older, voltages, Draw};
     use crate::season::{RECORD, SOLAR};
     use crate::solar::Weather;
@@ -470,12 +470,8 @@ mod tests {
     fn damaged_run_files() {
         let mut draw = Draw::from_seed(153);
         let mut refused = 0;
-        let makers = [older::damaged_file, currents::damaged_file, voltages::damaged_file];
         for round in 0..3_000 {
-            let file = match round % 4 {
-                3 => wreck(&mut draw).file,
-                kind => makers[kind](&mut draw),
-            };
+            let file = damaged_by_turns(&mut draw, round);
             let answer = check(&file);
             let result = season::run(&file, usize::MAX).unwrap_or_default();
             match partner(&file, &result) {

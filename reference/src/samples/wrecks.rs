@@ -150,6 +150,16 @@ pub fn of_bytes(run: &Run, bytes: usize, draw: &mut Draw) -> (Vec<u8>, u32) {
     (file, steps)
 }
 
+/// A file that was damaged in any place, by turns in each of the editions and modes, or only in its steps.
+pub fn damaged_by_turns(draw: &mut Draw, turn: usize) -> Vec<u8> {
+    match turn % 4 {
+        0 => older::damaged_file(draw),
+        1 => currents::damaged_file(draw),
+        2 => voltages::damaged_file(draw),
+        _ => wreck(draw).file,
+    }
+}
+
 #[cfg(test)]
 mod tests {
     use super::*;
