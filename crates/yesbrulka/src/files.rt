@@ -9,6 +9,20 @@ ghost use Rattle.peaks.specs.Answers.{peaksLeaves};
 ghost use Rattle.yesbrulka.specs.Calls.{peaksTold};
 use peaks::PeaksAnswer;
 
+// The check of a file's bytes, in one pass: the number of its refusal, 0 for a complete file; the
+// place of the refused field, or where reading stopped; and the steps accepted.
+#[no_mangle]
+pub extern "C" fn yb_checked(file: &[u8], place: &mut u64, steps: &mut u32) -> u32
+    ensures { λ r. ⌜ r ≡ checkOf (now (file .entry)) .number ⌝ }
+    ensures { λ _. ⌜ now (place .exit) ≡ checkOf (now (file .entry)) .place ⌝ }
+    ensures { λ _. ⌜ now (steps .exit) ≡ checkOf (now (file .entry)) .steps ⌝ }
+{
+    let a = stick::check(file);
+    *place = a.place;
+    *steps = a.steps;
+    a.number as u32
+}
+
 // The check of a file's bytes: the number of its refusal, 0 for a complete file.
 #[no_mangle]
 pub extern "C" fn yb_check(file: &[u8]) -> u32
