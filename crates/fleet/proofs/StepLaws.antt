@@ -1,7 +1,9 @@
 -- One step of a site: a pass keeps the number of requests; a loop over the units that replaces each store and the vars last requested of each, and lays each
 -- record behind the one before, has laid all of them; no store rises above rated, and the vars kept stay in their bounds. Assumes nothing.
 use mathlib.Core.Path.{_≡_, refl, sym, ap, ap₂, _∙_, subst, subst⁻¹}
+use mathlib.Core.Bool.{Bool, true, false, cond}
 use mathlib.Core.List.{List, []}
+use mathlib.Core.Logic.{_⊎_, inl, inr}
 use Prim.Native.Nat.{ℕ, zero, suc, _+_, _*_, _^_, _≤_, _<_}
 use native.Mathlib.Nat.{le-trans, le-of-eq}
 use native.Mathlib.Numerals.{add-one}
@@ -11,6 +13,8 @@ use lib.Signed.{mag}
 use lib.ListN.{length, getD, set}
 use mir.Syntax.{w32, w64}
 use mir.Val.{toZ, ofZ}
+use denote.Enum.Declared.{tagOf}
+use Rattle.whole.proofs.Choice.{by-test}
 use Rattle.whole.proofs.SignLaws.{read}
 use Rattle.whole.proofs.OverLaws.{each-length, each-at, part, part-none, part-all, part-length, part-next, part-more}
 use Rattle.octets.specs.BigEndian.{laid}
@@ -21,10 +25,11 @@ use Rattle.reading.specs.declared.Reading.the-variants.{Missing, Power, Current
 use Rattle.reading.specs.declared.Measure.{Measure}
 use Rattle.reading.specs.declared.Measure.the-variants.{Chosen, RefusedBy}
 use Rattle.reading.specs.Choice.{measureOf, currentOf, measureCall}
-use Rattle.reading.proofs.MeasureLaws.{measure-small, current-small}
+use Rattle.reading.proofs.Reading.{the-type}
 use Rattle.unit.specs.declared.Unit.{Unit}
 use Rattle.unit.specs.Ranges.{holding}
 use Rattle.rows.specs.Rows.{unitBy}
+use Rattle.rules.specs.Rules.{byCurrent}
 use Rattle.members.specs.Ranges.{fleetFor}
 use Rattle.controller.specs.Pass.{passOf}
 use Rattle.members.specs.Posts.{fleetBy}
@@ -44,8 +49,8 @@ use Rattle.site.specs.Ranges.{Sited}
 use Rattle.records.specs.Records.{recordOf}
 use Rattle.records.proofs.LayLaws.{behind, both, nothing, record-length}
 use Rattle.fleet.specs.declared.Moment.{Moment}
-use Rattle.fleet.specs.Step.{standing, passedOn, askedBy, given, keptVars, storedAfter, varsAfter, recordsOf, after, recordsBy}
-use Rattle.fleet.specs.Posts.{Stored, Held, siteBy, measuredBy}
+use Rattle.fleet.specs.Step.{standing, passedOn, askedByWatts, askedByCurrent, askedBy, given, keptVars, storedAfter, varsAfter, recordsOf, after, recordsBy}
+use Rattle.fleet.specs.Posts.{Stored, Held, siteBy}
 use Rattle.fleet.proofs.SiteLaws.{held-ranged, rows-count, row-unit, rows-below, rows-in, rows-some, rows-few}
 
 -- ---- the pass, or none
@@ -55,66 +60,76 @@ module _ (P : List ℤ → Type 0) (site : Site) (stored : List ℕ) (rs : List 
   passed-keeps (Chosen m) = after m
   passed-keeps (RefusedBy n) = h
 
+  watts-keep : (r : Reading) → P (askedByWatts site stored rs r)
+  unfolding askedByWatts
+  watts-keep Missing = h
+  watts-keep (Power p) = passed-keeps (measureOf p (site .head .phase))
+  watts-keep (Current p) = h
+
+  current-keeps : (r : Reading) → P (askedByCurrent site stored rs r)
+  unfolding askedByCurrent
+  current-keeps Missing = h
+  current-keeps (Power p) = h
+  current-keeps (Current p) = passed-keeps (currentOf p (site .head .phase))
+
   pub asked-keeps : (r : Reading) → P (askedBy site stored rs r)
   unfolding askedBy
-  asked-keeps Missing = h
-  asked-keeps (Power p) = passed-keeps (measureOf p (site .head .phase))
-  asked-keeps (Current p) = passed-keeps (currentOf p (site .head .phase))
+  asked-keeps r = by-test P (byCurrent (site .head .settings .mode)) (askedByCurrent site stored rs r) (askedByWatts site stored rs r) (λ t. current-keeps r) (λ t. watts-keep r)
 
 pub asked-length : (site : Site) (stored : List ℕ) (rs : List ℤ) (r : Reading) → length (askedBy site stored rs r) ≡ length rs
 asked-length site stored rs =
     asked-keeps (λ (l : List ℤ). length l ≡ length rs) site stored rs refl (λ m. pass-length (site .head .settings) m (fleetFor (site .units) stored) rs)
 
--- by the measure of the reading; a missing one has none
-asked-by : (site : Site) (stored : List ℕ) (rs : List ℤ) (r : Reading) → passedOn site stored rs (measureCall (measuredBy r (site .head .phase))) ≡ askedBy site stored rs r
-unfolding askedBy measuredBy
-asked-by site stored rs Missing = refl
-asked-by site stored rs (Power p) = refl
-asked-by site stored rs (Current p) = refl
+-- by the measure of three powers or currents: none, or the pass
+module _ (site : Site) (stored : List ℕ) (rs : List ℤ) (x : Measure) where
+  pub pass-refused : (n : ℕ) → x ≡ RefusedBy n → rs ≡ passedOn site stored rs (measureCall x)
+  pass-refused n e = sym (ap (λ (y : Measure). passedOn site stored rs (measureCall y)) e)
 
-pub measured-missing : (r : Reading) (phase : ℕ) → r ≡ Missing → RefusedBy 0 ≡ measuredBy r phase
-unfolding measuredBy
-measured-missing r phase e = ap (λ (y : Reading). measuredBy y phase) (sym e)
-
-pub measured-power : (r : Reading) (p : Phases) (phase : ℕ) (x : Measure) → r ≡ Power p → x ≡ measureOf p phase → x ≡ measuredBy r phase
-unfolding measuredBy
-measured-power r p phase x e ex = ex ∙ ap (λ (y : Reading). measuredBy y phase) (sym e)
-
-pub measured-current : (r : Reading) (p : Phases) (phase : ℕ) (x : Measure) → r ≡ Current p → x ≡ currentOf p phase → x ≡ measuredBy r phase
-unfolding measuredBy
-measured-current r p phase x e ex = ex ∙ ap (λ (y : Reading). measuredBy y phase) (sym e)
-
-module _ (site : Site) (stored : List ℕ) (rs : List ℤ) (r : Reading) (x : Measure) (ex : x ≡ measuredBy r (site .head .phase)) where
-  asked-is : passedOn site stored rs (measureCall x) ≡ askedBy site stored rs r
-  asked-is = ap (λ (y : Measure). passedOn site stored rs (measureCall y)) ex ∙ asked-by site stored rs r
-
-  pub ask-refused : (n : ℕ) → x ≡ RefusedBy n → rs ≡ askedBy site stored rs r
-  ask-refused n m = ap (λ (y : Measure). passedOn site stored rs (measureCall y)) (sym m) ∙ asked-is
-
-  -- with a measure: the pass
-  pub ask-passed : (m : ℤ) → x ≡ Chosen m → mag m < 2 ^ 63 → (after : List ℤ) → after ≡ passOf (site .head .settings) (toZ w64 (ofZ w64 m)) (fleetFor (site .units) stored) rs
-      → after ≡ askedBy site stored rs r
-  ask-passed m em fits after d =
+  pub pass-chosen : (m : ℤ) → x ≡ Chosen m → mag m < 2 ^ 63 → (after : List ℤ) → after ≡ passOf (site .head .settings) (toZ w64 (ofZ w64 m)) (fleetFor (site .units) stored) rs
+      → after ≡ passedOn site stored rs (measureCall x)
+  pass-chosen m e fits after d =
       d ∙ ap (λ (z : ℤ). passOf (site .head .settings) z (fleetFor (site .units) stored) rs) (read w64 m fits)
-      ∙ ap (λ (y : Measure). passedOn site stored rs (measureCall y)) (sym em) ∙ asked-is
+      ∙ sym (ap (λ (y : Measure). passedOn site stored rs (measureCall y)) e)
 
--- a measure is a meter's
-abbrev Refusing : Measure → Type 0
-Refusing (Chosen m) = ⊥
-Refusing (RefusedBy n) = 0 ≤ 0
+-- by watts powers are passed on, and by current currents; any other reading, whose tag is not theirs, leaves the requests
+module _ (site : Site) (stored : List ℕ) (rs : List ℤ) (r : Reading) where
+  pub powers-are : (p : Phases) → r ≡ Power p → passedOn site stored rs (measureCall (measureOf p (site .head .phase))) ≡ askedByWatts site stored rs r
+  unfolding askedByWatts
+  powers-are p e = sym (ap (askedByWatts site stored rs) e)
 
-measured-small : (r : Reading) (phase : ℕ) (m : ℤ) → measuredBy r phase ≡ Chosen m → natAbs m ≤ 300000000
-unfolding measuredBy
-measured-small Missing phase m e = absurd (subst Refusing e (omega arith))
-measured-small (Power p) phase m e = measure-small p phase m e
-measured-small (Current p) phase m e = current-small p phase m e
+  pub currents-are : (p : Phases) → r ≡ Current p → passedOn site stored rs (measureCall (currentOf p (site .head .phase))) ≡ askedByCurrent site stored rs r
+  unfolding askedByCurrent
+  currents-are p e = sym (ap (askedByCurrent site stored rs) e)
+
+pub no-powers : (site : Site) (stored : List ℕ) (rs : List ℤ) (r : Reading) → (tagOf the-type r ≡ 0) ⊎ (tagOf the-type r ≡ 2) → rs ≡ askedByWatts site stored rs r
+unfolding askedByWatts
+no-powers site stored rs Missing t = refl
+no-powers site stored rs (Power p) (inl t) = absurd (omega arith)
+no-powers site stored rs (Power p) (inr t) = absurd (omega arith)
+no-powers site stored rs (Current p) t = refl
+
+pub no-currents : (site : Site) (stored : List ℕ) (rs : List ℤ) (r : Reading) → (tagOf the-type r ≡ 0) ⊎ (tagOf the-type r ≡ 1) → rs ≡ askedByCurrent site stored rs r
+unfolding askedByCurrent
+no-currents site stored rs Missing t = refl
+no-currents site stored rs (Power p) t = refl
+no-currents site stored rs (Current p) (inl t) = absurd (omega arith)
+no-currents site stored rs (Current p) (inr t) = absurd (omega arith)
+
+-- by the mode
+module _ (site : Site) (stored : List ℕ) (rs : List ℤ) (r : Reading) where
+  pub asked-current : byCurrent (site .head .settings .mode) ≡ true → askedByCurrent site stored rs r ≡ askedBy site stored rs r
+  unfolding askedBy
+  asked-current t = sym (ap (λ (b : Bool). cond b (askedByCurrent site stored rs r) (askedByWatts site stored rs r)) t)
+
+  pub asked-watts : byCurrent (site .head .settings .mode) ≡ false → askedByWatts site stored rs r ≡ askedBy site stored rs r
+  unfolding askedBy
+  asked-watts t = sym (ap (λ (b : Bool). cond b (askedByCurrent site stored rs r) (askedByWatts site stored rs r)) t)
 
 -- what the pass counts on, from a site in its ranges and what stands
-pub ask-sound : (head : Head) (rows : List (List ℕ)) (stored : List ℕ) (rs : List ℤ) (r : Reading) (m : ℤ) → measuredBy r (head .phase) ≡ Chosen m → mag m < 2 ^ 63
+pub ask-sound : (head : Head) (rows : List (List ℕ)) (stored : List ℕ) (rs : List ℤ) (m : ℤ) → natAbs m ≤ 300000000 → mag m < 2 ^ 63
     → Sited (siteBy head rows) → length stored ≡ count (siteBy head rows) → length rs ≡ count (siteBy head rows) → Stored (siteBy head rows) stored
     → Sound (head .settings) (toZ w64 (ofZ w64 m)) (fleetBy rows stored) (length rs)
-ask-sound head rows stored rs r m e fits h stores asks within =
-    let small : natAbs m ≤ 300000000 = measured-small r (head .phase) m e in
+ask-sound head rows stored rs m small fits h stores asks within =
     let n = rows-count head rows in
     subst (λ (k : ℕ). Sound (head .settings) (toZ w64 (ofZ w64 m)) (fleetBy rows stored) k) (sym (asks ∙ n))
     (subst (λ (z : ℤ). Sound (head .settings) z (fleetBy rows stored) (length rows)) (sym (read w64 m fits))

@@ -4,11 +4,6 @@ use mathlib.Core.List.{List}
 use mathlib.Core.Path.{_≡_}
 use lib.IntN.{ℤ, pos, natAbs}
 use lib.ListN.{length, getD}
-use Rattle.reading.specs.declared.Reading.{Reading}
-use Rattle.reading.specs.declared.Reading.the-variants.{Missing, Power, Current}
-use Rattle.reading.specs.declared.Measure.{Measure}
-use Rattle.reading.specs.declared.Measure.the-variants.{RefusedBy}
-use Rattle.reading.specs.Choice.{measureOf, currentOf}
 use Rattle.rows.specs.Rows.{unitsBy}
 use Rattle.members.specs.Posts.{TotalsOf}
 use Rattle.storage.specs.Posts.{Rested}
@@ -41,10 +36,3 @@ pub record Held (site : Site) (stored : List ℕ) (requests vars : List ℤ) : T
   pub leads : length vars ≡ count site
   pub within : Stored site stored
   pub small : (i : ℕ) → i < count site → natAbs (getD vars i (pos 0)) ≤ 100000000
-
--- the measure of a reading, as the code has it: none of a missing one
-unfoldable pub measuredBy : Reading → ℕ → Measure
-unfolding measureOf currentOf
-measuredBy Missing phase = RefusedBy 0
-measuredBy (Power p) phase = measureOf p phase
-measuredBy (Current p) phase = currentOf p phase

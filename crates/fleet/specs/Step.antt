@@ -1,7 +1,7 @@
 -- What stands between two steps, and one step of a site (rules T1 to T4): one pass on the step's reading, none if it is missing, then one step of every
 -- unit, by what leads it; and the step's records.
 use Prim.Native.Nat.{ℕ, zero, suc, _*_}
-use mathlib.Core.Bool.{Bool}
+use mathlib.Core.Bool.{Bool, cond}
 use mathlib.Core.List.{List, [], _++_, map}
 use lib.IntN.{ℤ, pos}
 use lib.ListN.{length, getD, replicate}
@@ -12,6 +12,7 @@ use Rattle.reading.specs.declared.Reading.the-variants.{Missing, Power, Current
 use Rattle.reading.specs.Choice.{measureOf, currentOf, measureCall}
 use Rattle.unit.specs.declared.Unit.{Unit}
 use Rattle.unit.specs.Ranges.{holding}
+use Rattle.rules.specs.Rules.{byCurrent}
 use Rattle.members.specs.Ranges.{fleetFor}
 use Rattle.controller.specs.Pass.{passOf}
 use Rattle.storage.specs.declared.Outcome.{Outcome}
@@ -47,12 +48,22 @@ abbrev pub passedOn : Site → List ℕ → List ℤ → Call ℤ → List ℤ
 passedOn site stored rs (Gave m) = passOf (site .head .settings) m (fleetFor (site .units) stored) rs
 passedOn site stored rs (Refused r) = rs
 
--- one pass, none if the reading is missing
+-- by watts one pass on the powers, by current one on the currents; none if the reading is missing. A reading of the other kind is in no accepted file (N5)
+unfoldable pub askedByWatts : Site → List ℕ → List ℤ → Reading → List ℤ
+unfolding measureOf passOf
+askedByWatts site stored rs (Power p) = passedOn site stored rs (measureCall (measureOf p (site .head .phase)))
+askedByWatts site stored rs Missing = rs
+askedByWatts site stored rs (Current p) = rs
+
+unfoldable pub askedByCurrent : Site → List ℕ → List ℤ → Reading → List ℤ
+unfolding currentOf passOf
+askedByCurrent site stored rs (Current p) = passedOn site stored rs (measureCall (currentOf p (site .head .phase)))
+askedByCurrent site stored rs Missing = rs
+askedByCurrent site stored rs (Power p) = rs
+
 unfoldable pub askedBy : Site → List ℕ → List ℤ → Reading → List ℤ
-unfolding measureOf currentOf passOf
-askedBy site stored rs Missing = rs
-askedBy site stored rs (Power p) = passedOn site stored rs (measureCall (measureOf p (site .head .phase)))
-askedBy site stored rs (Current p) = passedOn site stored rs (measureCall (currentOf p (site .head .phase)))
+unfolding askedByWatts askedByCurrent
+askedBy site stored rs r = cond (byCurrent (site .head .settings .mode)) (askedByCurrent site stored rs r) (askedByWatts site stored rs r)
 
 -- ---- T4: one step of every unit
 

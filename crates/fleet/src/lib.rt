@@ -9,7 +9,6 @@ use members::Totals;
 use reading::Reading;
 use site::Head;
 pub use steps::ask;
-pub use steps::measured;
 pub use steps::step;
 pub use units::framed;
 pub use units::give;

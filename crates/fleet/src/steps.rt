@@ -3,9 +3,9 @@ ghost use Prim.Native.Nat.{_+_, _≤_};
 ghost use lib.ListN.{length};
 ghost use Rattle.octets.specs.BigEndian.{laid};
 ghost use Rattle.site.specs.Site.{count};
-ghost use Rattle.fleet.specs.Step.{standing, askedBy, storedAfter, varsAfter, recordsOf, after, recordsBy, stepBytes};
+ghost use Rattle.fleet.specs.Step.{standing, askedByWatts, askedByCurrent, askedBy, storedAfter, varsAfter, recordsOf, after, recordsBy, stepBytes};
 ghost use Rattle.lead.specs.Posts.{Modest};
-ghost use Rattle.fleet.specs.Posts.{Ready, Stored, Held, siteIn, measuredBy};
+ghost use Rattle.fleet.specs.Posts.{Ready, Stored, Held, siteIn};
 use super::Frame;
 use super::Moment;
 use super::units;
@@ -13,18 +13,47 @@ use reading::Measure;
 use reading::Reading;
 use records::RECORD_BYTES;
 
-// The measure of a reading; none of a missing one.
-pub fn measured(r: Reading, phase: u8) -> Measure
-    ensures { λ m. ⌜ m ≡ measuredBy r phase ⌝ }
+// The requests after a reading, by watts: one pass, and none if the reading is missing.
+fn ask_by_watts(f: Frame, rows: &[[u64; 19]], r: Reading, stored: &[u64], requests: &mut [i32])
+    requires { ⌜ Ready f (now rows) ⌝ }
+    requires { ⌜ length (now stored) ≡ count (siteIn f (now rows)) ⌝ }
+    requires { ⌜ length (now requests) ≡ count (siteIn f (now rows)) ⌝ }
+    requires { ⌜ Stored (siteIn f (now rows)) (now stored) ⌝ }
+    ensures { λ _. ⌜ now (requests .exit) ≡ askedByWatts (siteIn f (now (rows .entry))) (now (stored .entry)) (now (requests .entry)) r ⌝ }
 {
-    match r {
-        Reading::Missing => Measure::RefusedBy(0),
-        Reading::Power(p) => reading::regulated(p, phase),
-        Reading::Current(p) => reading::current(p, phase),
-    }
+    let Reading::Power(p) = r else {
+        return;
+    };
+    let head = f.head;
+    let Measure::Chosen(m) = reading::regulated(p, head.phase) else {
+        return;
+    };
+    let s = head.settings;
+    let t = f.totals;
+    controller::pass_within(s, m, t, rows, stored, requests);
 }
 
-// The requests after a reading: one pass, and none if the reading is missing.
+// The same by current.
+fn ask_by_current(f: Frame, rows: &[[u64; 19]], r: Reading, stored: &[u64], requests: &mut [i32])
+    requires { ⌜ Ready f (now rows) ⌝ }
+    requires { ⌜ length (now stored) ≡ count (siteIn f (now rows)) ⌝ }
+    requires { ⌜ length (now requests) ≡ count (siteIn f (now rows)) ⌝ }
+    requires { ⌜ Stored (siteIn f (now rows)) (now stored) ⌝ }
+    ensures { λ _. ⌜ now (requests .exit) ≡ askedByCurrent (siteIn f (now (rows .entry))) (now (stored .entry)) (now (requests .entry)) r ⌝ }
+{
+    let Reading::Current(p) = r else {
+        return;
+    };
+    let head = f.head;
+    let Measure::Chosen(m) = reading::current(p, head.phase) else {
+        return;
+    };
+    let s = head.settings;
+    let t = f.totals;
+    controller::pass_within(s, m, t, rows, stored, requests);
+}
+
+// The requests after a reading, by the mode.
 pub fn ask(f: Frame, rows: &[[u64; 19]], r: Reading, stored: &[u64], requests: &mut [i32])
     requires { ⌜ Ready f (now rows) ⌝ }
     requires { ⌜ length (now stored) ≡ count (siteIn f (now rows)) ⌝ }
@@ -33,12 +62,12 @@ pub fn ask(f: Frame, rows: &[[u64; 19]], r: Reading, stored: &[u64], requests: &
     ensures { λ _. ⌜ now (requests .exit) ≡ askedBy (siteIn f (now (rows .entry))) (now (stored .entry)) (now (requests .entry)) r ⌝ }
 {
     let head = f.head;
-    let Measure::Chosen(m) = measured(r, head.phase) else {
-        return;
-    };
     let s = head.settings;
-    let t = f.totals;
-    controller::pass_within(s, m, t, rows, stored, requests);
+    if 4 <= s.mode {
+        ask_by_current(f, rows, r, stored, requests);
+    } else {
+        ask_by_watts(f, rows, r, stored, requests);
+    }
 }
 
 // One step of every unit, and their records.

@@ -3,9 +3,11 @@ ghost use Prim.Native.Nat.{_≤_};
 ghost use lib.Ieee.{binary64, ofBits};
 ghost use lib.IntN.{natAbs};
 ghost use Rattle.reading.specs.Conversion.{wattsOf, milliOf};
-ghost use Rattle.reading.specs.Choice.{largerOf, smallerOf, choiceOf, chosenOf, measureOf, currentOf, usableOf};
+ghost use Rattle.reading.specs.Choice.{largerOf, smallerOf, choiceOf, chosenOf, measureOf, currentOf, shownBy, meterOf, usableOf};
 use super::Measure;
+use super::Meter;
 use super::Phases;
+use super::Reading;
 use super::Watts;
 
 fn larger(a: i64, b: i64) -> i64
@@ -90,6 +92,27 @@ pub fn current(p: Phases, phase: u8) -> Measure
         super::milliamperes(p.second),
         super::milliamperes(p.third),
     )
+}
+
+// What the meter shows by a measure.
+fn shown(m: Measure) -> Meter
+    ensures { λ r. ⌜ r ≡ shownBy m ⌝ }
+{
+    let Measure::Chosen(z) = m else {
+        return Meter::Silent;
+    };
+    Meter::Shows(z)
+}
+
+// What the meter shows by a reading.
+pub fn metered(r: Reading, phase: u8) -> Meter
+    ensures { λ m. ⌜ m ≡ meterOf r phase ⌝ }
+{
+    match r {
+        Reading::Missing => Meter::Silent,
+        Reading::Power(p) => shown(regulated(p, phase)),
+        Reading::Current(p) => shown(current(p, phase)),
+    }
 }
 
 // Whether three converted powers or currents can be used: 0, or 6 where one was refused.

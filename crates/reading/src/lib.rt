@@ -6,6 +6,7 @@ mod kilowatts;
 
 pub use choosing::current;
 pub use choosing::currents_refusal;
+pub use choosing::metered;
 pub use choosing::powers_refusal;
 pub use choosing::regulated;
 pub use convert::converted;
@@ -34,6 +35,12 @@ pub enum Reading {
     Missing,
     Power(Phases),
     Current(Phases),
+}
+
+// What the meter shows in a step: nothing, where its reading is missing, or the measure.
+pub enum Meter {
+    Silent,
+    Shows(i64),
 }
 
 // The regulated measure in watts or milliamperes, or the number of the refusal.
