@@ -55,13 +55,12 @@ pub record FedLaw (chunks : List (List ℕ)) : Type 0 where
   pub accepted : walk (length (joined chunks)) start (joined chunks) 0 .number ≡ 0 → endNumber (leavesAll first chunks) endBytes ≡ 0
   pub same-results : walk (length (joined chunks)) start (joined chunks) 0 .number ≡ 0
       → resultsAll first chunks ++ endOf (keptIn (leavesAll first chunks) .state .steps) ≡ resultOf (joined chunks)
-  -- a file that is refused, its size aside: so is the end, with the same number, place and steps
+  -- a file that is refused, its size aside: so is the end, with the same number
   pub refused : (walk (length (joined chunks)) start (joined chunks) 0 .number ≡ 0 → ⊥)
       → endNumber (leavesAll first chunks) endBytes ≡ walk (length (joined chunks)) start (joined chunks) 0 .number
-  pub same-place : (walk (length (joined chunks)) start (joined chunks) 0 .number ≡ 0 → ⊥)
-      → placeIn (endLeaves (leavesAll first chunks) endBytes) ≡ walk (length (joined chunks)) start (joined chunks) 0 .place
-  pub same-steps : (walk (length (joined chunks)) start (joined chunks) 0 .number ≡ 0 → ⊥)
-      → stepsKept (endLeaves (leavesAll first chunks) endBytes) ≡ walk (length (joined chunks)) start (joined chunks) 0 .steps
+  -- and of either file the end leaves the place and the steps of the whole one
+  pub same-place : placeIn (endLeaves (leavesAll first chunks) endBytes) ≡ walk (length (joined chunks)) start (joined chunks) 0 .place
+  pub same-steps : stepsKept (endLeaves (leavesAll first chunks) endBytes) ≡ walk (length (joined chunks)) start (joined chunks) 0 .steps
 
 -- a state that answers every call alike, and stands
 pub record Closed (t : List ℕ) (n : ℕ) : Type 0 where

@@ -3,6 +3,7 @@ mod calls;
 mod feeding;
 
 pub use calls::end;
+pub use calls::own_number;
 pub use calls::place;
 pub use calls::room;
 pub use calls::start;

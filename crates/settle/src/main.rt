@@ -7,29 +7,34 @@ mod sums;
 
 use arguments::Given;
 use libc::STDERR_FILENO;
-use libc::STDIN_FILENO;
 use libc::STDOUT_FILENO;
+use stick::Known;
 
 // The study of what was read, all of it: false where the load or the budget is outside its range.
 fn studied(file: &[u8], load: u32, budget: u32) -> bool {
-    let a = stick::check(file);
-    let number = a.number;
-    if number != 0 {
-        screen::line(STDOUT_FILENO, number, a.place, a.steps);
+    let k = stick::known_whole(file);
+    let Known::Complete(_) = k else {
+        screen::line(STDOUT_FILENO, k);
         io::write_all(
             STDERR_FILENO,
             b"standard input: refused; no study is made\n",
         );
         return true;
-    }
+    };
     study::made(file, load, budget)
 }
 
 // Reads standard input and studies it: false as above.
 fn read(load: u32, budget: u32) -> bool {
     let mut room = io::large_buffer();
-    let n = io::read_full(STDIN_FILENO, &mut room);
-    if n == 65536 && screen::more() {
+    let f = screen::fill(&mut room);
+    let n = f.count;
+    let next = if f.ended | f.failed { f } else { screen::more() };
+    if next.failed {
+        screen::unreadable(STDERR_FILENO);
+        return true;
+    }
+    if !next.ended {
         screen::too_long(STDERR_FILENO, b"studied", b"settle");
         return true;
     }

@@ -1,8 +1,8 @@
 ghost use Prim.Native.Nat.{_≤_};
 ghost use lib.ListN.{length};
 use feed::Fed;
-use libc::STDIN_FILENO;
 use libc::STDOUT_FILENO;
+use stick::Known;
 
 // As many buffers as the longest file that is not refused can fill, and more.
 const TURNS: u32 = 64;
@@ -59,41 +59,75 @@ fn chunk(state: &mut [u8], bytes: &[u8], room: &mut [u8], begun: bool) -> Went {
     w
 }
 
-// What a buffer leaves: how the run goes, and whether there may be more to read.
+// What a buffer leaves: how the run goes, and whether the input ended there or a read failed.
 struct Read {
     went: Went,
-    more: bool,
+    ended: bool,
+    failed: bool,
+}
+
+// The run goes on with the next buffer.
+fn on(t: Read) -> bool {
+    let w = t.went;
+    !(t.ended | t.failed | (w.number != 0) | !w.whole)
 }
 
 // Feeds one buffer of standard input.
 fn turn(state: &mut [u8], room: &mut [u8], begun: bool) -> Read {
     let mut bytes = io::large_buffer();
-    let n = io::read_full(STDIN_FILENO, &mut bytes);
+    let f = screen::fill(&mut bytes);
+    let n = f.count;
     let went = chunk(state, &bytes[..n], room, begun);
     Read {
         went,
-        more: (n == 65536) & (went.number == 0) & went.whole,
+        ended: f.ended,
+        failed: f.failed,
     }
 }
 
-// Feeds standard input, a buffer at a time, until it ends or is refused.
-fn buffers(state: &mut [u8], room: &mut [u8]) -> Went {
+// Feeds standard input, a buffer at a time, until it ends, cannot be read or is refused, or until its
+// results cannot be written.
+fn buffers(state: &mut [u8], room: &mut [u8]) -> Read {
     let mut t = turn(state, room, false);
     let mut left = TURNS;
-    while t.more && 0 < left {
+    while on(t) && 0 < left {
         left -= 1;
-        t = turn(state, room, t.went.begun);
+        let w = t.went;
+        t = turn(state, room, w.begun);
     }
-    t.went
+    t
 }
 
-// Feeds standard input, and its end where nothing was refused.
-pub fn all(state: &mut [u8]) -> Went {
+// Writes the end record of a complete stick, which stands at the room's start: false where that fails.
+fn put_end(k: Known, room: &[u8]) -> bool
+    requires { ⌜ 7 ≤ length (now room) ⌝ }
+{
+    let Known::Complete(_) = k else {
+        return true;
+    };
+    io::write_all(STDOUT_FILENO, &room[0..7])
+}
+
+// What a run came to: what is known of the stick, whether a read failed, whether anything was written,
+// and whether all that should be was.
+pub struct Ran {
+    pub known: Known,
+    pub failed: bool,
+    pub begun: bool,
+    pub whole: bool,
+}
+
+// Feeds standard input, and its end where all of it was fed and written.
+pub fn all(state: &mut [u8]) -> Ran {
     let mut room = io::large_buffer();
-    let w = buffers(state, &mut room);
-    if (w.number != 0) | !w.whole {
-        return w;
+    let t = buffers(state, &mut room);
+    let w = t.went;
+    let known = fed::known(state, &mut room, t.ended & w.whole & (w.number == 0));
+    let last = put_end(known, &room);
+    Ran {
+        known,
+        failed: t.failed,
+        begun: w.begun,
+        whole: w.whole & last,
     }
-    let f = feed::end(state, &mut room);
-    put(f, &room, w.begun)
 }
