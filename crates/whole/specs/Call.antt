@@ -1,14 +1,9 @@
 -- What a call without a file answers: what it gives, or a refusal, whose place and steps are 0 (rule N16). And what a lent number holds after the call:
 -- what is given, or on a refusal what it held (rule N17).
 use Prim.Native.Nat.{ℕ}
+use Rattle.whole.specs.declared.Refusal.{Refusal}
 
--- a whole refusal: its number, its place and the steps accepted before it
-pub record Refusal : Type 0 where
-  pub number : ℕ
-  pub place : ℕ
-  pub steps : ℕ
-
--- that of a call without a file
+-- the refusal of a call without a file
 abbrev pub refusal : ℕ → Refusal
 refusal n = record { number = n; place = 0; steps = 0 }
 
