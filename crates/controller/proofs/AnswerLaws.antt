@@ -5,6 +5,8 @@ use mathlib.Core.List.{List}
 use Prim.Native.Nat.{ℕ, suc}
 use lib.Dec.{eqb, eqb·suc-zero}
 use lib.IntN.{ℤ}
+use Rattle.whole.specs.declared.Refusal.{Refusal}
+use Rattle.whole.specs.Call.{refusal}
 use Rattle.rules.specs.declared.Settings.{Settings}
 use Rattle.controller.specs.declared.Passed.{Passed}
 use Rattle.controller.specs.declared.PassAnswer.{PassAnswer}
@@ -35,24 +37,24 @@ pub record Answered (n : ℕ) (s : Settings) (m : ℤ) (f : Fleet) (rs after : L
   pub leaves : after ≡ leavesBy n s m f rs
 
 module _ (s : Settings) (m : ℤ) (f : Fleet) (rs : List ℤ) where
-  -- refused: the number, and the requests as they were
-  refused : (n k : ℕ) → n ≡ suc k → Answered n s m f rs rs (PassRefused (suc k))
+  -- refused: the whole refusal, and the requests as they were
+  refused : (n k : ℕ) → n ≡ suc k → (r : Refusal) → r ≡ refusal (suc k) → Answered n s m f rs rs (PassRefused r)
   unfolding answerBy leavesBy
-  refused n k e =
+  refused n k e r er =
       let no : eqb n 0 ≡ false = ap (λ (x : ℕ). eqb x 0) e ∙ eqb·suc-zero k in record {
-        answer-is = sym (ap (λ (b : Bool). cond b (PassDone (reportOf s m f rs)) (PassRefused n)) no ∙ ap PassRefused e);
+        answer-is = ap PassRefused er ∙ sym (ap (λ (b : Bool). cond b (PassDone (reportOf s m f rs)) (PassRefused (refusal n))) no ∙ ap (λ (x : ℕ). PassRefused (refusal x)) e);
         leaves = sym (ap (λ (b : Bool). cond b (passOf s m f rs) rs) no);
       }
 
   -- the code's three tests are the definition's
   module _ (a b c lengths fine requests : Bool) (el : lengths ≡ a) (ef : fine ≡ b) (er : requests ≡ c) where
-    pub wrong-lengths : not lengths ≡ true → Answered (graded a b c) s m f rs rs (PassRefused 10)
+    pub wrong-lengths : not lengths ≡ true → (r : Refusal) → r ≡ refusal 10 → Answered (graded a b c) s m f rs rs (PassRefused r)
     wrong-lengths t = refused (graded a b c) 9 (first-fails a b c (sym (ap not el) ∙ t))
 
-    pub wrong-values : not lengths ≡ false → not fine ≡ true → Answered (graded a b c) s m f rs rs (PassRefused 5)
+    pub wrong-values : not lengths ≡ false → not fine ≡ true → (r : Refusal) → r ≡ refusal 5 → Answered (graded a b c) s m f rs rs (PassRefused r)
     wrong-values t u = refused (graded a b c) 4 (second-fails a b c (sym (ap not el) ∙ t) (sym (ap not ef) ∙ u))
 
-    pub wrong-requests : not lengths ≡ false → not fine ≡ false → not requests ≡ true → Answered (graded a b c) s m f rs rs (PassRefused 10)
+    pub wrong-requests : not lengths ≡ false → not fine ≡ false → not requests ≡ true → (r : Refusal) → r ≡ refusal 10 → Answered (graded a b c) s m f rs rs (PassRefused r)
     wrong-requests t u v = refused (graded a b c) 9 (third-fails a b c (sym (ap not el) ∙ t) (sym (ap not ef) ∙ u) (sym (ap not er) ∙ v))
 
     pub all-fine : not lengths ≡ false → not fine ≡ false → not requests ≡ false → (after : List ℤ) (p : Passed) → DonePass s m f rs after p
@@ -62,6 +64,6 @@ module _ (s : Settings) (m : ℤ) (f : Fleet) (rs : List ℤ) where
         let n : ℕ = graded a b c in
         let is : eqb n 0 ≡ true = ap (λ (x : ℕ). eqb x 0) (none-fails a b c (sym (ap not el) ∙ t) (sym (ap not ef) ∙ u) (sym (ap not er) ∙ v)) in
         let report : p ≡ reportOf s m f rs = λ i. record { need = d .need i; changed = (d .changed ∙ ap (changedOf rs) (d .requests)) i } in record {
-          answer-is = ap PassDone report ∙ sym (ap (λ (x : Bool). cond x (PassDone (reportOf s m f rs)) (PassRefused n)) is);
+          answer-is = ap PassDone report ∙ sym (ap (λ (x : Bool). cond x (PassDone (reportOf s m f rs)) (PassRefused (refusal n))) is);
           leaves = d .requests ∙ sym (ap (λ (x : Bool). cond x (passOf s m f rs) rs) is);
         }

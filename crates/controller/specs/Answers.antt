@@ -1,4 +1,4 @@
--- What a pass without a file answers, for any numbers: what it reports (rule P7), or the refusal's number; and what the lent requests hold afterwards,
+-- What a pass without a file answers, for any numbers: what it reports (rule P7), or the refusal, with place and steps 0 (rule N16); and what the lent requests hold afterwards,
 -- on a refusal what they held. The refusal's number is 0 for none.
 use Prim.Native.Nat.{ℕ}
 use mathlib.Core.Bool.{cond}
@@ -22,7 +22,7 @@ reportOf s m f rs = record { need = needOf s m rs; changed = changedOf rs (passO
 
 unfoldable pub answerBy : ℕ → Settings → ℤ → Fleet → List ℤ → PassAnswer
 unfolding reportOf
-answerBy n s m f rs = let report = reportOf s m f rs in cond (eqb n 0) (PassDone report) (PassRefused n)
+answerBy n s m f rs = let report = reportOf s m f rs in cond (eqb n 0) (PassDone report) (PassRefused (refusal n))
 
 unfoldable pub leavesBy : ℕ → Settings → ℤ → Fleet → List ℤ → List ℤ
 unfolding passOf
@@ -48,4 +48,4 @@ currentLeaves s m f phases volts rs = leavesBy (currentRefusal s m f phases volt
 -- the answer as a call's
 abbrev pub passCall : PassAnswer → Call Passed
 passCall (PassDone p) = Gave p
-passCall (PassRefused n) = Refused (refusal n)
+passCall (PassRefused r) = Refused r

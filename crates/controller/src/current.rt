@@ -74,16 +74,16 @@ pub fn pass_current(
         n,
     );
     if !(five & (phases.len() == n) & (volts.len() == n)) {
-        return PassAnswer::PassRefused(10);
+        return PassAnswer::PassRefused(whole::refused(10));
     }
     let s = aim.settings;
     let fine = rules::settings_in(s) & (4 <= s.mode) & rules::current_in(aim.measure);
     let units = members::units_in(rated, reserve, stored, rating, weight);
     if !(fine & units & members::connections_in(phases, volts)) {
-        return PassAnswer::PassRefused(5);
+        return PassAnswer::PassRefused(whole::refused(5));
     }
     if !members::requests_in(rating, requests) {
-        return PassAnswer::PassRefused(10);
+        return PassAnswer::PassRefused(whole::refused(10));
     }
     PassAnswer::PassDone(pass_linked(
         aim,

@@ -6,6 +6,7 @@ pub use current::pass_current;
 pub use passes::pass;
 pub use passes::pass_within;
 use rules::Settings;
+use whole::Refusal;
 
 // What a pass goes by: the settings, and the measure.
 pub struct Aim {
@@ -19,8 +20,8 @@ pub struct Passed {
     pub changed: bool,
 }
 
-// A pass of any numbers: what it reports, or the number of the refusal.
+// A pass of any numbers: what it reports, or the refusal.
 pub enum PassAnswer {
     PassDone(Passed),
-    PassRefused(u8),
+    PassRefused(Refusal),
 }

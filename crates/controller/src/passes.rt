@@ -142,14 +142,14 @@ pub fn pass(
         weight.len(),
         n,
     ) {
-        return PassAnswer::PassRefused(10);
+        return PassAnswer::PassRefused(whole::refused(10));
     }
     let fine = rules::settings_in(s) & (s.mode <= 3) & rules::measure_in(measure);
     if !(fine & members::units_in(rated, reserve, stored, rating, weight)) {
-        return PassAnswer::PassRefused(5);
+        return PassAnswer::PassRefused(whole::refused(5));
     }
     if !members::requests_in(rating, requests) {
-        return PassAnswer::PassRefused(10);
+        return PassAnswer::PassRefused(whole::refused(10));
     }
     let links = [0u32; 64];
     let aim = Aim {

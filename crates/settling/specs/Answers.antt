@@ -1,4 +1,4 @@
--- What a study without a file answers, for any numbers: what it reports (rule S6), or the refusal's number; and what the lent requests hold afterwards,
+-- What a study without a file answers, for any numbers: what it reports (rule S6), or the refusal, with place and steps 0 (rule N16); and what the lent requests hold afterwards,
 -- on a refusal what they held.
 use Prim.Native.Nat.{ℕ}
 use mathlib.Core.Bool.{cond}
@@ -29,7 +29,7 @@ unfolding studyRefusal foundBy
 studyAnswer q f rs =
     let n = studyRefusal q f (length rs) in
     let found = foundBy q f (length rs) in
-    cond (eqb n 0) (StudyDone found) (StudyRefused n)
+    cond (eqb n 0) (StudyDone found) (StudyRefused (refusal n))
 
 unfoldable pub studyLeaves : Trial → Fleet → List ℤ → List ℤ
 unfolding studyRefusal studyOf
@@ -40,4 +40,4 @@ studyLeaves q f rs =
 -- the answer as a call's
 abbrev pub studyCall : StudyAnswer → Call Studied
 studyCall (StudyDone r) = Gave r
-studyCall (StudyRefused n) = Refused (refusal n)
+studyCall (StudyRefused r) = Refused r

@@ -5,6 +5,7 @@ use rules::Settings;
 pub use study::settle;
 pub use study::settle_within;
 pub use study::trial_in;
+use whole::Refusal;
 
 // What a study is asked: the settings, of which the mode has no say, the load in watts and the most
 // passes.
@@ -20,8 +21,8 @@ pub struct Studied {
     pub passes: u32,
 }
 
-// A study of any numbers: what it reports, or the number of the refusal.
+// A study of any numbers: what it reports, or the refusal.
 pub enum StudyAnswer {
     StudyDone(Studied),
-    StudyRefused(u8),
+    StudyRefused(Refusal),
 }

@@ -156,11 +156,11 @@ pub fn settle(
         weight.len(),
         n,
     ) {
-        return StudyAnswer::StudyRefused(10);
+        return StudyAnswer::StudyRefused(whole::refused(10));
     }
     let fine = trial_in(q);
     if !(fine & members::units_in(rated, reserve, stored, rating, weight)) {
-        return StudyAnswer::StudyRefused(5);
+        return StudyAnswer::StudyRefused(whole::refused(5));
     }
     StudyAnswer::StudyDone(settle_over(q, rated, reserve, stored, rating, weight, requests))
 }

@@ -5,6 +5,8 @@ use mathlib.Core.List.{List}
 use Prim.Native.Nat.{ℕ, _≤_}
 use lib.Dec.{leb, eqb}
 use borrow.Author.Tests.{leb-true, eqb-true, not-true, not-false}
+use Rattle.whole.specs.declared.Refusal.{Refusal}
+use Rattle.whole.specs.Call.{refusal}
 use Rattle.whole.specs.Interval.{between}
 use Rattle.whole.proofs.OverLaws.{and-parts}
 use Rattle.curve.specs.Curve.{Point}
@@ -24,12 +26,13 @@ use Rattle.solar.specs.Answers.{Lists, lengthsIn, roofOf, litRefusal, li
 -- ---- the answer of a roof: 5, 6, or the step
 module _ (r : Roof) (on : ℕ) (w : Weather) where
   abbrev pub answer : Lit
-  answer = cond (roofIn r && leb on 1) (litBy r (eqb on 1) (skyOf w)) (RefusedBy 5)
+  answer = cond (roofIn r && leb on 1) (litBy r (eqb on 1) (skyOf w)) (RefusedBy (refusal 5))
 
   module _ (passed : Bool) (ep : passed ≡ roofIn r) where
-    pub out-of-range : not (passed && leb on 1) ≡ true → RefusedBy 5 ≡ answer
-    out-of-range t =
-        sym (ap (λ (b : Bool). cond b (litBy r (eqb on 1) (skyOf w)) (RefusedBy 5))
+    pub out-of-range : not (passed && leb on 1) ≡ true → (q : Refusal) → q ≡ refusal 5 → RefusedBy q ≡ answer
+    out-of-range t q eq =
+        ap RefusedBy eq
+        ∙ sym (ap (λ (b : Bool). cond b (litBy r (eqb on 1) (skyOf w)) (RefusedBy (refusal 5)))
         (ap (λ (b : Bool). b && leb on 1) (sym ep) ∙ not-true (passed && leb on 1) t))
 
     module _ (t : not (passed && leb on 1) ≡ false) where
@@ -38,12 +41,12 @@ module _ (r : Roof) (on : ℕ) (w : Weather) where
 
       in-range : litBy r (eqb on 1) (skyOf w) ≡ answer
       in-range =
-          sym (ap (λ (b : Bool). cond b (litBy r (eqb on 1) (skyOf w)) (RefusedBy 5))
+          sym (ap (λ (b : Bool). cond b (litBy r (eqb on 1) (skyOf w)) (RefusedBy (refusal 5)))
           (ap (λ (b : Bool). b && leb on 1) (sym ep) ∙ not-false (passed && leb on 1) t))
 
       module _ (sky : Sky) (es : sky ≡ skyOf w) where
-        pub no-sky : sky ≡ Unknown → RefusedBy 6 ≡ answer
-        no-sky e = ap (litBy r (eqb on 1)) (sym e ∙ es) ∙ in-range
+        pub no-sky : sky ≡ Unknown → (q : Refusal) → q ≡ refusal 6 → RefusedBy q ≡ answer
+        no-sky e q eq = ap RefusedBy eq ∙ ap (litBy r (eqb on 1)) (sym e ∙ es) ∙ in-range
 
         pub clear-sky : (s : Sun) → sky ≡ Clear s → (g : Given) → g ≡ stepOf r (eqb on 1) s → Done g ≡ answer
         clear-sky s e g eg = ap Done eg ∙ ap (litBy r (eqb on 1)) (sym e ∙ es) ∙ in-range
@@ -63,7 +66,7 @@ lengths-few xs ys e =
 module _ (v : Inverter) (l : Lists) (on : ℕ) (w : Weather) (warm eff : Bool) (ew : warm ≡ lengthsIn (l .«warm_x») (l .«warm_y»))
     (ee : eff ≡ lengthsIn (l .«eff_x») (l .«eff_y»)) where
   abbrev by : ℕ → Lit
-  by n = cond (eqb n 0) (litBy (roofOf v l) (eqb on 1) (skyOf w)) (RefusedBy n)
+  by n = cond (eqb n 0) (litBy (roofOf v l) (eqb on 1) (skyOf w)) (RefusedBy (refusal n))
 
   abbrev late : ℕ
   late = cond (not (roofIn (roofOf v l) && leb on 1)) 5 0
@@ -72,11 +75,11 @@ module _ (v : Inverter) (l : Lists) (on : ℕ) (w : Weather) (warm eff : Bool) (
   unfolding litRefusal
   tested = sym (ap₂ (λ (a b : Bool). cond (not (a && b)) 10 late) ew ee)
 
-  pub lit-lengths : not (warm && eff) ≡ true → RefusedBy 10 ≡ litOf v l on w
+  pub lit-lengths : not (warm && eff) ≡ true → (q : Refusal) → q ≡ refusal 10 → RefusedBy q ≡ litOf v l on w
   unfolding litOf
-  lit-lengths t = sym (ap by (tested ∙ ap (λ (b : Bool). cond b 10 late) t))
+  lit-lengths t q eq = ap RefusedBy eq ∙ sym (ap by (tested ∙ ap (λ (b : Bool). cond b 10 late) t))
 
-  late-is : (b : Bool) → by (cond (not b) 5 0) ≡ cond b (litBy (roofOf v l) (eqb on 1) (skyOf w)) (RefusedBy 5)
+  late-is : (b : Bool) → by (cond (not b) 5 0) ≡ cond b (litBy (roofOf v l) (eqb on 1) (skyOf w)) (RefusedBy (refusal 5))
   late-is true = refl
   late-is false = refl
 

@@ -1,5 +1,5 @@
 -- What one step without a file answers, for any numbers and lists (rules C19 and N15): 10 where a curve's lists differ in length or have not 2 to 16
--- points, then 5, then 6; else what the step gives. 0 stands for no refusal.
+-- points, then 5, then 6, with place and steps 0 (rule N16); else what the step gives. The number 0 stands for no refusal.
 use Prim.Native.Nat.{ℕ}
 use mathlib.Core.Bool.{Bool, not, cond, _&&_}
 use mathlib.Core.List.{List}
@@ -47,16 +47,16 @@ litRefusal v l on =
 -- then 6
 abbrev pub litBy : Roof → Bool → Sky → Lit
 litBy r on (Clear s) = Done (stepOf r on s)
-litBy r on Unknown = RefusedBy 6
+litBy r on Unknown = RefusedBy (refusal 6)
 
 unfoldable pub litOf : Inverter → Lists → ℕ → Weather → Lit
 unfolding litRefusal stepOf skyOf
 litOf v l on w =
     let n = litRefusal v l on in
     let answer = litBy (roofOf v l) (eqb on 1) (skyOf w) in
-    cond (eqb n 0) answer (RefusedBy n)
+    cond (eqb n 0) answer (RefusedBy (refusal n))
 
 -- the answer as a call's
 abbrev pub litCall : Lit → Call Given
 litCall (Done g) = Gave g
-litCall (RefusedBy n) = Refused (refusal n)
+litCall (RefusedBy r) = Refused r

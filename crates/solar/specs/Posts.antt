@@ -6,6 +6,7 @@ use mathlib.Core.Path.{_≡_}
 use lib.Dec.{leb, eqb}
 use lib.IntN.{natAbs}
 use lib.ListN.{length}
+use Rattle.whole.specs.Call.{refusal}
 use Rattle.curve.specs.Layout.{curveBytes, pointsAt}
 use Rattle.solar.specs.declared.Inverter.{Inverter}
 use Rattle.solar.specs.declared.Sun.{Sun}
@@ -22,7 +23,7 @@ roofBy v bytes warm efficiency = record { inverter = v; warm = pointsAt bytes wa
 
 -- a step of any roof: 5, then 6, then what it gives
 abbrev pub litIn : Roof → ℕ → Weather → Lit
-litIn r on w = cond (roofIn r && leb on 1) (litBy r (eqb on 1) (skyOf w)) (RefusedBy 5)
+litIn r on w = cond (roofIn r && leb on 1) (litBy r (eqb on 1) (skyOf w)) (RefusedBy (refusal 5))
 
 -- a roof in its ranges, whose curves are there
 pub record Roofed (v : Inverter) (bytes : List ℕ) (warm efficiency : ℕ) : Type 0 where

@@ -45,10 +45,10 @@ fn step_in(v: Inverter, bytes: &[u8], on: u8, w: Weather) -> Lit
     ensures { λ r. ⌜ r ≡ litIn (roofBy v (now (bytes .entry)) 0 129) on w ⌝ }
 {
     if !(ranges::roof_in(v, bytes, 0, 129) & (on <= 1)) {
-        return Lit::RefusedBy(5);
+        return Lit::RefusedBy(whole::refused(5));
     }
     let Sky::Clear(s) = skies::sky_of(w) else {
-        return Lit::RefusedBy(6);
+        return Lit::RefusedBy(whole::refused(6));
     };
     Lit::Done(steps::step_within(v, bytes, 0, 129, on == 1, s))
 }
@@ -90,7 +90,7 @@ pub fn step(
     let warm = lengths_in(warm_x.len(), warm_y.len());
     let eff = lengths_in(eff_x.len(), eff_y.len());
     if !(warm & eff) {
-        return Lit::RefusedBy(10);
+        return Lit::RefusedBy(whole::refused(10));
     }
     step_over(v, warm_x, warm_y, eff_x, eff_y, on, w)
 }

@@ -11,6 +11,7 @@ pub use ranges::inverter_in;
 pub use ranges::roof_in;
 pub use skies::sky_of;
 pub use steps::step_within;
+use whole::Refusal;
 
 // An inverter: array power in W, S in VA, cut-in and cut-out in parts in 10,000 of S, the limit in
 // parts in 10,000 of array power, the vars wanted, and what comes first, watts (0) or vars (1).
@@ -50,8 +51,8 @@ pub struct Given {
     pub dc: u64,
 }
 
-// A step of any numbers: what it gives, or the number of the refusal.
+// A step of any numbers: what it gives, or the refusal.
 pub enum Lit {
     Done(Given),
-    RefusedBy(u8),
+    RefusedBy(Refusal),
 }

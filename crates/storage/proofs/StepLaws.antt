@@ -10,6 +10,8 @@ use lib.Signed.{mag}
 use mir.Syntax.{w32}
 use mir.Val.{toZ, ofZ}
 use borrow.Author.Tests.{le-leb, lt-leb, not-false}
+use Rattle.whole.specs.declared.Refusal.{Refusal}
+use Rattle.whole.specs.Call.{refusal}
 use Rattle.whole.proofs.OverLaws.{and-parts}
 use Rattle.whole.proofs.SignLaws.{read}
 use Rattle.unit.proofs.RangeLaws.{Bounds, bounds}
@@ -127,22 +129,25 @@ rest-fits draw s hd hs =
 
 -- ---- a step of any numbers
 module _ (u : Unit) (s : ℕ) (request : ℤ) where
-  refused : (n : ℕ) → eqb n 0 ≡ false → stepRefusal u s request ≡ n → RefusedBy n ≡ steppedOf u s request
+  refused : (n : ℕ) → eqb n 0 ≡ false → stepRefusal u s request ≡ n → (r : Refusal) → r ≡ refusal n → RefusedBy r ≡ steppedOf u s request
   unfolding steppedOf
-  refused n z e = sym (ap (λ (k : ℕ). cond (eqb k 0) (Done (stepOf u s request)) (RefusedBy k)) e ∙ ap (λ (t : Bool). cond t (Done (stepOf u s request)) (RefusedBy n)) z)
+  refused n z e r er =
+      ap RefusedBy er
+      ∙ sym (ap (λ (k : ℕ). cond (eqb k 0) (Done (stepOf u s request)) (RefusedBy (refusal k))) e
+      ∙ ap (λ (t : Bool). cond t (Done (stepOf u s request)) (RefusedBy (refusal n))) z)
 
-  pub refused-values : not (secondsIn s && unitIn u) ≡ true → RefusedBy 5 ≡ steppedOf u s request
+  pub refused-values : not (secondsIn s && unitIn u) ≡ true → (r : Refusal) → r ≡ refusal 5 → RefusedBy r ≡ steppedOf u s request
   unfolding stepRefusal
   refused-values e = refused 5 refl (simp e)
 
   module _ (ranges : not (secondsIn s && unitIn u) ≡ false) where
-    pub refused-rating : u .rating < natAbs request → RefusedBy 10 ≡ steppedOf u s request
+    pub refused-rating : u .rating < natAbs request → (r : Refusal) → r ≡ refusal 10 → RefusedBy r ≡ steppedOf u s request
     unfolding stepRefusal
     refused-rating h = refused 10 refl (simp (ranges, lt-leb (natAbs request) (u .rating) h))
 
     pub done : natAbs request ≤ u .rating → Done (stepOf u s request) ≡ steppedOf u s request
     unfolding steppedOf stepRefusal
-    done h = sym (ap (λ (k : ℕ). cond (eqb k 0) (Done (stepOf u s request)) (RefusedBy k)) none)
+    done h = sym (ap (λ (k : ℕ). cond (eqb k 0) (Done (stepOf u s request)) (RefusedBy (refusal k))) none)
       where
         none : stepRefusal u s request ≡ 0
         none = simp (ranges, le-leb (natAbs request) (u .rating) h)
@@ -154,16 +159,18 @@ ranged u s e =
 
 -- ---- a step of a unit of an edition, by the test that the code has made
 module _ (edition : ℕ) (u : Unit) (s : ℕ) (request : ℤ) (known : Bool) (ek : known ≡ editionIn edition) where
-  by-edition : (b : Bool) → not known ≡ b → steppedAs edition u s request ≡ cond b (RefusedBy 5) (steppedOf (inEdition edition u) s request)
+  by-edition : (b : Bool) → not known ≡ b → steppedAs edition u s request ≡ cond b (RefusedBy (refusal 5)) (steppedOf (inEdition edition u) s request)
   unfolding steppedAs
-  by-edition b e = ap (λ (t : Bool). cond t (steppedOf (inEdition edition u) s request) (RefusedBy 5)) (sym ek) ∙ turned known ∙ ap (λ (t : Bool). cond t (RefusedBy 5) (steppedOf (inEdition edition u) s request)) e
+  by-edition b e =
+      ap (λ (t : Bool). cond t (steppedOf (inEdition edition u) s request) (RefusedBy (refusal 5))) (sym ek) ∙ turned known
+      ∙ ap (λ (t : Bool). cond t (RefusedBy (refusal 5)) (steppedOf (inEdition edition u) s request)) e
     where
-      turned : (t : Bool) → cond t (steppedOf (inEdition edition u) s request) (RefusedBy 5) ≡ cond (not t) (RefusedBy 5) (steppedOf (inEdition edition u) s request)
+      turned : (t : Bool) → cond t (steppedOf (inEdition edition u) s request) (RefusedBy (refusal 5)) ≡ cond (not t) (RefusedBy (refusal 5)) (steppedOf (inEdition edition u) s request)
       turned true = refl
       turned false = refl
 
-  pub no-edition : not known ≡ true → RefusedBy 5 ≡ steppedAs edition u s request
-  no-edition e = sym (by-edition true e)
+  pub no-edition : not known ≡ true → (r : Refusal) → r ≡ refusal 5 → RefusedBy r ≡ steppedAs edition u s request
+  no-edition e r er = ap RefusedBy er ∙ sym (by-edition true e)
 
   pub as-edition : not known ≡ false → steppedOf (inEdition edition u) s request ≡ steppedAs edition u s request
   as-edition e = sym (by-edition false e)

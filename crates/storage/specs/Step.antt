@@ -3,6 +3,7 @@ use Prim.Native.Nat.{ℕ, _+_, _*_}
 use mathlib.Core.Bool.{cond}
 use lib.Dec.{eqb}
 use lib.IntN.{ℤ, pos, _-ℤ_}
+use Rattle.whole.specs.Call.{refusal}
 use Rattle.unit.specs.declared.Unit.{Unit}
 use Rattle.flows.specs.declared.Flow.{Flow}
 use Rattle.storage.specs.declared.Outcome.{Outcome}
@@ -39,9 +40,9 @@ unfolding stepOf stepRefusal
 steppedOf u seconds request =
     let n = stepRefusal u seconds request in
     let o = stepOf u seconds request in
-    cond (eqb n 0) (Done o) (RefusedBy n)
+    cond (eqb n 0) (Done o) (RefusedBy (refusal n))
 
 -- and of a unit of an edition: 5 for an edition that there is not
 unfoldable pub steppedAs : ℕ → Unit → ℕ → ℤ → Stepped
 unfolding steppedOf inEdition
-steppedAs edition u seconds request = cond (editionIn edition) (steppedOf (inEdition edition u) seconds request) (RefusedBy 5)
+steppedAs edition u seconds request = cond (editionIn edition) (steppedOf (inEdition edition u) seconds request) (RefusedBy (refusal 5))

@@ -12,6 +12,7 @@ pub use steps::step_as;
 pub use steps::step_within;
 pub use unit::idle_draw;
 pub use unit::unit_in;
+use whole::Refusal;
 
 // What a step gives: watts at the grid, vars, the store after it, and the loss in joules.
 pub struct Outcome {
@@ -21,8 +22,8 @@ pub struct Outcome {
     pub loss: u64,
 }
 
-// A step of any numbers: its outcome, or the number of the refusal.
+// A step of any numbers: its outcome, or the refusal.
 pub enum Stepped {
     Done(Outcome),
-    RefusedBy(u8),
+    RefusedBy(Refusal),
 }

@@ -53,10 +53,10 @@ pub fn step(u: Unit, seconds: u32, request: i32) -> Stepped
     ensures { λ r. ⌜ r ≡ steppedOf u seconds request ⌝ }
 {
     if !(unit::seconds_in(seconds) & unit::unit_in(u)) {
-        return Stepped::RefusedBy(5);
+        return Stepped::RefusedBy(whole::refused(5));
     }
     if u.rating < whole::size32(request) {
-        return Stepped::RefusedBy(10);
+        return Stepped::RefusedBy(whole::refused(10));
     }
     Stepped::Done(step_within(u, seconds, request))
 }
@@ -66,7 +66,7 @@ pub fn step_as(edition: u8, u: Unit, seconds: u32, request: i32) -> Stepped
     ensures { λ r. ⌜ r ≡ steppedAs edition u seconds request ⌝ }
 {
     if !unit::edition_in(edition) {
-        return Stepped::RefusedBy(5);
+        return Stepped::RefusedBy(whole::refused(5));
     }
     step(unit::in_edition(edition, u), seconds, request)
 }

@@ -103,12 +103,16 @@ enough g =
 lengths-in-requires : tie.Need-lengths-in-requires
 lengths-in-requires c κs = search needs
 
+refused-requires : tie.Need-refused-requires
+refused-requires c κs = search needs
+
 returns : tie.Need-returns
 unfolding currentAnswer currentLeaves currentRefusal
 returns c =
-    let l = c .before in
+    let t = c .before in
+    let l = t .before in
     let s = start l in
-    let a = wrong-lengths (s .args .aim .settings) (s .args .aim .measure) (fleet s) (s .args .requests .now) (lengths-ok s) (values-ok s) (requests-ok s) (seven l) (values-ok s) (requests-ok s) (seven-is l) refl refl (c .if1 .taken) in
+    let a = wrong-lengths (s .args .aim .settings) (s .args .aim .measure) (fleet s) (s .args .requests .now) (lengths-ok s) (values-ok s) (requests-ok s) (seven l) (values-ok s) (requests-ok s) (seven-is l) refl refl (t .if1 .taken) (c .refused .result) (c .refused .ensures) in
     (a .answer-is, a .leaves)
 
 settings-in-requires : tie.Need-settings-in-requires
@@ -126,14 +130,18 @@ units-in-requires c κs =
 connections-in-requires : tie.Need-connections-in-requires
 connections-in-requires c κs = let e = c .before .before .before .before .before .before in lengths e .volts ∙ sym (lengths e .phases)
 
+refused-requires-2 : tie.Need-refused-requires-2
+refused-requires-2 c κs = search needs
+
 returns-2 : tie.Need-returns-2
 unfolding currentAnswer currentLeaves currentRefusal
 returns-2 c =
-    let v = c .before in
+    let t = c .before in
+    let v = t .before in
     let e = tested v in
     let l = e .before in
     let s = start l in
-    let a = wrong-values (s .args .aim .settings) (s .args .aim .measure) (fleet s) (s .args .requests .now) (lengths-ok s) (values-ok s) (requests-ok s) (seven l) (fine v) (requests-ok s) (seven-is l) (values v) refl (e .if1 .left) (c .if2 .taken) in
+    let a = wrong-values (s .args .aim .settings) (s .args .aim .measure) (fleet s) (s .args .requests .now) (lengths-ok s) (values-ok s) (requests-ok s) (seven l) (fine v) (requests-ok s) (seven-is l) (values v) refl (e .if1 .left) (t .if2 .taken) (c .refused2 .result) (c .refused2 .ensures) in
     (a .answer-is, a .leaves)
 
 requests-in-requires : tie.Need-requests-in-requires
@@ -142,16 +150,20 @@ requests-in-requires c κs = let e = tested (c .before .before) in (same e .rati
 same-length : tie.Need-same-length
 same-length c = search needs
 
+refused-requires-3 : tie.Need-refused-requires-3
+refused-requires-3 c κs = search needs
+
 returns-3 : tie.Need-returns-3
 unfolding currentAnswer currentLeaves currentRefusal
 returns-3 c =
-    let r = c .before in
+    let t = c .before in
+    let r = t .before in
     let g = r .before .before in
     let v = g .before in
     let e = tested v in
     let l = e .before in
     let s = start l in
-    let a = wrong-requests (s .args .aim .settings) (s .args .aim .measure) (fleet s) (s .args .requests .now) (lengths-ok s) (values-ok s) (requests-ok s) (seven l) (fine v) (r .requests-in .result) (seven-is l) (values v) (r .requests-in .ensures) (e .if1 .left) (g .if2 .left) (c .if3 .taken) in
+    let a = wrong-requests (s .args .aim .settings) (s .args .aim .measure) (fleet s) (s .args .requests .now) (lengths-ok s) (values-ok s) (requests-ok s) (seven l) (fine v) (r .requests-in .result) (seven-is l) (values v) (r .requests-in .ensures) (e .if1 .left) (g .if2 .left) (t .if3 .taken) (c .refused3 .result) (c .refused3 .ensures) in
     (a .answer-is, a .leaves)
 
 pass-linked-requires : tie.Need-pass-linked-requires
@@ -182,13 +194,16 @@ pass-current-spec =
     tie.close
     (tie.spec
     lengths-in-requires
+    refused-requires
     returns
     settings-in-requires
     current-in-requires
     units-in-requires
     connections-in-requires
+    refused-requires-2
     returns-2
     requests-in-requires
+    refused-requires-3
     same-length
     returns-3
     pass-linked-requires

@@ -75,12 +75,16 @@ enough g =
 lengths-in-requires : tie.Need-lengths-in-requires
 lengths-in-requires c κs = search needs
 
+refused-requires : tie.Need-refused-requires
+refused-requires c κs = search needs
+
 returns : tie.Need-returns
 unfolding passAnswer passLeaves passRefusal
 returns c =
-    let l = c .before in
+    let t = c .before in
+    let l = t .before in
     let s = start l in
-    let a = wrong-lengths (s .args .s) (s .args .measure) (fleet s) (s .args .requests .now) (lengths-ok s) (values-ok s) (requests-ok s) (l .lengths-in .result) (values-ok s) (requests-ok s) (l .lengths-in .ensures) refl refl (c .if1 .taken) in
+    let a = wrong-lengths (s .args .s) (s .args .measure) (fleet s) (s .args .requests .now) (lengths-ok s) (values-ok s) (requests-ok s) (l .lengths-in .result) (values-ok s) (requests-ok s) (l .lengths-in .ensures) refl refl (t .if1 .taken) (c .refused .result) (c .refused .ensures) in
     (a .answer-is, a .leaves)
 
 settings-in-requires : tie.Need-settings-in-requires
@@ -95,14 +99,18 @@ units-in-requires c κs =
     let s = start (e .before) in
     by-first (fleet s) (length (s .args .requests .now)) (same e)
 
+refused-requires-2 : tie.Need-refused-requires-2
+refused-requires-2 c κs = search needs
+
 returns-2 : tie.Need-returns-2
 unfolding passAnswer passLeaves passRefusal
 returns-2 c =
-    let u = c .before in
+    let t = c .before in
+    let u = t .before in
     let e = tested u in
     let l = e .before in
     let s = start l in
-    let a = wrong-values (s .args .s) (s .args .measure) (fleet s) (s .args .requests .now) (lengths-ok s) (values-ok s) (requests-ok s) (l .lengths-in .result) (fine u) (requests-ok s) (l .lengths-in .ensures) (values u) refl (e .if1 .left) (c .if2 .taken) in
+    let a = wrong-values (s .args .s) (s .args .measure) (fleet s) (s .args .requests .now) (lengths-ok s) (values-ok s) (requests-ok s) (l .lengths-in .result) (fine u) (requests-ok s) (l .lengths-in .ensures) (values u) refl (e .if1 .left) (t .if2 .taken) (c .refused2 .result) (c .refused2 .ensures) in
     (a .answer-is, a .leaves)
 
 requests-in-requires : tie.Need-requests-in-requires
@@ -111,16 +119,20 @@ requests-in-requires c κs = let e = tested (c .before .before) in (same e .rati
 same-length : tie.Need-same-length
 same-length c = search needs
 
+refused-requires-3 : tie.Need-refused-requires-3
+refused-requires-3 c κs = search needs
+
 returns-3 : tie.Need-returns-3
 unfolding passAnswer passLeaves passRefusal
 returns-3 c =
-    let r = c .before in
+    let t = c .before in
+    let r = t .before in
     let g = r .before .before in
     let u = g .before in
     let e = tested u in
     let l = e .before in
     let s = start l in
-    let a = wrong-requests (s .args .s) (s .args .measure) (fleet s) (s .args .requests .now) (lengths-ok s) (values-ok s) (requests-ok s) (l .lengths-in .result) (fine u) (r .requests-in .result) (l .lengths-in .ensures) (values u) (r .requests-in .ensures) (e .if1 .left) (g .if2 .left) (c .if3 .taken) in
+    let a = wrong-requests (s .args .s) (s .args .measure) (fleet s) (s .args .requests .now) (lengths-ok s) (values-ok s) (requests-ok s) (l .lengths-in .result) (fine u) (r .requests-in .result) (l .lengths-in .ensures) (values u) (r .requests-in .ensures) (e .if1 .left) (g .if2 .left) (t .if3 .taken) (c .refused3 .result) (c .refused3 .ensures) in
     (a .answer-is, a .leaves)
 
 sub-pass-over : tie.Need-sub-pass-over
@@ -164,12 +176,15 @@ pass-spec =
     tie.close
     (tie.spec
     lengths-in-requires
+    refused-requires
     returns
     settings-in-requires
     measure-in-requires
     units-in-requires
+    refused-requires-2
     returns-2
     requests-in-requires
+    refused-requires-3
     same-length
     returns-3
     sub-pass-over

@@ -33,13 +33,17 @@ values u =
 lengths-in-requires : tie.Need-lengths-in-requires
 lengths-in-requires c κs = search needs
 
+refused-requires : tie.Need-refused-requires
+refused-requires c κs = search needs
+
 returns : tie.Need-returns
 returns c =
-    let l = c .before in
+    let t = c .before in
+    let l = t .before in
     let s = start l in
     let q = s .args .q in
     let rs = s .args .requests .now in
-    wrong-lengths q (fleet s) rs (l .lengths-in .result) (studyValues q (fleet s) rs) (l .lengths-in .ensures) refl (c .if1 .taken)
+    wrong-lengths q (fleet s) rs (l .lengths-in .result) (studyValues q (fleet s) rs) (l .lengths-in .ensures) refl (t .if1 .taken) (c .refused .result) (c .refused .ensures)
 
 trial-in-requires : tie.Need-trial-in-requires
 trial-in-requires c κs = search needs
@@ -51,13 +55,17 @@ units-in-requires c κs =
     let n = length (s .args .requests .now) in
     by-first (fleet s) n (same-lengths (fleet s) n (lengths e) (length-replicate (length (s .args .rated .now)) 0))
 
+refused-requires-2 : tie.Need-refused-requires-2
+refused-requires-2 c κs = search needs
+
 returns-2 : tie.Need-returns-2
 returns-2 c =
-    let u = c .before in
+    let t = c .before in
+    let u = t .before in
     let e = u .before .before in
     let l = e .before in
     let s = start l in
-    wrong-values (s .args .q) (fleet s) (s .args .requests .now) (l .lengths-in .result) (u .before .trial-in .result && u .units-in .result) (l .lengths-in .ensures) (values u) (e .if1 .left) (c .if2 .taken)
+    wrong-values (s .args .q) (fleet s) (s .args .requests .now) (l .lengths-in .result) (u .before .trial-in .result && u .units-in .result) (l .lengths-in .ensures) (values u) (e .if1 .left) (t .if2 .taken) (c .refused2 .result) (c .refused2 .ensures)
 
 settle-over-requires : tie.Need-settle-over-requires
 settle-over-requires c κs =
@@ -87,9 +95,11 @@ settle-spec =
     tie.close
     (tie.spec
     lengths-in-requires
+    refused-requires
     returns
     trial-in-requires
     units-in-requires
+    refused-requires-2
     returns-2
     settle-over-requires
     same-length

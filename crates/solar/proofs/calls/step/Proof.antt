@@ -16,14 +16,18 @@ lengths-in-requires c κs = search needs
 lengths-in-requires-2 : tie.Need-lengths-in-requires-2
 lengths-in-requires-2 c κs = search needs
 
+refused-requires : tie.Need-refused-requires
+refused-requires c κs = search needs
+
 returns : tie.Need-returns
 returns c =
-    let e = c .before in
+    let t = c .before in
+    let e = t .before in
     let q = e .before in
     let a = q .before .args in
     let lists = listsOf (a .warm-x .now) (a .warm-y .now) (a .eff-x .now) (a .eff-y .now) in
     lit-lengths (a .v) lists (a .on) (a .w)
-    (q .lengths-in .result) (e .lengths-in2 .result) (q .lengths-in .ensures) (e .lengths-in2 .ensures) (c .if1 .taken)
+    (q .lengths-in .result) (e .lengths-in2 .result) (q .lengths-in .ensures) (e .lengths-in2 .ensures) (t .if1 .taken) (c .refused .result) (c .refused .ensures)
 
 step-over-requires : tie.Need-step-over-requires
 step-over-requires c κs =
@@ -48,4 +52,4 @@ returns-2 c =
 pub step-spec : {M : Type 1} → statement M
 step-spec =
     tie.close
-    (tie.spec lengths-in-requires lengths-in-requires-2 returns step-over-requires returns-2)
+    (tie.spec lengths-in-requires lengths-in-requires-2 refused-requires returns step-over-requires returns-2)

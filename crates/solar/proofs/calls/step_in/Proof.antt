@@ -11,11 +11,15 @@ use Rattle.solar.proofs.calls.step_in.Tie as tie
 roof-in-requires : tie.Need-roof-in-requires
 roof-in-requires c κs = search needs
 
+refused-requires : tie.Need-refused-requires
+refused-requires c κs = search needs
+
 returns : tie.Need-returns
 returns c =
-    let q = c .before in
+    let t = c .before in
+    let q = t .before in
     let a = q .before .before .args in
-    out-of-range (roofBy (a .v) (a .bytes .now) 0 129) (a .on) (a .w) (q .roof-in .result) (q .roof-in .ensures) (c .if1 .taken)
+    out-of-range (roofBy (a .v) (a .bytes .now) 0 129) (a .on) (a .w) (q .roof-in .result) (q .roof-in .ensures) (t .if1 .taken) (c .refused .result) (c .refused .ensures)
 
 sky-of-requires : tie.Need-sky-of-requires
 sky-of-requires c κs = search needs
@@ -26,14 +30,18 @@ enum-known-s c = search needs
 enum-told : tie.Need-enum-told
 enum-told c = search needs
 
+refused-requires-2 : tie.Need-refused-requires-2
+refused-requires-2 c κs = search needs
+
 returns-2 : tie.Need-returns-2
 returns-2 c =
-    let k = c .before .before in
+    let u = c .before in
+    let k = u .before .before in
     let l = k .before in
     let q = l .before in
     let a = q .before .before .args in
     no-sky (roofBy (a .v) (a .bytes .now) 0 129) (a .on) (a .w) (q .roof-in .result) (q .roof-in .ensures) (l .if1 .left)
-    (k .sky-of .result) (k .sky-of .ensures) (c .enum-told .given .1)
+    (k .sky-of .result) (k .sky-of .ensures) (u .enum-told .given .1) (c .refused2 .result) (c .refused2 .ensures)
 
 step-within-requires : tie.Need-step-within-requires
 step-within-requires c κs =
@@ -66,10 +74,12 @@ step-in-spec =
     tie.close
     (tie.spec
     roof-in-requires
+    refused-requires
     returns
     sky-of-requires
     enum-known-s
     enum-told
+    refused-requires-2
     returns-2
     step-within-requires
     returns-3)

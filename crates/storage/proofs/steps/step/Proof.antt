@@ -17,21 +17,30 @@ seconds-in-requires c κs = search needs
 unit-in-requires : tie.Need-unit-in-requires
 unit-in-requires c κs = search needs
 
+refused-requires : tie.Need-refused-requires
+refused-requires c κs = search needs
+
 returns : tie.Need-returns
 returns c =
-    let x = c .before .before .before .args in
-    refused-values (x .u) (x .seconds) (x .request) (cc (c .if1 .taken, c .before .unit-in .ensures, c .before .before .seconds-in .ensures))
+    let t = c .before in
+    let x = t .before .before .before .args in
+    refused-values (x .u) (x .seconds) (x .request) (cc (t .if1 .taken, t .before .unit-in .ensures, t .before .before .seconds-in .ensures)) (c .refused .result) (c .refused .ensures)
 
 size32-requires : tie.Need-size32-requires
 size32-requires c κs = search needs
 
+refused-requires-2 : tie.Need-refused-requires-2
+refused-requires-2 c κs = search needs
+
 returns-2 : tie.Need-returns-2
 returns-2 c =
-    let e = c .before .before .before in
+    let t = c .before in
+    let e = t .before .before .before in
     let s = e .before .before .before in
     let x = s .args in
-    let n = sized (x .request) (c .before .before .size32 .result) (s .fits .request .sfits) (c .before .before .size32 .ensures) in
+    let n = sized (x .request) (t .before .before .size32 .result) (s .fits .request .sfits) (t .before .before .size32 .ensures) in
     refused-rating (x .u) (x .seconds) (x .request) (cc (e .if1 .left, e .before .unit-in .ensures, e .before .before .seconds-in .ensures)) (omega arith)
+    (c .refused2 .result) (c .refused2 .ensures)
 
 step-within-requires : tie.Need-step-within-requires
 step-within-requires c κs =
@@ -54,8 +63,10 @@ step-spec =
     (tie.spec
     seconds-in-requires
     unit-in-requires
+    refused-requires
     returns
     size32-requires
+    refused-requires-2
     returns-2
     step-within-requires
     returns-3)

@@ -13,11 +13,15 @@ use Rattle.storage.proofs.steps.step_as.Tie as tie
 edition-in-requires : tie.Need-edition-in-requires
 edition-in-requires c κs = search needs
 
+refused-requires : tie.Need-refused-requires
+refused-requires c κs = search needs
+
 returns : tie.Need-returns
 returns c =
-    let e = c .before in
+    let t = c .before in
+    let e = t .before in
     let x = e .before .args in
-    no-edition (x .edition) (x .u) (x .seconds) (x .request) (e .edition-in .result) (e .edition-in .ensures) (c .if1 .taken)
+    no-edition (x .edition) (x .u) (x .seconds) (x .request) (e .edition-in .result) (e .edition-in .ensures) (t .if1 .taken) (c .refused .result) (c .refused .ensures)
 
 in-edition-requires : tie.Need-in-edition-requires
 in-edition-requires c κs = search needs
@@ -37,4 +41,4 @@ returns-2 c =
     ∙ as-edition (x .edition) (x .u) (x .seconds) (x .request) (e .edition-in .result) (e .edition-in .ensures) (t .if1 .left)
 
 pub step-as-spec : {M : Type 1} → statement M
-step-as-spec = tie.close (tie.spec edition-in-requires returns in-edition-requires step-requires returns-2)
+step-as-spec = tie.close (tie.spec edition-in-requires refused-requires returns in-edition-requires step-requires returns-2)
