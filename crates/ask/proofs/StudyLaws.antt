@@ -5,6 +5,8 @@ use mathlib.Core.List.{List}
 use Prim.Native.Nat.{ℕ}
 use lib.IntN.{ℤ}
 use lib.ListN.{length}
+use Rattle.whole.specs.declared.Refusal.{Refusal}
+use Rattle.whole.specs.Call.{refusal}
 use Rattle.whole.specs.Over.{allOf}
 use Rattle.rules.specs.declared.Settings.{Settings}
 use Rattle.members.specs.Ranges.{memberAt, lengthsIn}
@@ -46,10 +48,11 @@ module _ (file : List ℕ) (z : Accepted file) (load : ℤ) (budget : ℕ) (rs :
   abbrev values : Bool
   values = studyValues trial (fleetSaid file) rs
 
-  pub other-count : (length rs ≡ count (siteOf file) → ⊥) → (StudyRefused 10 ≡ fileStudy file load budget rs) × (rs ≡ fileStudyLeaves file load budget rs)
-  other-count other =
-      study-said file z load budget rs rs (StudyRefused 10)
-      (wrong-lengths trial (fleetSaid file) rs (lengthsIn (fleetSaid file) (length rs)) values refl refl (ap not (other-length file (length rs) other)))
+  pub other-count : (length rs ≡ count (siteOf file) → ⊥) → (r : Refusal) → r ≡ refusal 10
+      → (StudyRefused r ≡ fileStudy file load budget rs) × (rs ≡ fileStudyLeaves file load budget rs)
+  other-count other r er =
+      study-said file z load budget rs rs (StudyRefused r)
+      (wrong-lengths trial (fleetSaid file) rs (lengthsIn (fleetSaid file) (length rs)) values refl refl (ap not (other-length file (length rs) other)) r er)
 
   module _ (e : length rs ≡ count (siteOf file)) where
     lengths-fine : not (lengthsIn (fleetSaid file) (length rs)) ≡ false
@@ -59,11 +62,11 @@ module _ (file : List ℕ) (z : Accepted file) (load : ℤ) (budget : ℕ) (rs :
     values-are : (q : Trial) (fine : Bool) → fine ≡ trialIn q → q ≡ trial → fine ≡ values
     values-are q fine ef eq = ef ∙ ap trialIn eq ∙ and-true (trialIn trial) (allOf (length rs) (memberAt (fleetSaid file))) (members-in file z (length rs) e)
 
-    pub other-trial : (q : Trial) (fine : Bool) → fine ≡ trialIn q → q ≡ trial → not fine ≡ true
-        → (StudyRefused 5 ≡ fileStudy file load budget rs) × (rs ≡ fileStudyLeaves file load budget rs)
-    other-trial q fine ef eq t =
-        study-said file z load budget rs rs (StudyRefused 5)
-        (wrong-values trial (fleetSaid file) rs (lengthsIn (fleetSaid file) (length rs)) fine refl (values-are q fine ef eq) lengths-fine t)
+    pub other-trial : (q : Trial) (fine : Bool) → fine ≡ trialIn q → q ≡ trial → not fine ≡ true → (r : Refusal) → r ≡ refusal 5
+        → (StudyRefused r ≡ fileStudy file load budget rs) × (rs ≡ fileStudyLeaves file load budget rs)
+    other-trial q fine ef eq t r er =
+        study-said file z load budget rs rs (StudyRefused r)
+        (wrong-values trial (fleetSaid file) rs (lengthsIn (fleetSaid file) (length rs)) fine refl (values-are q fine ef eq) lengths-fine t r er)
 
     pub study-made : (q : Trial) (fine : Bool) → fine ≡ trialIn q → q ≡ trial → not fine ≡ false → (after : List ℤ) (r : Studied) → Surveyed file q rs after r
         → (StudyDone r ≡ fileStudy file load budget rs) × (after ≡ fileStudyLeaves file load budget rs)

@@ -12,11 +12,12 @@ pub use says::units;
 use site::Head;
 pub use studies::study;
 use unit::Unit;
+use whole::Refusal;
 
-// What a file says beside its units, or the check's number.
+// What a file says beside its units, or the check's refusal.
 pub enum HeadAnswer {
     HeadSaid(Head),
-    HeadRefused(u8),
+    HeadRefused(Refusal),
 }
 
 // A unit's connection: its phases, and its volts from phase to neutral.
@@ -25,14 +26,14 @@ pub struct Connection {
     pub volts: u16,
 }
 
-// The connection of a unit of a file, or the check's number, or 10.
+// The connection of a unit of a file, or the check's refusal, or 10.
 pub enum ConnectionAnswer {
     ConnectionSaid(Connection),
-    ConnectionRefused(u8),
+    ConnectionRefused(Refusal),
 }
 
-// A unit of a file, or the check's number, or 10.
+// A unit of a file, or the check's refusal, or 10.
 pub enum UnitAnswer {
     UnitSaid(Unit),
-    UnitRefused(u8),
+    UnitRefused(Refusal),
 }

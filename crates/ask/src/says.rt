@@ -39,9 +39,9 @@ pub fn seconds(file: &[u8]) -> u32
 pub fn head(file: &[u8]) -> HeadAnswer
     ensures { λ r. ⌜ r ≡ headAnswer (now (file .entry)) ⌝ }
 {
-    let n = stick::check(file).number;
-    if n != 0 {
-        return HeadAnswer::HeadRefused(n);
+    let a = stick::check(file);
+    if a.number != 0 {
+        return HeadAnswer::HeadRefused(stick::refusal_of(a));
     }
     HeadAnswer::HeadSaid(stick::head(file))
 }
@@ -50,31 +50,31 @@ pub fn head(file: &[u8]) -> HeadAnswer
 pub fn unit(file: &[u8], i: u32) -> UnitAnswer
     ensures { λ r. ⌜ r ≡ unitAnswer (now (file .entry)) i ⌝ }
 {
-    let n = stick::check(file).number;
-    if n != 0 {
-        return UnitAnswer::UnitRefused(n);
+    let a = stick::check(file);
+    if a.number != 0 {
+        return UnitAnswer::UnitRefused(stick::refusal_of(a));
     }
     let place = i as usize;
     if place < stick::units(file) {
         return UnitAnswer::UnitSaid(stick::unit(file, place));
     }
-    UnitAnswer::UnitRefused(10)
+    UnitAnswer::UnitRefused(whole::refused(10))
 }
 
 // The connection of unit i of a file.
 pub fn connection_of(file: &[u8], i: u32) -> ConnectionAnswer
     ensures { λ r. ⌜ r ≡ connectionAnswer (now (file .entry)) i ⌝ }
 {
-    let n = stick::check(file).number;
-    if n != 0 {
-        return ConnectionAnswer::ConnectionRefused(n);
+    let a = stick::check(file);
+    if a.number != 0 {
+        return ConnectionAnswer::ConnectionRefused(stick::refusal_of(a));
     }
     let place = i as usize;
     if stick::units(file) <= place {
-        return ConnectionAnswer::ConnectionRefused(10);
+        return ConnectionAnswer::ConnectionRefused(whole::refused(10));
     }
     if !stick::is_connected(file) {
-        return ConnectionAnswer::ConnectionRefused(10);
+        return ConnectionAnswer::ConnectionRefused(whole::refused(10));
     }
     ConnectionAnswer::ConnectionSaid(Connection {
         phases: stick::phases(file, place),

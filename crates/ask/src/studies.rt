@@ -39,18 +39,18 @@ fn study_over(file: &[u8], q: Trial, requests: &mut [i32]) -> Studied
 }
 
 // The study over a file's fleet and settings, in mode 1 whatever the file's mode. Refused are a file
-// by the check's number, a list that has not the fleet's length (10), and a load or a budget out of
+// by the check's refusal, a list that has not the fleet's length (10), and a load or a budget out of
 // range (5); on a refusal the requests are as they were.
 pub fn study(file: &[u8], load: i64, budget: u32, requests: &mut [i32]) -> StudyAnswer
     ensures { λ r. ⌜ r ≡ fileStudy (now (file .entry)) load budget (now (requests .entry)) ⌝ }
     ensures { λ _. ⌜ now (requests .exit) ≡ fileStudyLeaves (now (file .entry)) load budget (now (requests .entry)) ⌝ }
 {
-    let number = stick::check(file).number;
-    if number != 0 {
-        return StudyAnswer::StudyRefused(number);
+    let a = stick::check(file);
+    if a.number != 0 {
+        return StudyAnswer::StudyRefused(stick::refusal_of(a));
     }
     if requests.len() != stick::units(file) {
-        return StudyAnswer::StudyRefused(10);
+        return StudyAnswer::StudyRefused(whole::refused(10));
     }
     let head = stick::head(file);
     let settings = head.settings;
@@ -60,7 +60,7 @@ pub fn study(file: &[u8], load: i64, budget: u32, requests: &mut [i32]) -> Study
         budget,
     };
     if !settling::trial_in(q) {
-        return StudyAnswer::StudyRefused(5);
+        return StudyAnswer::StudyRefused(whole::refused(5));
     }
     StudyAnswer::StudyDone(study_over(file, q, requests))
 }

@@ -10,7 +10,7 @@ use Rattle.octets.specs.BigEndian.{be}
 use Rattle.parts.specs.Header.{header, tagAt, lengthAt}
 use Rattle.fields.specs.Fields.{isReading}
 use Rattle.site.specs.Site.{Plant, count}
-use Rattle.stick.specs.Check.{checkOf}
+use Rattle.stick.specs.Check.{checkOf, refusalBy}
 use Rattle.stick.specs.Site.{placesOf, plantOf}
 use Rattle.records.specs.Records.{recordBytes, roofRecordBytes, endBytes}
 use Rattle.season.specs.Run.{resultOf}
@@ -91,4 +91,4 @@ partnerAnswer run result = cond (eqb (checkOf run .number) 0) (Judged (verdictOf
 
 abbrev pub partnerCall : PartnerAnswer → Call Verdict
 partnerCall (Judged v) = Gave v
-partnerCall (Unjudged a) = Refused (record { number = a .number; place = a .place; steps = a .steps })
+partnerCall (Unjudged a) = Refused (refusalBy a)
