@@ -9,11 +9,12 @@ use fleet::Frame;
 pub use seasons::peaks;
 use site::Due;
 use tally::Figures;
+use whole::Refusal;
 
-// The figures, or the number of the refusal.
+// The figures, or the refusal.
 pub enum PeaksAnswer {
     Told(Figures),
-    Untold(u8),
+    Untold(Refusal),
 }
 
 // What no step changes: the frame, and whether there is a function and where.
