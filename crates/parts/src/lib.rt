@@ -3,10 +3,8 @@
 mod parts;
 mod reader;
 
-pub use parts::part;
-pub use parts::part_end;
-pub use parts::part_size;
-pub use parts::part_start;
 pub use reader::Reader;
 pub use reader::past;
+pub use reader::place_past;
 pub use reader::value;
+pub use reader::value_at;

@@ -25,3 +25,18 @@ pub fn past<'a>(r: Reader<'a>) -> Reader<'a>
         place: parts::part_end(r.file, r.place),
     }
 }
+
+// The value bytes of the field at a place of a lent file: what `value` gives, for a caller that keeps no reader.
+pub fn value_at<'a>(file: &'a [u8], place: u64) -> &'a [u8]
+    ensures { λ s. ⌜ PartOf (file .entry) place s ⌝ }
+{
+    value(Reader { file, place })
+}
+
+// The place past that field: where `past` stands, for a caller that keeps no reader.
+pub fn place_past(file: &[u8], place: u64) -> u64
+    ensures { λ r. ⌜ r ≡ partStart (now (file .entry)) place + partSize (now (file .entry)) place ⌝ }
+{
+    let next = past(Reader { file, place });
+    next.place
+}
