@@ -1,40 +1,64 @@
+ghost use Prim.Native.Nat.{_≤_};
+ghost use lib.ListN.{length};
 ghost use Rattle.io.specs.Counts.{Counts};
-use libc::STDIN_FILENO;
 
-// What filling a buffer came to: the bytes at its start, and whether the input ended or a read failed;
-// where neither did, the buffer is full.
+// What reading came to: the bytes at a buffer's start, and whether the input ended there or a read
+// failed; where neither is so, the buffer is full.
 pub struct Filled {
     pub count: usize,
     pub ended: bool,
     pub failed: bool,
 }
 
-// Reads standard input until the buffer is full, the input ends or a read fails.
-pub fn fill(buffer: &mut [u8]) -> Filled
+// One read, behind the n bytes that a buffer has: none come at the input's end, or where it fails.
+fn more(fd: i32, buffer: &mut [u8], n: usize) -> Filled
+    requires { ⌜ n ≤ length (now buffer) ⌝ }
+    ensures { λ r. ⌜ n ≤ r .count ⌝ }
+    ensures { λ r. ⌜ r .count ≤ length (now (buffer .exit)) ⌝ }
+{
+    let rest = &mut buffer[n..];
+    let got = libc::read(fd, rest);
+    Filled {
+        count: n + io::count(got, rest),
+        ended: got == 0,
+        failed: got < 0,
+    }
+}
+
+// Reads until the buffer is full, the input ends or a read fails.
+pub fn fill(fd: i32, buffer: &mut [u8]) -> Filled
     ensures { λ r. ⌜ Counts (r .count) (now (buffer .exit)) ⌝ }
 {
-    let mut at = 0;
-    while at < buffer.len() {
-        let got = libc::read(STDIN_FILENO, &mut buffer[at..]);
-        let n = io::count(got, &buffer[at..]);
-        if n == 0 {
-            return Filled {
-                count: at,
-                ended: got == 0,
-                failed: got != 0,
-            };
+    let mut n = 0;
+    while n < buffer.len() {
+        let r = more(fd, buffer, n);
+        let next = r.count;
+        if next == n {
+            return r;
         }
-        at += n;
+        n = next;
     }
     Filled {
-        count: at,
+        count: n,
         ended: false,
         failed: false,
     }
 }
 
-// Whether the input goes on behind a buffer that is full: one byte more, its end, or a read that fails.
-pub fn more() -> Filled {
+// Reads all of the input, as far as the buffer holds it: where it neither ended nor failed, there is
+// more than that.
+pub fn read_whole(fd: i32, buffer: &mut [u8]) -> Filled
+    ensures { λ r. ⌜ Counts (r .count) (now (buffer .exit)) ⌝ }
+{
+    let f = fill(fd, buffer);
+    if f.ended | f.failed {
+        return f;
+    }
     let mut byte = [0u8; 1];
-    fill(&mut byte)
+    let next = more(fd, &mut byte, 0);
+    Filled {
+        count: f.count,
+        ended: next.ended,
+        failed: next.failed,
+    }
 }

@@ -1,43 +1,43 @@
-// What the programs read of standard input, and what they say of the run file on it: the line that
-// the import tool prints of a file, that it cannot be read, and that it is longer than a program holds.
+// What the programs read, and what they say of the run file on standard input: the line that the
+// import tool prints of a file, that it cannot be read, and that it is longer than a program holds.
+mod dump;
 mod input;
 mod words;
 
+pub use dump::hex;
+pub use dump::value;
 pub use input::Filled;
 pub use input::fill;
-pub use input::more;
+pub use input::read_whole;
 use stick::Answer;
 use stick::Known;
 
-// The number of steps, and the line's end.
-fn steps(fd: i32, n: u32) {
-    io::print_decimal(fd, n as u64);
-    io::write_all(fd, b" steps\n");
-}
-
-// A refusal: its number, its words, its place and its steps.
-fn refused(fd: i32, a: Answer) {
+// A whole refusal, behind a file's name: its number, its words, its place and its steps.
+pub fn refusal(fd: i32, a: Answer) {
     let number = a.number;
-    io::write_all(fd, b"standard input: refused ");
+    io::write_all(fd, b": refused ");
     io::print_decimal(fd, number as u64);
     io::write_all(fd, b" (");
     words::name(fd, number);
     io::write_all(fd, b") at byte ");
     io::print_decimal(fd, a.place);
     io::write_all(fd, b" after ");
-    steps(fd, a.steps);
+    io::print_decimal(fd, a.steps as u64);
+    io::write_all(fd, b" steps\n");
 }
 
 // What is known of the run file, as a line; a program says nothing else of it.
 pub fn line(fd: i32, k: Known) {
+    io::write_all(fd, b"standard input");
     match k {
         Known::Complete(n) => {
-            io::write_all(fd, b"standard input: complete, ");
-            steps(fd, n);
+            io::write_all(fd, b": complete, ");
+            io::print_decimal(fd, n as u64);
+            io::write_all(fd, b" steps\n");
         }
-        Known::Refused(a) => refused(fd, a),
+        Known::Refused(a) => refusal(fd, a),
         Known::NotKnown => {
-            io::write_all(fd, b"standard input: not read to its end\n");
+            io::write_all(fd, b": not read to its end\n");
         }
     }
 }

@@ -7,6 +7,7 @@ mod sums;
 
 use arguments::Given;
 use libc::STDERR_FILENO;
+use libc::STDIN_FILENO;
 use libc::STDOUT_FILENO;
 use stick::Known;
 
@@ -27,14 +28,13 @@ fn studied(file: &[u8], load: u32, budget: u32) -> bool {
 // Reads standard input and studies it: false as above.
 fn read(load: u32, budget: u32) -> bool {
     let mut room = io::large_buffer();
-    let f = screen::fill(&mut room);
+    let f = screen::read_whole(STDIN_FILENO, &mut room);
     let n = f.count;
-    let next = if f.ended | f.failed { f } else { screen::more() };
-    if next.failed {
+    if f.failed {
         screen::unreadable(STDERR_FILENO);
         return true;
     }
-    if !next.ended {
+    if !f.ended {
         screen::too_long(STDERR_FILENO, b"studied", b"settle");
         return true;
     }

@@ -1,6 +1,7 @@
 ghost use Prim.Native.Nat.{_≤_};
 ghost use lib.ListN.{length};
 use feed::Fed;
+use libc::STDIN_FILENO;
 use libc::STDOUT_FILENO;
 use stick::Known;
 
@@ -75,7 +76,7 @@ fn on(t: Read) -> bool {
 // Feeds one buffer of standard input.
 fn turn(state: &mut [u8], room: &mut [u8], begun: bool) -> Read {
     let mut bytes = io::large_buffer();
-    let f = screen::fill(&mut bytes);
+    let f = screen::fill(STDIN_FILENO, &mut bytes);
     let n = f.count;
     let went = chunk(state, &bytes[..n], room, begun);
     Read {
