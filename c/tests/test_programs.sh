@@ -1,13 +1,14 @@
 #!/bin/bash
 # The Rattle programs stick_check, stick_run and settle give for standard input what the import tool gives for a
 # file: on every sample stick, on an empty file, at the buffer's size and one byte beyond it; stick_run, which is fed,
-# on sticks of any length. Each failed check is told on standard error; the last line counts them.
+# on sticks of any length. stick_check shows the refused field's value bytes besides. stick_partner takes two files by
+# name. Each failed check is told on standard error; the last line counts them.
 set -u
 cd "$(dirname "${BASH_SOURCE[0]}")/../.." || exit 2
 # shellcheck source=tools/env.sh
 . tools/env.sh
 yb_toolchain || { echo "$YB_CC_WHY" >&2; exit 1; }
-for needed in target/bin/{stick_check,stick_run,settle} build/import; do
+for needed in target/bin/{stick_check,stick_run,settle,stick_partner} build/import; do
     [ -x "$needed" ] || { echo "no program $needed" >&2; exit 1; }
 done
 passed=0
@@ -55,6 +56,32 @@ line() {
     local line
     line=$(build/import check "$1" 2>/dev/null | head -n 1)
     echo "standard input: ${line#"$1": }"
+}
+
+# hex FILE PLACE COUNT: so many bytes of a file, as the programs show them.
+hex() {
+    od -An -v -tx1 -w16 -j "$2" -N "$3" "$1" | sed 's/^/       /; y/abcdef/ABCDEF/'
+}
+
+# checked FILE: what stick_check says: the line and, of a refused file, the value bytes at its place, as many as are
+# there.
+checked() {
+    local line place size count=0
+    line=$(line "$1")
+    echo "$line"
+    [ "${line#*: complete, }" = "$line" ] || return
+    place=$(sed 's/.* at byte \([0-9]*\) .*/\1/' <<<"$line")
+    size=$(($(wc -c <"$1") - place - 3))
+    if [ "$size" -ge 0 ]; then
+        count=$((16#$(od -An -tx1 -j $((place + 1)) -N 2 "$1" | tr -d ' ')))
+        [ "$count" -le "$size" ] || count=$size
+    fi
+    case $count in
+    0) echo '    value: no bytes there' ;;
+    1) echo '    value, 1 byte there:' ;;
+    *) echo "    value, $count bytes there:" ;;
+    esac
+    [ "$count" = 0 ] || hex "$1" $((place + 3)) "$count"
 }
 
 # too_long DONE COMMAND: what a program says of input that is longer than its buffer.
@@ -132,7 +159,7 @@ studies() {
 
 # all_of FILE: a file that the buffer holds.
 all_of() {
-    check "$(line "$1")" '' "$1" stick_check
+    check "$(checked "$1")" '' "$1" stick_check
     run_it "$1"
     studies "$1"
 }
@@ -180,7 +207,8 @@ for file in examples/*.stick; do
     fi
 done
 all_of /dev/null
-check 'standard input: refused 8 (end field missing) at byte 0 after 0 steps' '' /dev/null stick_check
+check 'standard input: refused 8 (end field missing) at byte 0 after 0 steps
+    value: no bytes there' '' /dev/null stick_check
 
 # At the buffer's size and one byte beyond it.
 full_stick >"$work/full"
@@ -189,7 +217,8 @@ all_of "$work/full"
 { cat "$work/full"; printf '\0'; } >"$work/more"
 none_of "$work/more"
 head -c 65536 /dev/zero >"$work/zeros"
-check 'standard input: refused 2 (unknown tag) at byte 0 after 0 steps' '' "$work/zeros" stick_check
+check 'standard input: refused 2 (unknown tag) at byte 0 after 0 steps
+    value: no bytes there' '' "$work/zeros" stick_check
 all_of "$work/zeros"
 head -c 65537 /dev/zero >"$work/zeros"
 none_of "$work/zeros"
@@ -246,6 +275,19 @@ for word in '' x 1x +5 -5 ' 5' '5 ' 1e3 0x10 1.5 1,000 - / : 0000000000000000000
 done
 check '' "$usage" examples/season.stick settle
 check '' "$usage" examples/season.stick settle 1000 5 5
+
+# A value of one byte, of a line's and of one more, and one that the file ends within.
+for count in 1 15 16 17 300; do
+    # shellcheck disable=SC2059 # the length is the format
+    { printf '\0'; printf "$(printf '\\%03o' $((count / 256)) $((count % 256)))"; } >"$work/value"
+    head -c "$count" examples/season.stick >>"$work/value"
+    all_of "$work/value"
+    head -c -1 "$work/value" >"$work/cut"
+    all_of "$work/cut"
+done
+
+# shellcheck source=c/tests/test_programs_partner.sh
+. c/tests/test_programs_partner.sh
 
 echo "$passed passed, $failed failed"
 [ "$failed" = 0 ]
