@@ -52,15 +52,7 @@ pub fn no_verdict(result: &[u8]) {
 // The check's refusal of the run file.
 pub fn refused(run: &[u8], a: Answer) {
     name(STDOUT_FILENO, run);
-    io::write_all(STDOUT_FILENO, b": refused ");
-    io::print_decimal(STDOUT_FILENO, a.number as u64);
-    io::write_all(STDOUT_FILENO, b" (");
-    screen::refusal(STDOUT_FILENO, a.number);
-    io::write_all(STDOUT_FILENO, b") at byte ");
-    io::print_decimal(STDOUT_FILENO, a.place);
-    io::write_all(STDOUT_FILENO, b" after ");
-    io::print_decimal(STDOUT_FILENO, a.steps as u64);
-    io::write_all(STDOUT_FILENO, b" steps\n");
+    screen::refusal(STDOUT_FILENO, a);
 }
 
 // The result, a verdict, and the run file.

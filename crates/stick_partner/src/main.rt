@@ -33,16 +33,16 @@ fn judged<'a>(run_name: &[u8], run: &'a [u8], result_name: &[u8], result: &'a [u
 fn call(run_name: &[u8], result_name: &[u8]) {
     let mut run = io::large_buffer();
     let mut result = io::large_buffer();
-    let a = files::whole(run_name, &mut run);
-    if !a.ok {
+    let a = files::read(run_name, &mut run);
+    if !a.ended {
         return lines::no_verdict(result_name);
     }
-    let b = files::whole(result_name, &mut result);
-    if !b.ok {
+    let b = files::read(result_name, &mut result);
+    if !b.ended {
         return lines::no_verdict(result_name);
     }
-    let n = a.n;
-    let m = b.n;
+    let n = a.count;
+    let m = b.count;
     judged(run_name, &run[..n], result_name, &result[..m]);
 }
 

@@ -5,14 +5,14 @@ use mathlib.Core.Path.{_≡_}
 use native.Mathlib.Omega.{arith}
 use lib.ListN.{length}
 use Rattle.io.proofs.Counting.{counts}
-use Rattle.stick_partner.proofs.files.fill.Statement.{statement}
-use Rattle.stick_partner.proofs.files.fill.Tie as tie
+use Rattle.screen.proofs.input.fill.Statement.{statement}
+use Rattle.screen.proofs.input.fill.Tie as tie
 
 abbrev Inv-loop : tie.InvT-loop
-Inv-loop fd room₀ n₀ room n = (n ≤ length room) × (length room ≡ length room₀)
+Inv-loop fd buffer₀ n₀ buffer n = (n ≤ length buffer) × (length buffer ≡ length buffer₀)
 
 abbrev μ-loop : tie.MeasureT-loop
-μ-loop fd room₀ n₀ room n = length room - n
+μ-loop fd buffer₀ n₀ buffer n = length buffer - n
 
 loop-holds : tie.Need-loop-holds Inv-loop μ-loop
 loop-holds c = search needs
