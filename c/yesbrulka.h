@@ -1,7 +1,7 @@
 /* The C surface of the Yesbrulka planning core.
 **
 ** Every function answers for any numbers and for any memory that is lent to it. Unless it says otherwise it
-** returns 0 or the number of a refusal. On a refusal nothing that was lent has changed. A lent pointer points
+** returns 0 or the number of a refusal, and on a refusal nothing that was lent has changed. A lent pointer points
 ** to memory that holds what it is declared to hold. A lent list is a pointer and the number of its elements; the
 ** pointer of a list of none may be NULL. A lent file is the list of its bytes.
 **
@@ -25,8 +25,8 @@ extern "C" {
 #endif
 
 /* The refusals by their numbers. Those of a file are 1 to 9 and 12; their place and steps are those that yb_check_place
-** and yb_check_steps return. A refusal of a call that takes no file, or of what is asked of a complete one, has place 0
-** and steps 0, but for 11: its place is the file's length and its steps are all.
+** and yb_check_steps return, and that yb_checked stores. A refusal of a call that takes no file, or of what is asked of
+** a complete one, has place 0 and steps 0, but for 11: its place is the file's length and its steps are all.
 */
 enum {
     YB_CUT_SHORT = 1, /* one or two bytes are left where tag and length are due, or the value runs past the end */
@@ -150,10 +150,14 @@ enum {
 ** is the place where a further field or the file's end was due, for a file that is too long 0, and for a
 ** complete file its length. yb_check_steps returns the number of steps before that place, which for a complete
 ** file is all of them.
+**
+** yb_checked answers all three in one pass over the file: it returns what yb_check does, and stores the place and the
+** steps. Both are written whatever it returns: on a refusal too, for they are a part of the answer.
 */
 uint32_t yb_check(const uint8_t *file, size_t file_len);
 uint64_t yb_check_place(const uint8_t *file, size_t file_len);
 uint32_t yb_check_steps(const uint8_t *file, size_t file_len);
+uint32_t yb_checked(const uint8_t *file, size_t file_len, uint64_t *place, uint32_t *steps);
 
 /* Find the value bytes of the field at a place of a file, for a support screen. Any place of any file will do;
 ** that of a refusal is the usual one.

@@ -25,9 +25,8 @@ static int is_right(const char *whose, struct answer got, struct answer right)
 
 int same_answers(struct answer right)
 {
-    struct answer archive = {yb_check(file, file_len), yb_check_steps(file, file_len),
-        yb_check_place(file, file_len)};
-    struct answer reference;
+    struct answer archive, reference;
+    archive.number = yb_checked(file, file_len, &archive.place, &archive.steps);
     reference.number = ref_check(file, file_len, &reference.place, &reference.steps);
     int archive_right = is_right("the archive", archive, right);
     return is_right("the Rust", reference, right) && archive_right;

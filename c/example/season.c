@@ -51,24 +51,29 @@ int main(int argc, char **argv)
     size_t len;
     uint8_t mode, phase;
     int32_t target;
-    uint32_t band;
+    uint32_t band, steps;
+    uint64_t place;
     uint16_t factor;
     int64_t figures[YB_FIGURES];
     if (argc != 2 || !read_stick(argv[1], &len)) {
         fprintf(stderr, argc != 2 ? "usage: season FILE\n" : "season: the file cannot be read\n");
         return 2;
     }
-    uint32_t refusal = yb_check(bytes, len);
+    uint32_t refusal = yb_checked(bytes, len, &place, &steps);
     if (refusal == 0)
         refusal = yb_settings(bytes, len, &mode, &target, &band, &factor, &phase);
     if (refusal == 0) /* for the stick's own target; any other can be asked for */
         refusal = yb_peaks(bytes, len, target, figures, YB_FIGURES);
     if (refusal == 0) {
-        printf("%s: complete, %" PRId64 " steps\n", argv[1], figures[YB_FIGURE_STEPS]);
+        printf("%s: complete, %" PRIu32 " steps\n", argv[1], steps);
         print_figures(figures, mode == YB_I_PEAK_SHAVE || mode == YB_I_PEAK_SHAVE_LOW);
     } else {
         printf("%s: refused %" PRIu32 " (%s) at byte %" PRIu64 " after %" PRIu32 " steps\n", argv[1], refusal,
-            yb_refusal_words(refusal), yb_check_place(bytes, len), yb_check_steps(bytes, len));
+            yb_refusal_words(refusal), place, steps);
     }
-    return fflush(stdout) != 0 ? 2 : refusal != 0;
+    if (fflush(stdout) != 0 || ferror(stdout)) {
+        fprintf(stderr, "season: the lines cannot be written\n");
+        return 2;
+    }
+    return refusal != 0;
 }

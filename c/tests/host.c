@@ -439,7 +439,7 @@ static const uint8_t *take_file(struct rest *rest)
 }
 
 /* 'C': any number of files. For each the check's number u32, place u64 and steps u32; 1 if anything was
-** written, u8.
+** written, u8; and what yb_checked left: number u32; 1 if the file or a guard was written, u8; place u64 and steps u32.
 */
 static void call_check(const uint8_t *payload, size_t length)
 {
@@ -451,6 +451,9 @@ static void call_check(const uint8_t *payload, size_t length)
         put(yb_check_place(file, n), 8);
         put(yb_check_steps(file, n), 4);
         put((uint64_t)disturbed_one(&lent_file, 1), 1);
+        uint64_t *place = lend_number(&lent[FIRST], sizeof *place);
+        uint32_t *steps = lend_number(&lent[SECOND], sizeof *steps);
+        put_file_left(yb_checked(file, n, place, steps), FIRST, SECOND);
     }
 }
 

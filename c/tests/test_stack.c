@@ -326,6 +326,24 @@ static void call_check_steps(void)
     expect(yb_check_steps(file, TOO_LONG), 0);
 }
 
+/* The same in one call. */
+static void expect_checked(size_t len, uint32_t number, uint64_t place, uint32_t steps)
+{
+    uint64_t got_place = UINT64_MAX;
+    uint32_t got_steps = UINT32_MAX;
+    expect(yb_checked(file, len, &got_place, &got_steps), number);
+    expect(got_place, place);
+    expect(got_steps, steps);
+}
+
+static void call_checked(void)
+{
+    expect_checked(FILE_LEN, 0, FILE_LEN, STEPS);
+    expect_checked(FILE_LEN - 8, 1, FILE_LEN - 34, STEPS - 1);
+    expect_checked(0, 8, 0, 0);
+    expect_checked(TOO_LONG, 12, 0, 0);
+}
+
 static void call_value_start(void)
 {
     expect(yb_value_start(file, FILE_LEN, 0), 3);
@@ -444,6 +462,7 @@ static void expect_complete(size_t len, uint64_t room)
     expect(yb_check(file, len), 0);
     expect(yb_check_place(file, len), len);
     expect(yb_check_steps(file, len), STEPS);
+    expect_checked(len, 0, len, STEPS);
     expect(yb_run_room(file, len), room);
     expect(yb_units(file, len), UNITS);
     expect(ask_unit(len, UNITS - 1), 0);
@@ -913,6 +932,7 @@ static const struct {
     {"yb_check", call_check},
     {"yb_check_place", call_check_place},
     {"yb_check_steps", call_check_steps},
+    {"yb_checked", call_checked},
     {"yb_value_start", call_value_start},
     {"yb_value_len", call_value_len},
     {"yb_units", call_units},

@@ -8,20 +8,52 @@
 #include "test_surface_file.h"
 #include "yesbrulka.h"
 
+/* The answer of a check. */
+struct answer {
+    uint32_t number;
+    uint64_t place;
+    uint32_t steps;
+};
+
+/* One that is not as expected is told, with what was called. */
+static void expect_answer(const char *call, size_t len, struct answer got, struct answer due)
+{
+    if (got.number == due.number && got.place == due.place && got.steps == due.steps)
+        return;
+    wrong++;
+    fprintf(stderr,
+        "%s, a file of %zu bytes: %" PRIu32 " at %" PRIu64 " after %" PRIu32 "; expected %" PRIu32 " at %" PRIu64
+        " after %" PRIu32 "\n",
+        call, len, got.number, got.place, got.steps, due.number, due.place, due.steps);
+}
+
+/* yb_checked: its two numbers are written for every answer, whatever they were, and nothing beside them is. */
+static void check_at_once(const uint8_t *lent, size_t len, struct answer due)
+{
+    struct {
+        uint64_t before, place, between;
+        uint32_t steps, after;
+    } out, clean;
+    for (int fill = 0; fill < 2; fill++) {
+        memset(&clean, fill == 0 ? 0x5A : 0xFF, sizeof clean);
+        out = clean;
+        uint32_t number = yb_checked(lent, len, &out.place, &out.steps);
+        expect_answer("yb_checked", len, (struct answer){number, out.place, out.steps}, due);
+        if (out.before != clean.before || out.between != clean.between || out.after != clean.after) {
+            wrong++;
+            fprintf(stderr, "yb_checked, a file of %zu bytes: something beside place and steps was written\n", len);
+        }
+    }
+}
+
 void check_file(const uint8_t *file, size_t len, uint32_t number, uint64_t place, uint32_t steps)
 {
+    struct answer due = {number, place, steps};
     for (int at_end = 0; at_end < 2; at_end++) {
         const uint8_t *lent = lend(file, len, at_end);
-        uint32_t got = yb_check(lent, len);
-        uint64_t got_place = yb_check_place(lent, len);
-        uint32_t got_steps = yb_check_steps(lent, len);
-        if (got != number || got_place != place || got_steps != steps) {
-            wrong++;
-            fprintf(stderr,
-                "a file of %zu bytes: %" PRIu32 " at %" PRIu64 " after %" PRIu32 "; expected %" PRIu32 " at %" PRIu64
-                " after %" PRIu32 "\n",
-                len, got, got_place, got_steps, number, place, steps);
-        }
+        struct answer got = {yb_check(lent, len), yb_check_place(lent, len), yb_check_steps(lent, len)};
+        expect_answer("the three calls", len, got, due);
+        check_at_once(lent, len, due);
     }
 }
 
@@ -68,10 +100,9 @@ static void test_check_cut(void)
         put_complete(limited, edition, 5000, 0);
         check_cut(limited, limited_fields);
     }
-    if (yb_check(NULL, 0) != 8 || yb_check_place(NULL, 0) != 0 || yb_check_steps(NULL, 0) != 0) {
-        wrong++;
-        fprintf(stderr, "no file at all: not 8 at 0 after 0\n");
-    }
+    struct answer none = {yb_check(NULL, 0), yb_check_place(NULL, 0), yb_check_steps(NULL, 0)};
+    expect_answer("the three calls", 0, none, (struct answer){8, 0, 0});
+    check_at_once(NULL, 0, (struct answer){8, 0, 0});
 }
 
 static void test_check_after(void)

@@ -218,8 +218,9 @@ static void test_cuts(void)
 /* However a refused file is cut, its number, place and steps are the check's, and stay. */
 static void check_refused(const uint8_t *file, size_t len)
 {
-    uint32_t number = yb_check(file, len), steps = yb_check_steps(file, len);
-    uint64_t place = yb_check_place(file, len);
+    uint32_t steps, number;
+    uint64_t place;
+    number = yb_checked(file, len, &place, &steps);
     start_over(0);
     if (number == YB_CUT_SHORT || number == YB_END_MISSING) {
         uint64_t room_len = yb_feed_room(kept, STATE, file, len);

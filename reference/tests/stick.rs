@@ -3,7 +3,7 @@
 mod checks;
 mod host;
 
-use checks::{ending, long, met, shown, Comparison, ANSWER};
+use checks::{ending, long, met, shown, Comparison, ANSWER, ANSWERS};
 use host::{refuses_cut_rows, Host};
 use yesbrulka_reference::ranges::MOST_BYTES;
 use yesbrulka_reference::reading::Reading;
@@ -604,17 +604,23 @@ fn value_parts_of_refused_fields() {
 #[test]
 fn the_host_takes_no_malformed_file() {
     let rows = [
-        (b'C', [&[4, 0, 0, 0][..], &[0; 4]].concat(), "host: op C: the payload is no row of files\n"),
+        (
+            b'C',
+            ANSWERS,
+            [&[4, 0, 0, 0][..], &[0; 4]].concat(),
+            "host: op C: the payload is no row of files\n",
+        ),
         (
             b'V',
+            ANSWER,
             [&[0; 8][..], &[4, 0, 0, 0], &[0; 4]].concat(),
             "host: op V: the payload is no row of places and files\n",
         ),
     ];
-    for (op, payload, message) in rows {
+    for (op, answer, payload, message) in rows {
         refuses_cut_rows(op, &payload, &[1, payload.len() - 5, payload.len() - 1], message);
         let mut host = Host::start();
-        assert_eq!(host.call(op, &payload).len(), ANSWER);
+        assert_eq!(host.call(op, &payload).len(), answer);
         assert!(host.end().0.success());
     }
 }

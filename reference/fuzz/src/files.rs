@@ -85,7 +85,11 @@ fn compare_check(file: &Lent<u8>, answer: Answer, to: &mut Compare) -> Outcome {
     let (bytes, length) = (file.ptr(), file.len());
     to.same("yb_check", (unsafe { yb_check(bytes, length) }, file.kept()), (answer.number, true))?;
     to.same("yb_check_place", (unsafe { yb_check_place(bytes, length) }, file.kept()), (answer.place, true))?;
-    to.same("yb_check_steps", (unsafe { yb_check_steps(bytes, length) }, file.kept()), (steps, true))
+    to.same("yb_check_steps", (unsafe { yb_check_steps(bytes, length) }, file.kept()), (steps, true))?;
+    let (mut place, mut all) = (Out::left(), Out::left());
+    let number = unsafe { yb_checked(bytes, length, place.ptr(), all.ptr()) };
+    let said = (Out::said(Some(answer.place)), Out::said(Some(steps)));
+    to.same("yb_checked", (number, (place, all), file.kept()), (answer.number, said, true))
 }
 
 /// At the place of the refusal, at the ends of the file, and anywhere.

@@ -4,6 +4,7 @@ extern "C" {
     pub fn yb_check(file: *const u8, file_len: usize) -> u32;
     pub fn yb_check_place(file: *const u8, file_len: usize) -> u64;
     pub fn yb_check_steps(file: *const u8, file_len: usize) -> u32;
+    pub fn yb_checked(file: *const u8, file_len: usize, place: *mut u64, steps: *mut u32) -> u32;
     pub fn yb_value_start(file: *const u8, file_len: usize, place: u64) -> u64;
     pub fn yb_value_len(file: *const u8, file_len: usize, place: u64) -> u64;
     pub fn yb_units(file: *const u8, file_len: usize) -> u32;

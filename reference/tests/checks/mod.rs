@@ -10,8 +10,9 @@ use yesbrulka_reference::stick::{self, Answer};
 /// Files go over in frames of about this many bytes.
 const FRAME: usize = 1 << 20;
 
-/// The bytes of a check's answer and of a value part's.
+/// The bytes of a check's answer and of a value part's. A check has two, of the three calls and of `yb_checked`.
 pub const ANSWER: usize = 17;
+pub const ANSWERS: usize = 2 * ANSWER;
 
 fn word(bytes: &[u8], at: usize) -> u32 {
     u32::from_le_bytes(bytes[at..at + 4].try_into().expect("four bytes"))
@@ -125,16 +126,18 @@ impl Comparison {
 
     fn compare(&mut self) {
         let answer = self.host.call(b'C', &self.payload);
-        assert_eq!(answer.len(), ANSWER * self.files.len(), "an answer for each file");
-        for ((file, expected), answer) in self.files.drain(..).zip(answer.chunks(ANSWER)) {
+        assert_eq!(answer.len(), ANSWERS * self.files.len(), "two answers for each file");
+        for ((file, expected), answer) in self.files.drain(..).zip(answer.chunks(ANSWERS)) {
             let got = Answer { number: word(answer, 0), place: long(answer, 4), steps: word(answer, 12) };
-            let disturbed = answer[16] != 0;
+            let at_once = Answer { number: word(answer, 17), place: long(answer, 22), steps: word(answer, 30) };
+            let disturbed = answer[16] != 0 || answer[21] != 0;
             self.all += 1;
-            if got != expected || disturbed {
+            if got != expected || at_once != expected || disturbed {
                 self.wrong += 1;
                 if self.wrong <= 10 {
                     let written = if disturbed { ", lent memory changed" } else { "" };
-                    eprintln!("{}\n  archive   {got:?}{written}\n  reference {expected:?}", shown(&file));
+                    let archive = format!("archive   {got:?}, yb_checked {at_once:?}{written}");
+                    eprintln!("{}\n  {archive}\n  reference {expected:?}", shown(&file));
                 }
             }
         }
