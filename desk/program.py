@@ -1,5 +1,6 @@
-"""What the desk's commands share as programs: where the import tool is, signals that end them, on whose way out what is
-unfinished is removed, and standard output and error as the caller has left them."""
+"""What the desk's commands share as programs: where the import tool is, and what its exit status has to be; signals that
+end them, on whose way out what is unfinished is removed; the new name of a file on the disk; and standard output and
+error as the caller has left them."""
 
 import errno
 import io
@@ -9,6 +10,12 @@ import signal
 import sys
 
 ENDING = (signal.SIGINT, signal.SIGTERM, signal.SIGHUP)
+
+# The exit status with which the import tool ends when it says that of a stick. Any other says that something went wrong.
+STATUS = {'complete': 0, 'refused': 1}
+
+# What a disk says that cannot be asked for a folder.
+NOT_ASKED = (errno.EINVAL, errno.ENOTSUP, errno.EACCES)
 
 
 def is_program(path):
@@ -24,6 +31,20 @@ def import_tool():
         if is_program(beside):
             return beside
     return shutil.which('import')
+
+
+def sync_folder(folder):
+    """Brings a new name in a folder to the disk, where the disk can be asked for that. A name that it does not confirm
+    is an OSError."""
+    try:
+        handle = os.open(folder or '.', os.O_RDONLY | os.O_DIRECTORY)
+        try:
+            os.fsync(handle)
+        finally:
+            os.close(handle)
+    except OSError as why:
+        if why.errno not in NOT_ASKED:
+            raise
 
 
 class Ended(BaseException):

@@ -1,7 +1,8 @@
 /* feed IN OUT [CHUNK]: the result of a stick that is read and run piece by piece, so that it may be of any length.
 **
 ** IN is a file, or - for standard input. It is read CHUNK bytes at a time, 65,536 where nothing is said. OUT appears
-** whole or not at all: until then the result is in OUT.unfinished, and on any failure that is removed.
+** whole or not at all: until then the result is in OUT.unfinished, and on any failure that is removed. Only a signal
+** that ends the program leaves it; delete it then.
 **
 ** Exit status 0 if the stick was complete, 1 if it was refused, 2 for a wrong call, or where something cannot be read,
 ** written or kept.
@@ -132,6 +133,10 @@ int main(int argc, char **argv)
     }
     if (fclose(out) != 0 || rename(unfinished, argv[2]) != 0)
         stop(2, argv[2], "cannot be written; what was there before still is");
+    /* OUT is in its place, and nothing was said before. */
+    unfinished = NULL;
     printf("%s: complete, %" PRIu32 " steps in %" PRIu64 " bytes\n", name, steps, place);
-    return fflush(stdout) == 0 ? 0 : 2;
+    if (fflush(stdout) != 0 || ferror(stdout))
+        stop(2, argv[2], "written whole; only the line about it is lost");
+    return 0;
 }

@@ -1,7 +1,7 @@
 /* Standard output in the place of a file. What a command says goes to standard error then, so that the bytes have
 ** standard output to themselves. Nothing is taken back from there: a command writes once all of it is sure.
 */
-#define _POSIX_C_SOURCE 200809L /* for dup, dup2 and isatty */
+#define _POSIX_C_SOURCE 200809L /* for dup, dup2, fsync and isatty */
 #include <errno.h>
 #include <string.h>
 #include <unistd.h>
@@ -29,6 +29,11 @@ int begin_output(const char *word)
     return COMPLETE;
 }
 
+static int not_whole(void)
+{
+    return failed("-", "cannot be written whole; throw away what is there: ", strerror(errno));
+}
+
 int write_output(const uint8_t *bytes, size_t len)
 {
     while (len != 0) {
@@ -37,8 +42,16 @@ int write_output(const uint8_t *bytes, size_t len)
             bytes += written;
             len -= (size_t)written;
         } else if (written == 0 || errno != EINTR) {
-            return failed("-", "cannot be written whole; throw away what is there: ", strerror(errno));
+            return not_whole();
         }
     }
     return COMPLETE;
+}
+
+/* A disk may say only now that it has not taken all of it. Of a pipe nobody can ask. */
+int end_output(void)
+{
+    if (fsync(output) != 0 && errno != EINVAL && errno != ENOTSUP && errno != EROFS)
+        return not_whole();
+    return close(output) == 0 ? COMPLETE : not_whole();
 }

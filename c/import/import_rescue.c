@@ -1,8 +1,8 @@
 /* import rescue: what can be kept of a damaged stick, as a complete one in another file, and a line for each change.
 **
-** The library says what is kept and lists the changes. Before anything is printed or written, its list is held against
-** FILE and against what it gave, field by field: every byte is FILE's own, or is listed. Why a stick ends where it does
-** is asked of the check, of FILE as it is and of FILE with its readings made missing.
+** The library says what is kept and lists the changes. Before anything is written, its list is held against FILE and
+** against what it gave, field by field: every byte is FILE's own, or is listed. Why a stick ends where it does is asked
+** of the check, of FILE as it is and of FILE with its readings made missing. The lines come when OUT is in its place.
 */
 #include <stdlib.h>
 #include <string.h>
@@ -306,26 +306,30 @@ static void print_rescued(const struct rescue *rescue, const char *out)
     printf(" made missing; a rescued stick has lost data: keep the damaged one too\n");
 }
 
-/* The lines are out before there is anything of the file: where they cannot be, OUT is as it was. Without a target the
-** bytes go to standard output.
-*/
-static int rescue_into(struct rescue *rescue, const char *out, const char *target)
+/* Writes what is kept; without a target the bytes go to standard output. */
+static int write_kept(const struct rescue *rescue, const char *target)
 {
     struct whole whole;
-    if (read_input(rescue->stick.name, file, sizeof file, &rescue->len) != COMPLETE || ask_all(rescue) != COMPLETE)
-        return FAILED;
-    if (rescue->number != 0)
-        return print_refused(rescue);
-    print_rescued(rescue, out);
-    if (fflush(stdout) != 0)
-        return FAILED;
     if (target == NULL)
-        return write_output(kept, rescue->room);
+        return write_output(kept, rescue->room) == COMPLETE ? end_output() : FAILED;
     begin_whole(&whole, target, "OUT");
     write_more(&whole, kept, rescue->room);
     int outcome = end_whole(&whole);
     drop_whole(&whole);
     return outcome;
+}
+
+/* Nothing is said to be kept before OUT is in its place. */
+static int rescue_into(struct rescue *rescue, const char *out, const char *target)
+{
+    if (read_input(rescue->stick.name, file, sizeof file, &rescue->len) != COMPLETE || ask_all(rescue) != COMPLETE)
+        return FAILED;
+    if (rescue->number != 0)
+        return print_refused(rescue);
+    if (write_kept(rescue, target) != COMPLETE)
+        return FAILED;
+    print_rescued(rescue, out);
+    return tell_written(out);
 }
 
 int rescue_command(const char *file_name, const char *out)

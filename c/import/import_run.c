@@ -8,7 +8,7 @@ static void write_records(void *to, const struct run *run)
     write_more(to, run->bytes, run->len);
 }
 
-/* The line is out before the file gets its name: where it cannot be, RESULT is as it was. */
+/* The line comes when RESULT is in its place, and not before: it says that the command is done. */
 static int run_into(const char *file, const char *target)
 {
     struct stick stick = {.name = file};
@@ -16,12 +16,13 @@ static int run_into(const char *file, const char *target)
     struct taker taker = {write_records, &whole};
     begin_whole(&whole, target, "RESULT");
     int outcome = ask_complete(&stick, &taker, "no result is written");
-    if (outcome == COMPLETE) {
-        print_answer(&stick);
-        outcome = fflush(stdout) == 0 ? end_whole(&whole) : FAILED;
-    }
+    if (outcome == COMPLETE)
+        outcome = end_whole(&whole);
     drop_whole(&whole);
-    return outcome;
+    if (outcome != COMPLETE)
+        return outcome;
+    print_answer(&stick);
+    return tell_written(target);
 }
 
 static void put_records(void *to, const struct run *run)
@@ -31,19 +32,25 @@ static void put_records(void *to, const struct run *run)
         *outcome = write_output(run->bytes, run->len);
 }
 
-/* All of the stick is accepted before anything goes to standard output; so it is run twice. */
+/* All of the stick is accepted before anything goes to standard output; so it is run twice. The line comes behind the
+** last byte.
+*/
 static int run_to_output(const char *file)
 {
     struct stick stick = {.name = file, .is_kept = 1};
     int written = COMPLETE, outcome = begin_output("RESULT");
     if (outcome == COMPLETE)
         outcome = ask_complete(&stick, NULL, "no result is written");
+    if (outcome == COMPLETE)
+        outcome = feed_again(&stick, &(struct taker){put_records, &written});
+    if (outcome == COMPLETE)
+        outcome = written == COMPLETE ? end_output() : written;
     if (outcome == COMPLETE) {
         print_answer(&stick);
-        outcome = feed_again(&stick, &(struct taker){put_records, &written});
+        outcome = tell_written("-");
     }
     free_kept(&stick);
-    return outcome == COMPLETE ? written : outcome;
+    return outcome;
 }
 
 int run_command(const char *file, const char *result)

@@ -211,6 +211,13 @@ void write_more(struct whole *whole, const uint8_t *bytes, size_t len)
         give_up(whole);
 }
 
+int tell_written(const char *name)
+{
+    if (fflush(stdout) == 0 && !ferror(stdout))
+        return COMPLETE;
+    return failed(name, "written whole; ", "only the lines about it are lost");
+}
+
 /* The disk has the bytes before they have the name. */
 int end_whole(struct whole *whole)
 {

@@ -10,7 +10,7 @@ done
 passed=0
 failed=0
 work=$(mktemp -d) || exit 2
-trap 'rm -rf "$work"' EXIT
+trap 'umount "$work/disk" 2>/dev/null; rm -rf "$work"' EXIT
 result=$work/result
 
 # good CONDITION..: count one check; what the command gave is told if it fails.
@@ -127,6 +127,89 @@ error=$(ulimit -f 1 && trap '' XFSZ && build/feed examples/harvest.stick "$resul
 status=$? output='' called='examples/harvest.stick, with a limit on the size of files'
 good said 2 "$result"
 good left
+
+# Nothing is said that is not so: a stick of several chunks, the same spoiled behind the first one, and the same cut.
+{
+    head -c 180 examples/season.stick
+    for i in 1 2 3 4 5 6 7 8 9 10; do tail -c +181 examples/season.stick | head -c -7; done
+    printf '\177\0\004\0\0\015\040'
+} >"$work/several"
+cp "$work/several" "$work/spoiled"
+printf '\377' | dd of="$work/spoiled" bs=1 seek=$((180 + 9 * 8856)) conv=notrunc status=none
+head -c 80000 "$work/several" >"$work/cut"
+build/import run "$work/several" "$work/due" >/dev/null || failed=$((failed + 1))
+lost="feed: $result: written whole; only the line about it is lost"
+
+# into PLACE FILE: call the command with its standard output there, which takes no byte: full is /dev/full, deaf a pipe
+# whose reader has gone, while SIGPIPE is switched off, disk the full disk.
+into() {
+    called="$2 $result >$1" output=''
+    case $1 in
+    full) error=$(build/feed "$2" "$result" 2>&1 >/dev/full) ;;
+    deaf) error=$(trap '' PIPE; build/feed "$2" "$result" 2>&1 >&9) ;;
+    disk) error=$(build/feed "$2" "$result" 2>&1 >"$work/disk/lines") ;;
+    esac
+    status=$?
+}
+
+# lines_to PLACE: the line cannot be written. The result is there whole, and that is told; of a refused stick there is
+# none, and the refusal goes to standard error anyway.
+lines_to() {
+    local file
+    echo before >"$result"
+    into "$1" "$work/several"
+    good test "$status|$error" = "2|$lost"
+    good cmp -s "$result" "$work/due"
+    for file in "$work/spoiled" "$work/cut" examples/refused-06-three-faults.stick; do
+        echo before >"$result"
+        into "$1" "$file"
+        good said 1 "$file: refused "
+        good test "$(cat "$result")" = before
+    done
+    good left result
+}
+
+lines_to full
+mkfifo "$work/deaf"
+: <"$work/deaf" &
+exec 9>"$work/deaf"
+wait $!
+lines_to deaf
+exec 9>&-
+# A full disk, for the result and for the line.
+mkdir "$work/disk"
+if mount -t tmpfs -o size=64k none "$work/disk" 2>/dev/null; then
+    echo before >"$work/disk/result"
+    head -c 65536 /dev/zero >"$work/disk/fill" 2>/dev/null
+    call /dev/null "$work/several" "$work/disk/result"
+    good said 2 "$work/disk/result.unfinished: cannot be written; nothing is under the name of OUT that was not there"
+    good test "$(cat "$work/disk/result")|$(ls -A "$work/disk")" = $'before|fill\nresult'
+    lines_to disk
+    umount "$work/disk"
+else
+    echo 'NOT RUN: a full disk: no small disk can be mounted here; a limit on the size of files ran in its place'
+fi
+# The limit stands for such a disk.
+for limit in 1 16 64; do
+    echo before >"$result"
+    error=$(ulimit -f "$limit" && trap '' XFSZ && build/feed "$work/several" "$result" 2>&1 >"$work/output")
+    status=$? output=$(cat "$work/output") called="several, with a limit of $limit KiB"
+    good said 2 "$result"
+    good test "$(cat "$result")" = before
+    good left result
+done
+# Standard input that fails where the stick ends: it has not come to its end, though its end mark is there.
+if command -v python3 >/dev/null; then
+    for file in "$work/several" "$work/cut" examples/season.stick; do
+        error=$(c/tests/failing_input.py "$file" build/feed - "$result" 2>&1 >"$work/output")
+        status=$? output=$(cat "$work/output") called="- $result, where standard input fails behind $file"
+        good test "$status|$output|$error" = '2||feed: standard input: cannot be read to its end'
+        good test "$(cat "$result")" = before
+        good left result
+    done
+else
+    echo 'NOT RUN: standard input that fails behind a stick; install the package python3'
+fi
 
 echo "$passed passed, $failed failed"
 [ "$failed" = 0 ]

@@ -253,7 +253,7 @@ small_sticks() {
 
 # The suites, each in a part of its own.
 for part in check run faults settle result limits older roof current advice voltage values show feed rescue rescue_out \
-    partner words peak summary json canned rescue_canned partner_canned peak_canned; do
+    partner words peak summary json writes canned rescue_canned partner_canned peak_canned; do
     # shellcheck disable=SC1090 # one of the parts beside this
     . "c/tests/test_import_$part.sh" || exit 1
 done
@@ -327,6 +327,7 @@ all_suites() {
     rescue_files_suite
     rescue_target_suite
     rescue_full_suite
+    writes_suite
     rm -rf "${work:?}"/*
 }
 
@@ -343,6 +344,7 @@ plain_half() {
     ended_suite
     feed_fault_suite
     rescue_fault_suite
+    writes_fault_suite
     partner_fault_suite
     largest_suite
     largest_roof_suite

@@ -52,19 +52,19 @@ fault_suite() {
         good written season
     done
     faulty fsync:2:5 "$stick"
-    good test "$status|$error" = "2|import: $work/out/result: written, but the disk did not confirm its name; call \
-again: Input/output error"
+    good test "$status|$output|$error" = "2||import: $work/out/result: written, but the disk did not confirm its name; \
+call again: Input/output error"
     good written season
     # A signal at each of them. From the last on the result is there.
     for signal in 1 2 3 13 15; do
         for fault in openat:1 write:1 'write:1:half write:2' fsync:1 close:1; do
             faulty "$fault:-$signal" "$stick"
-            good test "$status|$error" = "$((128 + signal))|$told"
+            good test "$status|$output|$error" = "$((128 + signal))||$told"
             good kept
         done
         for fault in renameat:1 fsync:2; do
             faulty "$fault:-$signal" "$stick"
-            good test "$status|$error" = "$((128 + signal))|"
+            good test "$status|$output|$error" = "$((128 + signal))||"
             good written season
         done
     done

@@ -7,11 +7,10 @@ no_place() {
     check 2 '' "import: $2: cannot be written: $3" rescue "$1" "$2"
 }
 
-# failed_rescue OUT WHY: what is said where a name that is to be written was tried.
+# failed_rescue OUT WHY: what is said where a name that is to be written was tried, and nothing else is.
 wreck=examples/refused-06-three-faults.stick
 failed_rescue() {
-    good test "$status|$error" = "2|import: $1: cannot be written: $2"$'\n'"$(then_do "$2" OUT)"
-    good like "$output" "*: $(lost '83 steps' '2 readings')"
+    good test "$status|$output|$error" = "2||import: $1: cannot be written: $2"$'\n'"$(then_do "$2" OUT)"
 }
 
 rescue_target_suite() {
@@ -65,15 +64,15 @@ rescue_target_suite() {
     (umask 027 && "$import" rescue "$wreck" "$work/out/result" >/dev/null)
     good test "$(stat -c %a "$work/out/result")" = 640
 
-    # Lines that cannot be written leave what was there as it was.
+    # The lines come when OUT is there: where they cannot be written, that is told.
     local closed
     for closed in '>/dev/full' '>&-' '<&- >&-'; do
         old
         called="rescue $closed" output=''
         error=$(eval "'$import' rescue '$wreck' '$work/out/result' 2>&1 $closed")
         status=$?
-        good test "$status|$error" = '2|import: the lines cannot be written'
-        good kept
+        lines_lost "$work/out/result"
+        good saved
     done
 }
 
@@ -123,8 +122,8 @@ rescue_fault_suite() {
         good saved
     done
     faulty fsync:2:5 "$wreck" "$hearing" rescue
-    good test "$status|$error" = "2|import: $work/out/result: written, but the disk did not confirm its name; call \
-again: Input/output error"
+    good test "$status|$output|$error" = "2||import: $work/out/result: written, but the disk did not confirm its name; \
+call again: Input/output error"
     good saved
     for signal in 1 2 3 13 15; do
         # Before there is anything of it, nothing has to be removed or said.
@@ -133,12 +132,12 @@ again: Input/output error"
         good kept
         for fault in openat:1 write:1 'write:1:half write:2' fsync:1 close:1; do
             faulty "$fault:-$signal" "$wreck" "$hearing" rescue
-            good test "$status|$error" = "$((128 + signal))|$told"
+            good test "$status|$output|$error" = "$((128 + signal))||$told"
             good kept
         done
         for fault in renameat:1 fsync:2; do
             faulty "$fault:-$signal" "$wreck" "$hearing" rescue
-            good test "$status|$error" = "$((128 + signal))|"
+            good test "$status|$output|$error" = "$((128 + signal))||"
             good saved
         done
     done
@@ -153,8 +152,8 @@ again: Input/output error"
     done
     faulty fsync:2:-9 "$wreck" "$hearing" rescue
     good saved
-    # Nobody reads the lines, which come before anything is written.
+    # Nobody reads the lines, which come when OUT is there.
     unheard rescue "$wreck"
     good test "$status|$(grep -v '^qemu: uncaught target signal' <<<"$error")" = '141|'
-    good kept
+    good saved
 }

@@ -129,10 +129,15 @@ then_do() {
 }
 denied='there is no permission to write in its folder'
 
-# failed_write RESULT WHY [FILE]: the same for a result that was tried.
+# failed_write RESULT WHY: the same for a result that was tried; nothing is said but that.
 failed_write() {
-    good test "$status|$output|$error" = \
-        "2|${3:-examples/season.stick}: complete, 336 steps|import: $1: cannot be written: $2"$'\n'"$(then_do "$2")"
+    good test "$status|$output|$error" = "2||import: $1: cannot be written: $2"$'\n'"$(then_do "$2")"
+}
+
+# lines_lost OUT: the file is in its place, and only what there was to say of it could not be written.
+lines_lost() {
+    good test "$status|$output|$error" = "2||import: $1: written whole; only the lines about it are lost
+import: the lines cannot be written"
 }
 
 # unwritable COMMAND FILE WORD DENIED..: folders that another user may not write to or even enter, and then a file that
@@ -205,29 +210,31 @@ target_suite() {
     failed_write "$name" 'File name too long'
     cp "$stick" "$work/season.stick"
     unwritable run "$work/season.stick" RESULT \
-        failed_write "$work/out/result" "$denied" "$work/season.stick"
+        failed_write "$work/out/result" "$denied"
 
-    # Files that cannot be read, and lines that cannot be written, leave the result as it was.
+    # Files that cannot be read leave the result as it was.
     old
     check 2 '' 'import: none: cannot be read: No such file or directory' run none "$work/out/result"
     check 2 '' 'import: examples: cannot be read: it is a folder' run examples "$work/out/result"
     good kept
+    # The line comes when the result is there: where it cannot be written, that is told.
     error=$("$import" run "$stick" "$work/out/result" 2>&1 >/dev/full)
     status=$? output='' called='run >/dev/full'
-    good test "$status|$error" = '2|import: the lines cannot be written'
-    good kept
+    lines_lost "$work/out/result"
+    good written season
+    old
     error=$("$import" run "$stick" "$work/out/result" 2>&1 >&-)
     status=$? called='run >&-'
-    good test "$status|$error" = '2|import: the lines cannot be written'
-    good kept
+    lines_lost "$work/out/result"
+    good written season
 }
 
 # Disks that are full: one that is really so, and a limit on the size of files.
 full_suite() {
     local stick=examples/season.stick
     old
-    error=$(ulimit -f 8 && "$import" run "$stick" "$work/out/result" 2>&1 >/dev/null)
-    status=$? output="$stick: complete, 336 steps" called='run, with a limit of 8 KiB'
+    error=$(ulimit -f 8 && "$import" run "$stick" "$work/out/result" 2>&1 >"$work/output")
+    status=$? output=$(cat "$work/output") called='run, with a limit of 8 KiB'
     failed_write "$work/out/result" 'File too large'
     good kept
     mkdir -p "$work/disk"

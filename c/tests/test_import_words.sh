@@ -118,8 +118,8 @@ dash_suite() {
         # shellcheck disable=SC2086 # the words
         error=$("$import" $name - 2>&1 >/dev/full)
         status=$? called="$name - >/dev/full"
-        good like "$status|$error" \
-            '2|*import: -: cannot be written whole; throw away what is there: No space left on device'
+        good test "$status|$error" = \
+            '2|import: -: cannot be written whole; throw away what is there: No space left on device'
         # shellcheck disable=SC2086 # the words
         error=$("$import" $name - 2>&1 >&-)
         status=$? called="$name - >&-"

@@ -84,8 +84,8 @@ calls_with() {
         good test "$status|$output|$error" = '2||season: the file cannot be read'
         call $YB_EMULATOR "$1" "$work"
         good test "$status|$output|$error" = '2||season: the file cannot be read'
-        $YB_EMULATOR "$1" examples/mill.stick >/dev/full
-        good test $? = 2
+        error=$($YB_EMULATOR "$1" examples/mill.stick 2>&1 >/dev/full)
+        good test "$?|$error" = '2|season: the lines cannot be written'
     }
 }
 

@@ -1,8 +1,9 @@
 #!/bin/bash
 # The Rattle programs stick_check, stick_run and settle give for standard input what the import tool gives for a
 # file: on every sample stick, on an empty file, at the buffer's size and one byte beyond it; stick_run, which is fed,
-# on sticks of any length. stick_check shows the refused field's value bytes besides. stick_partner takes two files by
-# name. Each failed check is told on standard error; the last line counts them.
+# on sticks of any length. stick_check shows the refused field's value bytes besides; stick_partner takes two files by
+# name. They say nothing that is not so where standard output takes no byte, or standard input fails. Each failed check
+# is told on standard error; the last line counts them.
 set -u
 cd "$(dirname "${BASH_SOURCE[0]}")/../.." || exit 2
 # shellcheck source=tools/env.sh
@@ -14,7 +15,7 @@ done
 passed=0
 failed=0
 work=$(mktemp -d) || exit 2
-trap 'rm -rf "$work"' EXIT
+trap 'umount "$work/disk" 2>/dev/null; rm -rf "$work"' EXIT
 
 # The programs look for the C library of x86-64: in its own place where that is installed, else where the cross
 # compiler has it.
@@ -246,14 +247,113 @@ good test -s "$work/output"
 { cat "$work/long"; printf '\0'; } >"$work/more"
 run_it "$work/more"
 
-# A result that cannot be written is told, at the first step and, where there is none, at the end record.
+# into PLACE FILE PROGRAM WORD..: run a program on a file, with its standard output there: full is /dev/full; deaf a pipe
+# whose reader has gone, while SIGPIPE is switched off; disk a small disk; limit a file that may have 8 KiB.
+into() {
+    local place=$1 file=$2 program=$3
+    shift 3
+    called="$program $* <$file >$place"
+    : >"$work/output"
+    case $place in
+    full) error=$("${how[@]}" "target/bin/$program" "$@" 2>&1 >/dev/full <"$file") ;;
+    deaf) error=$(trap '' PIPE; "${how[@]}" "target/bin/$program" "$@" 2>&1 >&9 <"$file") ;;
+    disk) error=$("${how[@]}" "target/bin/$program" "$@" 2>&1 >"$work/disk/output" <"$file") ;;
+    limit) error=$(trap '' XFSZ; ulimit -f 8; "${how[@]}" "target/bin/$program" "$@" 2>&1 >"$work/output" <"$file") ;;
+    esac
+}
+
+# true_of FILE: nothing on standard error says complete, but of a stick that the check accepts.
+true_of() {
+    [[ $error != *complete* || $(line "$1") == *': complete, '* ]]
+}
+
+# unwritten PLACE FILE: stick_run cannot write there all that it has. It stops, has not read to the end, and says so; the
+# end record of a stick without steps comes when all is read. Of a stick that is refused before any step was written, the
+# refusal is all there is to say.
+not_whole='standard output: not written whole; throw away what it holds'
+unwritten() {
+    into "$1" "$2" stick_run
+    good true_of "$2"
+    case $(line "$2") in
+    *': complete, 0 steps') good test "${error#*$'\n'}" = "$not_whole" ;;
+    *': complete, '*) good test "$error" = "standard input: not read to its end"$'\n'"$not_whole" ;;
+    *) good stopped_or_refused "$2" ;;
+    esac
+}
+
+stopped_or_refused() {
+    [ "$error" = "standard input: not read to its end"$'\n'"$not_whole" ] || [ "$error" = "$(line "$1")" ]
+}
+
+# unheard PLACE FILE: what stick_check and settle say does not get there either.
+unheard() {
+    into "$1" "$2" stick_check
+    good true_of "$2"
+    into "$1" "$2" settle 1000
+    good true_of "$2"
+    good test "${error#*settled}" = "$error"
+}
+
+# A result that cannot be written is told, at the first step and, where there is none, at the end record; sticks that are
+# refused at once or far behind, cut, and whole.
 { head -c 180 examples/season.stick; printf '\177\0\004\0\0\0\0'; } >"$work/none"
 all_of "$work/none"
-for file in examples/season.stick "$work/none"; do
-    error=$("${how[@]}" target/bin/stick_run 2>&1 >/dev/full <"$file")
-    called="stick_run <$file >/dev/full"
-    good test "$error" = "$(line "$file")"$'\n''standard output: not written whole; throw away what it holds'
+cp "$work/long" "$work/spoiled"
+printf '\177\370' | dd of="$work/spoiled" bs=1 seek=$((180 + 46 * 5000 + 22)) conv=notrunc status=none
+head -c 100000 "$work/long" >"$work/part"
+good test "$(line "$work/spoiled")" = "standard input: refused 6 (reading not usable) at byte $((180 + 46 * 5000 + 19)) \
+after 5000 steps"
+mkfifo "$work/deaf"
+: <"$work/deaf" &
+exec 9>"$work/deaf"
+wait $!
+for place in full deaf; do
+    for file in examples/season.stick "$work/none" "$work/full" "$work/long" "$work/spoiled" "$work/part" \
+        "$work/cut" "$work/more" /dev/null examples/refused-*.stick; do
+        unwritten "$place" "$file"
+        unheard "$place" "$file"
+    done
 done
+exec 9>&-
+# A disk that takes a part.
+places=limit
+mkdir "$work/disk"
+if mount -t tmpfs -o size=64k none "$work/disk" 2>/dev/null; then
+    places='limit disk'
+else
+    echo 'NOT RUN: a full disk: no small disk can be mounted here; a limit on the size of files ran in its place'
+fi
+for place in $places; do
+    for file in "$work/full" "$work/long" "$work/spoiled" "$work/part" "$work/cut" "$work/more"; do
+        unwritten "$place" "$file"
+    done
+    into "$place" examples/season.stick stick_check
+    good true_of examples/season.stick
+done
+umount "$work/disk" 2>/dev/null
+
+# unreadable COMMAND..: a program whose standard input cannot be read says so, and gives no verdict.
+unreadable() {
+    called=$*
+    error=$("$@" 2>&1 >"$work/output")
+    error+=$(cat "$work/output" | tr -d '\0')
+    good grep -q '^standard input: cannot be read$' <<<"$error"
+    good test "$(grep -cE 'complete|refused|settled|request' <<<"$error")" = 0
+}
+# A folder, and a device that fails: at once, and where a stick ends, which then has not come to its end.
+for program in stick_check stick_run 'settle 1000'; do
+    for file in "$work" /proc/self/mem; do
+        # shellcheck disable=SC2086 # the words
+        unreadable "${how[@]}" target/bin/$program <"$file"
+    done
+    if command -v python3 >/dev/null; then
+        for file in examples/season.stick "$work/full" "$work/none" examples/refused-06-three-faults.stick; do
+            # shellcheck disable=SC2086 # the words
+            unreadable c/tests/failing_input.py "$file" "${how[@]}" target/bin/$program
+        done
+    fi
+done
+command -v python3 >/dev/null || echo 'NOT RUN: standard input that fails behind a stick; install the package python3'
 
 # How far a study is from done that its budget stopped: every kind of line.
 spent_stick >"$work/spent"

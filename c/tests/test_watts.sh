@@ -43,14 +43,26 @@ check 2 '' "watts: '1.5kW' is no number" 1 1.5kW 2
 check 2 '' "watts: '' is no number" ''
 check 2 '' "watts: '1,5' is no number" 1,5
 
-# A full device is no success.
-"$watts" 1.5 >/dev/full 2>/dev/null
-if [ $? = 2 ]; then
-    passed=$((passed + 1))
-else
-    failed=$((failed + 1))
-    echo "watts 1.5 >/dev/full: not status 2" >&2
-fi
+# A full device, and a pipe that nobody reads, are no success: for a line or two, and for more than a buffer holds.
+fifo=$(mktemp -u build/test_watts.XXXXXX)
+mkfifo "$fifo"
+: <"$fifo" &
+exec 8>/dev/full 9>"$fifo"
+wait $!
+rm "$fifo"
+for words in 1.5 'nan 1.5' "$(yes 1.5 | head -n 2000)"; do
+    for place in 8 9; do
+        # shellcheck disable=SC2086 # the words
+        said=$(trap '' PIPE; "$watts" $words 2>&1 >&"$place")
+        if [ "$?|$said" = '2|watts: the lines cannot be written' ]; then
+            passed=$((passed + 1))
+        else
+            failed=$((failed + 1))
+            echo "watts ${words:0:20}, lines that cannot be written: $said" >&2
+        fi
+    done
+done
+exec 8>&- 9>&-
 
 echo "$passed passed, $failed failed"
 [ "$failed" = 0 ]

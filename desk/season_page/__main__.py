@@ -100,16 +100,17 @@ def make(stick, out):
     except Failed as fault:
         raise about(out, fault) from fault
     say(f'{shown(out)}: the season of {shown(stick)}, {many(told.steps, "step")}, {batteries(len(told.batteries))}, '
-        f'{grouped(len(whole))} bytes')
+        f'{grouped(len(whole))} bytes', f'; {shown(out)} is written whole')
 
 
-def say(line):
+def say(line, then=''):
+    """Says a line; where it cannot be written that is told, and what is there all the same."""
     try:
         print(line, flush=True)
     except OSError as fault:
         # What could not be written is not tried once more at the end.
         sys.stdout = None
-        raise Failed(f'the line cannot be written: {fault.strerror}') from fault
+        raise Failed(f'the line cannot be written: {fault.strerror}{then}') from fault
 
 
 def call(arguments):

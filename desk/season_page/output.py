@@ -3,7 +3,7 @@ import os
 import stat
 import tempfile
 
-from program import Waiting, release
+from program import Waiting, release, sync_folder
 
 from .faults import Failed
 
@@ -53,3 +53,7 @@ def write(path, page):
         if beside is not None:
             os.unlink(beside)
         release()
+    try:
+        sync_folder(os.path.dirname(path))
+    except OSError as fault:
+        raise Failed('written, but the disk did not confirm its name; call again: ' + fault.strerror) from fault

@@ -4,6 +4,8 @@ import subprocess
 import textwrap
 from contextlib import contextmanager
 
+from program import STATUS
+
 from .faults import Failed, Refused
 
 # No complete stick has more bytes: of a longer file so many tell what is wrong with it.
@@ -42,6 +44,8 @@ class Tool:
             raise Failed(f'import {command} --json gives no object: {errors(done.stderr)}') from fault
         if told.get('status') == 'failed':
             raise Failed(f'import {command}: {told.get("what")}')
+        if STATUS.get(told.get('status')) != done.returncode:
+            raise Failed(f'import {command}: it ended with status {done.returncode}: {errors(done.stderr)}')
         return told
 
     def check(self):
@@ -73,16 +77,17 @@ class Tool:
             try:
                 yield table.stdout
             except Failed:
-                # Where the tool failed, its own words say more.
-                ended(run, table)
+                # Where the tool failed, its own words say more. A signal that ended it is of no account: it comes where
+                # nobody reads on.
+                ended(run, table, lambda status: status > 0)
                 raise
-            ended(run, table)
+            ended(run, table, lambda status: status != 0)
 
 
-def ended(run, table):
+def ended(run, table, is_bad):
     table.stdout.close()
     told = table.stderr.read().strip()
-    if table.wait() > 0 or run.wait() > 0:
+    if is_bad(table.wait()) or is_bad(run.wait()):
         raise Failed(f'import table: {told or "it failed"}')
 
 

@@ -84,8 +84,8 @@ def make(names):
     return checked.write_checked(target, data, verify)
 
 
-def say(lines):
-    """Says what there is to say; what cannot be said is a failure, though the stick is there."""
+def say(lines, then):
+    """Says what there is to say; what cannot be said is a failure, and then it is told that the stick is there."""
     try:
         for line in lines:
             print(line)
@@ -94,7 +94,7 @@ def say(lines):
     except OSError as why:
         # Python would try once more when it ends.
         os.dup2(os.open(os.devnull, os.O_WRONLY), 1)
-        print(f'stick-from-csv: what is to be said cannot be written: {why.strerror}', file=sys.stderr)
+        print(f'stick-from-csv: what is to be said cannot be written: {why.strerror}{then}', file=sys.stderr)
         return 2
 
 
@@ -115,7 +115,7 @@ def called():
         traceback.print_exc()
         print('stick-from-csv: a fault of this program, not of the log or the site file', file=sys.stderr)
         return 2
-    return say(lines)
+    return say(lines, '' if names is None else f'; {plain(names[2])} is written whole')
 
 
 def main():

@@ -7,7 +7,7 @@ import os
 import stat
 import subprocess
 
-from program import Waiting, import_tool, is_program, release
+from program import STATUS, Waiting, import_tool, is_program, release, sync_folder
 
 from .words import Failed, plain
 
@@ -91,7 +91,11 @@ def write_checked(target, data, verify):
         with contextlib.suppress(OSError):
             os.unlink(beside)
         release()
-    sync_folder(os.path.dirname(target))
+    try:
+        sync_folder(os.path.dirname(target))
+    except OSError as why:
+        raise Failed(f'{plain(target)}: written, but the disk did not confirm its name; call again: {why.strerror}') \
+            from None
     return answer
 
 
@@ -106,16 +110,6 @@ def write_beside(beside, target, data):
         os.fsync(handle)
 
 
-def sync_folder(folder):
-    """Brings the new name to the disk, where the disk takes that."""
-    with contextlib.suppress(OSError):
-        handle = os.open(folder, os.O_RDONLY | os.O_DIRECTORY)
-        try:
-            os.fsync(handle)
-        finally:
-            os.close(handle)
-
-
 def check(tool, path, data, steps):
     """What import says of a stick; one that it refuses, or counts otherwise, is a fault of this program."""
     try:
@@ -124,7 +118,7 @@ def check(tool, path, data, steps):
     except OSError as why:
         raise Failed(f'{plain(tool)}: cannot be run: {why.strerror or why}') from None
     answer = answer_in(done.stdout)
-    if answer is None or answer['status'] not in ('complete', 'refused'):
+    if answer is None or STATUS.get(answer['status']) != done.returncode:
         said = plain(done.stderr.decode('utf-8', 'replace').strip())[-300:]
         raise Failed(f'{plain(tool)}: gives no answer about the stick, status {done.returncode}'
                      f'{": " if said else ""}{said}; is it the import tool?')

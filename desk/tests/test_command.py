@@ -125,7 +125,8 @@ out.stick: complete, 2 steps
             done = subprocess.run([COMMAND, 'log.csv', 'site.toml', 'out.stick'], stdout=full, stderr=subprocess.PIPE,
                                   cwd=self.folder, check=False)
         self.assertEqual((done.returncode, done.stderr),
-                         (2, b'stick-from-csv: what is to be said cannot be written: No space left on device\n'))
+                         (2, b'stick-from-csv: what is to be said cannot be written: No space left on device; out.stick is '
+                             b'written whole\n'))
         self.assertEqual(len(self.bytes_of('out.stick')), 137)
 
     def test_streams_that_are_closed(self):
@@ -133,7 +134,8 @@ out.stick: complete, 2 steps
         done = subprocess.run(['sh', '-c', 'exec "$@" >&-', 'sh', COMMAND, 'log.csv', 'site.toml', 'out.stick'],
                               cwd=self.folder, check=False, capture_output=True)
         self.assertEqual((done.returncode, done.stderr),
-                         (2, b'stick-from-csv: what is to be said cannot be written: Bad file descriptor\n'))
+                         (2, b'stick-from-csv: what is to be said cannot be written: Bad file descriptor; out.stick is '
+                             b'written whole\n'))
         self.assertEqual(len(self.bytes_of('out.stick')), 137)
         os.unlink(self.path('out.stick'))
         done = subprocess.run(['sh', '-c', 'exec "$@" <&- >&- 2>&-', 'sh', COMMAND, 'log.csv', 'site.toml',

@@ -199,11 +199,13 @@ class Output(Case):
         """The page is made all the same, and the exit status says that something is wrong."""
         done = self.through('exec "$@" >/dev/full')
         self.assertEqual((done.returncode, done.stderr),
-                         (2, 'season-page: the line cannot be written: No space left on device\n'))
+                         (2, 'season-page: the line cannot be written: No space left on device; '
+                             f'{self.path("page.html")} is written whole\n'))
         self.assertTrue(os.path.exists(self.path('page.html')))
         done = self.through('exec "$@" >&-')
         self.assertEqual((done.returncode, done.stderr),
-                         (2, 'season-page: the line cannot be written: Bad file descriptor\n'))
+                         (2, 'season-page: the line cannot be written: Bad file descriptor; '
+                             f'{self.path("page.html")} is written whole\n'))
         # Nobody hears why, and nothing else takes the place of what is closed.
         done = self.through('exec "$1" "$2.none" "$3" <&- >&- 2>&-')
         self.assertEqual((done.returncode, done.stdout, done.stderr), (2, '', ''))
