@@ -51,7 +51,9 @@ int is_reading(uint8_t tag);
 
 /* A stick as far as it was fed to the library, and the library's answer. A caller gives its name, and that of a result
 ** that was given with it; and says whether the bytes of a refused field are to be shown, and whether all bytes are to
-** be kept, to be fed again. All else is the feed's, and what it points to is there until the next stick is fed.
+** be kept, to be fed again. All else is the feed's, and what it points to is there until the next stick is fed. Its
+** len is what was fed, and size the bytes of all of the file, or 0 where nobody knows them: of a refused one that comes
+** through a pipe the end may not have come.
 **
 ** The head is a file by itself: the fields before the first step, and an end field. It is complete where the stick is,
 ** and what a stick says is asked of it. The window is a part of the file from a place on, and has what is known of the
@@ -61,7 +63,7 @@ int is_reading(uint8_t tag);
 struct stick {
     const char *name, *result;
     int is_shown, is_kept;
-    uint64_t len, place;
+    uint64_t len, size, place;
     uint32_t number, steps;
     struct before before;
     const uint8_t *head, *window;

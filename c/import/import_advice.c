@@ -406,6 +406,22 @@ static void tell_number(struct told *told, const struct stick *stick, const stru
     }
 }
 
+/* A rescue takes no file that is too long, and none that a new end could make so. */
+static void say_rescue(struct text *text, const struct stick *stick)
+{
+    enum { NEW_END = 7 };
+    uint64_t size = stick->size > stick->len ? stick->size : stick->len;
+    if (size > YB_MOST_FILE_BYTES - NEW_END)
+        return;
+    say(text, " import rescue keeps what can be kept of this one");
+    if (stick->size == 0) {
+        say(text, ", if it has no more than the ");
+        say_number(text, YB_MOST_FILE_BYTES);
+        say(text, " bytes that a rescue takes");
+    }
+    say(text, ".");
+}
+
 void tell_refusal(struct told *told, const struct stick *stick)
 {
     struct field field = refused_field(stick);
@@ -416,7 +432,7 @@ void tell_refusal(struct told *told, const struct stick *stick)
         tell_number(told, stick, &field);
     /* Where a step has begun a rescue has something to keep. */
     if (!told->is_fault && (has_steps_before(&stick->before) || stick->number == YB_AFTER_END))
-        say(&told->advice, " import rescue keeps what can be kept of this one.");
+        say_rescue(&told->advice, stick);
 }
 
 const char *refusal_name(const struct stick *stick)

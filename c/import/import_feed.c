@@ -165,14 +165,14 @@ void free_kept(struct stick *stick)
     stick->kept_room = 0;
 }
 
-/* The progress of a stick that is long, by its size, which is 0 where nobody knows it, or by what has come. */
-static void tell_progress(const struct stick *stick, uint64_t size)
+/* The progress of a stick that is long, by its size, or by what has come. */
+static void tell_progress(const struct stick *stick)
 {
     char text[PROGRESS], of[PROGRESS / 2] = "";
-    if (size <= YB_MOST_FILE_BYTES && stick->len <= YB_MOST_FILE_BYTES)
+    if (stick->size <= YB_MOST_FILE_BYTES && stick->len <= YB_MOST_FILE_BYTES)
         return;
-    if (size >= stick->len)
-        snprintf(of, sizeof of, " of %" PRIu64, size);
+    if (stick->size >= stick->len)
+        snprintf(of, sizeof of, " of %" PRIu64, stick->size);
     snprintf(text, sizeof text, "%" PRIu64 "%s bytes, %" PRIu32 " steps", stick->len, of, stick->steps);
     show_progress(text);
 }
@@ -204,14 +204,15 @@ static int next_chunk(struct stick *stick, const struct taker *taker, FILE *in, 
 
 static int feed_all(struct stick *stick, const struct taker *taker, FILE *in)
 {
-    uint64_t size = input_size(in);
     size_t count = CHUNK;
     int outcome = start_feed(stick->name);
     while (outcome == COMPLETE && count == CHUNK) {
         outcome = next_chunk(stick, taker, in, &count);
         if (outcome == COMPLETE)
-            tell_progress(stick, size);
+            tell_progress(stick);
     }
+    if (count < CHUNK)
+        stick->size = stick->len;
     return outcome == COMPLETE ? feed_end(stick, taker) : outcome;
 }
 
@@ -221,6 +222,7 @@ static int feed_input(struct stick *stick, const struct taker *taker, FILE *in)
     if (in == NULL)
         return failed(stick->name, "cannot be read: ", reading_fault());
     begin_fields(stick);
+    stick->size = input_size(in);
     int outcome = feed_all(stick, taker, in);
     if (outcome == REFUSED && find_refused(stick, in) != COMPLETE)
         outcome = FAILED;
@@ -238,7 +240,9 @@ int feed_file(struct stick *stick, const struct taker *taker)
 
 int feed_bytes(struct stick *stick, uint8_t *bytes, size_t len)
 {
-    return feed_input(stick, NULL, fmemopen(bytes, len, "rb"));
+    int outcome = feed_input(stick, NULL, fmemopen(bytes, len, "rb"));
+    stick->size = len;
+    return outcome;
 }
 
 int feed_again(const struct stick *stick, const struct taker *taker)

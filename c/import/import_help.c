@@ -146,15 +146,16 @@ static const char table_text[] =
 
 static const char run_text[] =
     "Replaces a RESULT that is there. If it is killed (kill -9, a power cut) a file whose name begins\n"
-    "with .import-unfinished may be left beside RESULT; delete it. To standard output nothing is\n"
-    "written before all of FILE is accepted.\n";
+    "with .import-unfinished may be left beside RESULT; delete it. The line comes when RESULT is in its\n"
+    "place. To standard output nothing is written before all of FILE is accepted.\n";
 
 static const char rescue_text[] =
-    "Says what check says of FILE, then a line for each change. The fields before the steps must be\n"
-    "good. From there on a reading that cannot be used becomes a missing one; at anything else that is\n"
-    "wrong the stick ends, with a new end field that counts the steps before it. What is kept is as it\n"
-    "was, byte for byte. OUT is written whole or not at all, as RESULT is; a complete FILE is written\n"
-    "as it is. A rescued stick has lost data: keep the damaged one.\n";
+    "Says what check says of FILE, then a line for each change, all of it when OUT is in its place. The\n"
+    "fields before the steps must be good. From there on a reading that cannot be used becomes a\n"
+    "missing one; at anything else that is wrong the stick ends, with a new end field that counts the\n"
+    "steps before it. What is kept is as it was, byte for byte. OUT is written whole or not at all, as\n"
+    "RESULT is; a complete FILE is written as it is. A rescued stick has lost data: keep the damaged\n"
+    "one.\n";
 
 static const char partner_text[] =
     "A RESULT is right if it is, byte for byte, what run gives. Of another one the first field that is\n"

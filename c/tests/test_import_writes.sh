@@ -198,6 +198,46 @@ stopped() {
     rm "$work/slow"
 }
 
+# kept_of FILE: where the check says that a rescue keeps something of a file, it does; and where it does not, none does.
+kept_of() {
+    call check "$1"
+    output=$(tr -s ' \n' '  ' <"$work/output")
+    if [[ $output == *' import rescue keeps what can be kept of this one. '* ]]; then
+        good "$import" rescue "$1" "$work/again" >/dev/null
+    else
+        good test "${output#*import rescue}" = "$output"
+        "$import" rescue "$1" "$work/again" >/dev/null 2>&1
+        good test $? = 1
+    fi
+}
+
+# A stick that is longer than a rescue takes is sent to none; of one whose end has not come through the pipe that is said.
+rescue_advice() {
+    local file keeps='import rescue keeps what can be kept of this one'
+    long_stick
+    cp "$work/long" "$work/late"
+    patch "$work/late" $((76 + 46 * 65000 + 19 + 3)) 7FF8
+    cp "$work/long" "$work/soon"
+    patch "$work/soon" $((76 + 46 * 100 + 19 + 3)) 7FF8
+    head -c 3000000 "$work/long" >"$work/short"
+    for file in examples/refused-*.stick "$work/spoiled" "$work/early" "$work/cut" "$work/late" "$work/soon" \
+        "$work/short"; do
+        kept_of "$file"
+    done
+    for file in "$work/late" "$work/short"; do
+        call check - < <(cat "$file")
+        good test "$status|${output#*import rescue}" = "1|$output"
+    done
+    call check - < <(cat "$work/soon")
+    good like "$status|$(tr -s ' \n' '  ' <"$work/output")" "1|* $keeps, if it has no more than the 2,097,152 bytes that \
+a rescue takes. "
+    for file in "$work/cut" "$wreck"; do
+        call check - < <(cat "$file")
+        good like "$status|$(tr -s ' \n' '  ' <"$work/output")" "1|* $keeps. "
+    done
+    rm "$work/long" "$work/late" "$work/soon" "$work/short"
+}
+
 # What is said where something cannot be written.
 writes_suite() {
     local place
@@ -223,6 +263,7 @@ writes_suite() {
     exec 9>&-
     rm "$work/deaf"
     stopped
+    rescue_advice
     # Folders that are not there; disks that are full.
     for place in 'run examples/season.stick' "rescue $wreck" "rescue $work/spoiled" "rescue $work/several"; do
         # shellcheck disable=SC2086 # the words
