@@ -17,7 +17,7 @@ use Rattle.members.specs.Posts.{fleetBy}
 use Rattle.controller.proofs.SoundLaws.{same-lengths, everywhere}
 use Rattle.site.specs.Site.{noUnit, count, unitOf}
 use Rattle.stick.specs.Site.{siteOf}
-use Rattle.stick.specs.Posts.{Accepted}
+use Rattle.stick.specs.Check.{Accepted}
 use Rattle.stick.proofs.SiteProved.{sited}
 use Rattle.ask.specs.Says.{fleetSaid}
 

@@ -18,7 +18,8 @@ use Rattle.site.specs.Site.{count, unitOf}
 use Rattle.stick.specs.declared.Answer.{Answer}
 use Rattle.stick.specs.Check.{checkOf, refusalBy}
 use Rattle.stick.specs.Site.{connectionsOf, valueOfFirst, siteOf, roofsOf}
-use Rattle.stick.specs.Posts.{Accepted, connectionsPlace, connected}
+use Rattle.stick.specs.Check.{Accepted}
+use Rattle.stick.specs.Posts.{connectionsPlace, connected}
 use Rattle.stick.proofs.SiteProved.{walk-accepted, connections-picked}
 use Rattle.parts.specs.Header.{header}
 use Rattle.fields.specs.Fields.{phasesIn, voltsIn}

@@ -19,7 +19,7 @@ use Rattle.settling.proofs.TrialLaws.{trying}
 use Rattle.settling.proofs.AnswerLaws.{studyValues, wrong-lengths, wrong-values, all-fine}
 use Rattle.site.specs.Site.{count}
 use Rattle.stick.specs.Site.{siteOf}
-use Rattle.stick.specs.Posts.{Accepted}
+use Rattle.stick.specs.Check.{Accepted}
 use Rattle.ask.specs.Says.{fleetSaid, trialSaid, fileStudy, fileStudyLeaves}
 use Rattle.ask.specs.Posts.{Studying, Surveyed}
 use Rattle.ask.proofs.SaysLaws.{study-said}

@@ -11,7 +11,7 @@ use Rattle.settling.specs.Study.{shaving, trialIn}
 use Rattle.settling.specs.Posts.{DoneStudy}
 use Rattle.site.specs.Site.{count}
 use Rattle.stick.specs.Site.{siteOf}
-use Rattle.stick.specs.Posts.{Accepted}
+use Rattle.stick.specs.Check.{Accepted}
 use Rattle.ask.specs.Says.{fleetSaid}
 
 -- an accepted file, a trial in its ranges that is the file's, and a request for each unit

@@ -33,7 +33,7 @@ pub fn measure(v: &[u8]) {
             say::refusal(0);
             say::signed(m);
         }
-        Measure::RefusedBy(n) => say::refusal(n),
+        Measure::RefusedBy(r) => say::refusal(r.number),
     }
 }
 

@@ -1,5 +1,5 @@
 -- A field of a list of bytes that is a part of a longer list: behind other bytes a field is as it is by itself, and before other bytes it is as it is by itself
--- unless its own bytes are not all there. No field has more than `largest` bytes. Assumes nothing.
+-- unless its own bytes are not all there. No field has more than `largestField` bytes. Assumes nothing.
 use mathlib.Core.Path.{_≡_, refl, sym, ap, ap₂, _∙_, subst⁻¹}
 use mathlib.Core.Bool.{Bool, true, false, not, cond, _&&_}
 use mathlib.Core.List.{List, _++_}
@@ -33,7 +33,7 @@ use Rattle.fields.specs.Fields.{kinds, sizeIn, sizeOf, headOf, allowed, fleetIn
 use Rattle.fields.proofs.FieldLaws.{by-tag, size-else}
 use Rattle.stick.specs.Check.{fieldAt}
 use Rattle.stick.proofs.WalkLaws.{field-stops, field-goes, Headed, headed}
-use Rattle.chunks.specs.Sizes.{largest}
+use Rattle.chunks.specs.Sizes.{largestField}
 use Rattle.chunks.proofs.SameLaws.{Same, same-from, same-less, tag-same, length-same, taken-same}
 
 -- ---- the bytes of a list behind another, and before another
@@ -45,7 +45,7 @@ same-before a b i n h k l = sym (List·getD-append a b 0 (i + k) (omega arith))
 
 -- ---- no value has more bytes than the largest field has behind its header
 abbrev most : ℕ
-most = largest - header
+most = largestField - header
 
 -- of a state with at most 64 units
 abbrev pub Few : State → Type 0
@@ -244,16 +244,16 @@ module _ (st : State) (a b : List ℕ) (i : ℕ) where
       not-cut (inr c) = let l = c .1 .1 in omega (arith, length-at-append a b i (omega arith))
 
 -- ---- a field that is cut has fewer bytes than the largest field
-pub head-cut-short : (st : State) → Few st → (a : List ℕ) (i : ℕ) → headOf st a i ≡ 1 → length a < i + largest
+pub head-cut-short : (st : State) → Few st → (a : List ℕ) (i : ℕ) → headOf st a i ≡ 1 → length a < i + largestField
 head-cut-short st few a i e = go (test-cut (sizeOf st (tagAt a i)) (lengthAt a i) (length a - i) (sym (head-by st a i) ∙ e)) (size-most st few (tagAt a i))
   where
     go : Cut (length a - i) (sizeOf st (tagAt a i)) (lengthAt a i)
-        → (sizeOf st (tagAt a i) ≤ most) ⊎ (sizeOf st (tagAt a i) ≡ 65536) → length a < i + largest
+        → (sizeOf st (tagAt a i) ≤ most) ⊎ (sizeOf st (tagAt a i) ≡ 65536) → length a < i + largestField
     go (inl l) m = omega arith
     go (inr c) (inl m) = let s = c .1 .0 in let l = c .1 .1 in omega arith
     go (inr c) (inr m) = absurd (c .0 m)
 
-pub field-take : (st : State) → Few st → (b : List ℕ) (i n : ℕ) → i + largest ≤ n → fieldAt st (take n b) i ≡ fieldAt st b i
+pub field-take : (st : State) → Few st → (b : List ℕ) (i n : ℕ) → i + largestField ≤ n → fieldAt st (take n b) i ≡ fieldAt st b i
 field-take st few b i n h = go (leb (length b) n) refl
   where
     go : (t : Bool) → leb (length b) n ≡ t → fieldAt st (take n b) i ≡ fieldAt st b i

@@ -23,7 +23,7 @@ use Rattle.stick.specs.Site.{ofSteps, headFrom}
 use Rattle.stick.proofs.StepLaws.{of-steps}
 use Rattle.stick.proofs.WalkLaws.{Headed, field-cases}
 use Rattle.stick.proofs.SaidLaws.{free-parts, accepted-test}
-use Rattle.chunks.specs.Sizes.{largest, headMost}
+use Rattle.chunks.specs.Sizes.{largestField, headMost}
 use Rattle.chunks.proofs.FieldChunks.{Few, tag-shift, past-shift}
 use Rattle.chunks.proofs.ReachChunks.{fleet-counts, over-shift, Went, there, passing, far, far-gone, far-all}
 use Rattle.chunks.proofs.PlaceChunks.{Whole, whole-end, whole-field, at-end, there-tag, there-past}
@@ -123,7 +123,7 @@ pub data Placed : State → ℕ → Type 0 where
   fleet : {st : State} {i : ℕ} → st .stage ≡ atFleet → i ≡ 0 → Placed st i
   units : {st : State} {i : ℕ} → st .stage ≡ atUnits → Few st → 1 ≤ st .left → i + 60 * st .left ≤ 3849 → Placed st i
   settings : {st : State} {i : ℕ} → st .stage ≡ atSettings → Few st → i ≤ 3849 → Placed st i
-  connections : {st : State} {i : ℕ} → st .stage ≡ atConnections → Few st → i + 286 * st .left + largest + 136 ≤ headMost → Placed st i
+  connections : {st : State} {i : ℕ} → st .stage ≡ atConnections → Few st → i + 286 * st .left + largestField + 136 ≤ headMost → Placed st i
   inverters : {st : State} {i : ℕ} → st .stage ≡ atInverters → i + 286 * st .left + 136 ≤ headMost → Placed st i
   warm : {st : State} {i : ℕ} → st .stage ≡ atTemperature → i + 286 * st .left + 400 ≤ headMost → Placed st i
   efficiency : {st : State} {i : ℕ} → st .stage ≡ atEfficiency → i + 286 * st .left + 268 ≤ headMost → Placed st i

@@ -22,7 +22,8 @@ use Rattle.stick.specs.declared.Answer.{Answer}
 use Rattle.stick.specs.declared.Reached.{Reached}
 use Rattle.stick.specs.Check.{answer, fieldAt, reached, reachOf, ends, start}
 use Rattle.stick.specs.Site.{stepsFrom, ofSteps, headFrom}
-use Rattle.stick.specs.Posts.{answered, Accepted, fleetBytes, roofBytes, wide, editionAt, unitsAt, unitBytes, unitPlace, settingsPlace, connectionsPlace, connected, roofPlace, functionBytes, stepsPlace}
+use Rattle.stick.specs.Check.{Accepted}
+use Rattle.stick.specs.Posts.{answered, fleetBytes, roofBytes, wide, editionAt, unitsAt, unitBytes, unitPlace, settingsPlace, connectionsPlace, connected, roofPlace, functionBytes, stepsPlace}
 use Rattle.stick.proofs.StepLaws.{steps-only}
 use Rattle.stick.proofs.WalkLaws.{whole, OnTheWay, way-starts, not-too-large}
 use Rattle.stick.proofs.ReachLaws.{walk-reach}

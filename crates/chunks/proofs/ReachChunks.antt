@@ -25,7 +25,7 @@ use Rattle.stick.specs.Check.{fieldAt, reached, onward, reachOf}
 use Rattle.stick.proofs.ReachLaws.{never-zero}
 use Rattle.stick.proofs.WalkLaws.{field-stops, field-goes, field-cases}
 use Rattle.stick.proofs.SaidLaws.{free-parts, accepted-test}
-use Rattle.chunks.specs.Sizes.{largest}
+use Rattle.chunks.specs.Sizes.{largestField}
 use Rattle.chunks.specs.Holds.{moved}
 use Rattle.chunks.proofs.FieldChunks.{Few, refused-not-one, headOf-shift, field-shift, past-shift, past-append, field-append, field-cut, head-cut-short}
 
@@ -246,7 +246,7 @@ module _ (p : List ℕ) (st : State) (i : ℕ) (upto : i ≤ length p) where
     pub head : headOf (r .state) (drop (r .at) p) 0 ≡ 1
     pub going : eqb (r .state .stage) 0 ≡ false
     pub bytes : r .at < length p
-    pub short : length p < r .at + largest
+    pub short : length p < r .at + largestField
 
   pub far-few : Few st → Few (far .state)
   far-few few = went-few p (far-gone .went) few

@@ -28,7 +28,8 @@ use Rattle.site.specs.declared.Due.{Due}
 use Rattle.site.specs.Site.{noUnit}
 use Rattle.fields.specs.Fields.{unitAt, phasesIn, voltsIn}
 use Rattle.stick.specs.Site.{placesFrom, placesOf, having, headBy, connectionsOf, linkIn, siteOf, roofAt, roofsOf, functionAt, functionsOf, leadingIn, leadingOf, stepsIn, stepsFrom, headFrom}
-use Rattle.stick.specs.Posts.{Accepted, fleetBytes, settingsBytes, roofBytes, wide, editionAt, unitsAt, unitBytes, settingsPlace, connectionsPlace, connected, connectionsBytes, roofPlace, functionBytes, functionPlace, guided, stepsPlace}
+use Rattle.stick.specs.Check.{Accepted}
+use Rattle.stick.specs.Posts.{fleetBytes, settingsBytes, roofBytes, wide, editionAt, unitsAt, unitBytes, settingsPlace, connectionsPlace, connected, connectionsBytes, roofPlace, functionBytes, functionPlace, guided, stepsPlace}
 use Rattle.stick.proofs.WalkLaws.{whole}
 use Rattle.stick.proofs.SaidLaws.{every}
 use Rattle.stick.proofs.RoofLaws.{RoofThere}

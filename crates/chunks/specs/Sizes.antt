@@ -2,8 +2,8 @@
 use Prim.Native.Nat.{ℕ}
 
 -- no field is longer
-abbrev pub largest : ℕ
-largest = 195
+abbrev pub largestField : ℕ
+largestField = 195
 
 -- the fields before the steps
 abbrev pub headMost : ℕ

@@ -11,7 +11,7 @@ use lib.IntN.{ℤ}
 use lib.ListN.{length}
 use lib.Signed.{_≤ℤ_, _<ℤ_, ≤ℤ-refl}
 use Rattle.curve.specs.Curve.{Point, pointOf, lineAt, curveFrom, curveAt}
-use Rattle.curve.specs.Laws.{Rising, CurveLaw}
+use Rattle.curve.specs.Laws.{Rising, CurveTheorem}
 use Rattle.curve.proofs.OrderLaws.{lt-true, le-false, lt-or-le, lt-le, le-le, le-same}
 use Rattle.curve.proofs.LineLaws.{line-left, line-between, line-mono}
 
@@ -180,7 +180,7 @@ at-mono (p ∷ more) r up x z xz = go (lt-or-le x (p .x)) (lt-or-le z (p .x))
 
 -- ---- the law
 
-pub curve-law : (points : List Point) → Rising points → CurveLaw points
+pub curve-law : CurveTheorem
 curve-law points r =
     record {
       ownY = own points r;

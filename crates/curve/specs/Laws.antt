@@ -23,3 +23,7 @@ pub record CurveLaw (points : List Point) : Type 0 where
   -- and everywhere a curve lies within the bounds that all its y have
   pub within : 1 ≤ length points → (low high : ℤ) → ((i : ℕ) → i < length points → (low ≤ℤ pointOf points i .y) × (pointOf points i .y ≤ℤ high)) → (x : ℤ)
       → (low ≤ℤ curveAt points x) × (curveAt points x ≤ℤ high)
+
+-- the theorem
+abbrev pub CurveTheorem : Type 0
+CurveTheorem = (points : List Point) → Rising points → CurveLaw points

@@ -13,7 +13,7 @@ use Rattle.fields.specs.declared.State.{State}
 use Rattle.stick.specs.declared.Reached.{Reached}
 use Rattle.stick.specs.Check.{reachOf}
 use Rattle.stick.specs.Site.{placesFrom, stepsIn, dueIn, stepsFrom, dueFrom, headFrom}
-use Rattle.chunks.specs.Sizes.{largest}
+use Rattle.chunks.specs.Sizes.{largestField}
 use Rattle.stretch.specs.Stretch.{recordsFrom}
 use Rattle.kept.specs.Kept.{Kept, atStart}
 use Rattle.kept.specs.Layout.{stoppedBytes, bytesFor, keptIn}
@@ -74,10 +74,10 @@ module _ (k : Kept) (well : WellKept k) (c : List ℕ) where
   unfolding keptIn faultLeaves
   fault-tail = stopped-tail (goneBy k c .number) (k .place - length (k .tail) + goneBy k c .at) (goneBy k c .state .steps)
 
-  pub after-short : length (keptIn (after k c) .tail) < largest
+  pub after-short : length (keptIn (after k c) .tail) < largestField
   after-short = go (leb (goneBy k c .number) 1) refl
     where
-      go : (b : Bool) → leb (goneBy k c .number) 1 ≡ b → length (keptIn (after k c) .tail) < largest
+      go : (b : Bool) → leb (goneBy k c .number) 1 ≡ b → length (keptIn (after k c) .tail) < largestField
       go true e =
           let h = leb-true (goneBy k c .number) 1 e in
           let well′ = fed-well k well c h in

@@ -7,7 +7,7 @@ use lib.Dec.{eqb}
 use lib.ListN.{length}
 use Rattle.octets.specs.BigEndian.{laid}
 use Rattle.stick.specs.Check.{start, walk}
-use Rattle.chunks.specs.Sizes.{largest}
+use Rattle.chunks.specs.Sizes.{largestField}
 use Rattle.records.specs.Records.{endOf, endBytes}
 use Rattle.season.specs.Run.{resultOf}
 use Rattle.kept.specs.Kept.{atStart}
@@ -50,7 +50,7 @@ pub record FedLaw (chunks : List (List ℕ)) : Type 0 where
   pub one : leavesAll first chunks ≡ leaves first (joined chunks)
   -- which is a state, with a tail shorter than the largest field
   pub formed : wellFormed (leavesAll first chunks) ≡ true
-  pub short : length (keptIn (leavesAll first chunks) .tail) < largest
+  pub short : length (keptIn (leavesAll first chunks) .tail) < largestField
   -- a file that is accepted, its size aside: the end is too, and the results with the end record are those of the whole run
   pub accepted : walk (length (joined chunks)) start (joined chunks) 0 .number ≡ 0 → endNumber (leavesAll first chunks) endBytes ≡ 0
   pub same-results : walk (length (joined chunks)) start (joined chunks) 0 .number ≡ 0

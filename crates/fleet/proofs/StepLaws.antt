@@ -14,6 +14,7 @@ use lib.ListN.{length, getD, set}
 use mir.Syntax.{w32, w64}
 use mir.Val.{toZ, ofZ}
 use denote.Enum.Declared.{tagOf}
+use Rattle.whole.specs.declared.Refusal.{Refusal}
 use Rattle.whole.proofs.Choice.{by-test}
 use Rattle.whole.proofs.SignLaws.{read}
 use Rattle.whole.proofs.OverLaws.{each-length, each-at, part, part-none, part-all, part-length, part-next, part-more}
@@ -38,9 +39,9 @@ use Rattle.controller.proofs.SoundLaws.{rows-sound}
 use Rattle.controller.proofs.StandsLaws.{pass-length}
 use Rattle.storage.specs.declared.Outcome.{Outcome}
 use Rattle.lead.specs.declared.Lead.{Lead}
-use Rattle.lead.specs.Posts.{Modest}
+use Rattle.lead.specs.Lead.{Modest}
 use Rattle.guided.specs.Units.{ledStep, varsKept, LedLaw}
-use Rattle.guided.specs.Posts.{Guiding}
+use Rattle.guided.specs.Units.{Guiding}
 use Rattle.guided.proofs.LedProved.{led-law}
 use Rattle.guided.proofs.SharedLaws.{back, small-same}
 use Rattle.site.specs.declared.Head.{Head}
@@ -82,7 +83,7 @@ asked-length site stored rs =
 
 -- by the measure of three powers or currents: none, or the pass
 module _ (site : Site) (stored : List ℕ) (rs : List ℤ) (x : Measure) where
-  pub pass-refused : (n : ℕ) → x ≡ RefusedBy n → rs ≡ passedOn site stored rs (measureCall x)
+  pub pass-refused : (n : Refusal) → x ≡ RefusedBy n → rs ≡ passedOn site stored rs (measureCall x)
   pass-refused n e = sym (ap (λ (y : Measure). passedOn site stored rs (measureCall y)) e)
 
   pub pass-chosen : (m : ℤ) → x ≡ Chosen m → mag m < 2 ^ 63 → (after : List ℤ) → after ≡ passOf (site .head .settings) (toZ w64 (ofZ w64 m)) (fleetFor (site .units) stored) rs

@@ -14,7 +14,7 @@ use Rattle.lead.specs.declared.Lead.{Lead}
 use Rattle.storage.specs.declared.Outcome.{Outcome}
 use Rattle.storage.specs.Step.{stepOf}
 use Rattle.guided.specs.Units.{ledStep, varsKept}
-use Rattle.guided.specs.Posts.{Guiding}
+use Rattle.guided.specs.Units.{Guiding}
 use Rattle.guided.proofs.SharedLaws.{back, last-back}
 use Rattle.guided.proofs.UnitLaws.{step-read, kept-read, unled-step, unled-kept}
 

@@ -8,6 +8,7 @@ use lib.Dec.{leb}
 use lib.Ieee.{Float}
 use lib.IntN.{ℤ}
 use borrow.Author.Tests.{le-leb}
+use Rattle.whole.specs.Call.{refusal}
 use Rattle.reading.specs.declared.Phases.{Phases}
 use Rattle.reading.specs.declared.Watts.{Watts}
 use Rattle.reading.specs.declared.Watts.the-variants.{Whole, Refused}
@@ -23,7 +24,7 @@ by-usable whole p phase h u = go (whole (p .first)) (whole (p .second)) (whole (
     t : leb phase 5 ≡ true
     t = le-leb phase 5 h
 
-    go : (x y z : Watts) → usableOf x y z ≡ 0 → (m : ℤ) × (cond (leb phase 5) (chosenOf phase x y z) (RefusedBy 5) ≡ Chosen m)
+    go : (x y z : Watts) → usableOf x y z ≡ 0 → (m : ℤ) × (cond (leb phase 5) (chosenOf phase x y z) (RefusedBy (refusal 5)) ≡ Chosen m)
     go Refused y z u = absurd (omega arith)
     go (Whole a) Refused z u = absurd (omega arith)
     go (Whole a) (Whole b) Refused u = absurd (omega arith)

@@ -4,7 +4,7 @@ ghost use lib.ListN.{length};
 ghost use Rattle.octets.specs.BigEndian.{laid};
 ghost use Rattle.site.specs.Site.{count};
 ghost use Rattle.fleet.specs.Step.{standing, askedByWatts, askedByCurrent, askedBy, storedAfter, varsAfter, recordsOf, after, recordsBy, stepBytes};
-ghost use Rattle.lead.specs.Posts.{Modest};
+ghost use Rattle.lead.specs.Lead.{Modest};
 ghost use Rattle.fleet.specs.Posts.{Ready, Stored, Held, siteIn};
 use super::Frame;
 use super::Moment;

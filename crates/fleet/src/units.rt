@@ -5,7 +5,7 @@ ghost use lib.ListN.{length, getD};
 ghost use Rattle.unit.specs.Ranges.{Ranged, holding};
 ghost use Rattle.rows.specs.Rows.{unitBy, unitsBy};
 ghost use Rattle.guided.specs.Units.{ledStep, varsKept};
-ghost use Rattle.guided.specs.Posts.{Guiding};
+ghost use Rattle.guided.specs.Units.{Guiding};
 ghost use Rattle.storage.specs.Posts.{Rested};
 ghost use Rattle.site.specs.Ranges.{Sited};
 ghost use Rattle.fleet.specs.Step.{standing, atFirst};

@@ -13,8 +13,8 @@ use Rattle.flows.specs.Flows.{flowOf, inverterWatts}
 use Rattle.storage.specs.Step.{outcomeOf, stepOf}
 use Rattle.storage.proofs.ReliedProved.{relied}
 use Rattle.lead.specs.declared.Lead.{Lead}
-use Rattle.guided.specs.Posts.{Guiding}
-use Rattle.guided.specs.Units.{ledUnit, wattsFirst, requestedOf, ledStep, varsKept, LedLaw}
+use Rattle.guided.specs.Units.{Guiding}
+use Rattle.guided.specs.Units.{ledUnit, wattsFirst, requestedOf, ledStep, varsKept, LedTheorem}
 use Rattle.guided.proofs.SharedLaws.{requested-fits, kept-most, vars-limited}
 use Rattle.guided.proofs.UnitLaws.{led-ranged, carried-same, unled-is, stands-is, asked-small}
 
@@ -49,7 +49,7 @@ module _ (l : Lead) (u : Unit) (last : ℤ) (seconds : ℕ) (request : ℤ) (r :
     limited =
         vars-limited requested (u .kva) (natAbs (inverterWatts led (flowOf led seconds request))) beside (cond (negative requested) (u .absorb) (u .provide))
 
-pub led-law : (l : Lead) (u : Unit) (last : ℤ) (seconds : ℕ) (request : ℤ) → Ranged u seconds → Guiding l last → LedLaw l u last seconds request
+pub led-law : LedTheorem
 led-law l u last seconds request r g =
     let v : Ranged (led l u last seconds request r g) seconds = led-ranged l u seconds r (requestedOf l u last seconds request) (small l u last seconds request r g) in
     record {

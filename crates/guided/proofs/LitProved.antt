@@ -8,8 +8,8 @@ use Rattle.solar.specs.declared.Sun.{Sun}
 use Rattle.solar.specs.Roof.{Roof, roofIn}
 use Rattle.solar.proofs.ReliedProved.{relied}
 use Rattle.lead.specs.declared.Lead.{Lead}
-use Rattle.guided.specs.Posts.{Guiding}
-use Rattle.guided.specs.Roofs.{ledRoof, requestedOf, varsKept, LitLaw}
+use Rattle.guided.specs.Units.{Guiding}
+use Rattle.guided.specs.Roofs.{ledRoof, requestedOf, varsKept, LitTheorem}
 use Rattle.guided.proofs.SharedLaws.{kept-most}
 use Rattle.guided.proofs.RoofLaws.{led-in, unled-is, stands-is, asked-small, lit-same, lit-fits, lit-whole}
 
@@ -17,7 +17,7 @@ kept : (l : Lead) (r : Roof) (last : ℤ) (on : Bool) (s : Sun) → roofIn r ≡
 unfolding varsKept
 kept l r last on s h g = kept-most l last (requestedOf l r last on s) (g .last-small) (asked-small l r last on s h g)
 
-pub lit-law : (l : Lead) (r : Roof) (last : ℤ) (on : Bool) (s : Sun) → roofIn r ≡ true → Guiding l last → LitLaw l r last on s
+pub lit-law : LitTheorem
 lit-law l r last on s h g =
     let requested = requestedOf l r last on s in
     record {

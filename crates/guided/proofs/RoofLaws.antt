@@ -25,8 +25,8 @@ use Rattle.solar.proofs.ReliedProved.{relied}
 use Rattle.solar.proofs.RoofLaws.{ranged}
 use Rattle.lead.specs.declared.Lead.{Lead}
 use Rattle.lead.specs.Lead.{firstBy, lead, requestedBy, keptBy}
-use Rattle.lead.specs.Posts.{Modest}
-use Rattle.guided.specs.Posts.{Guiding}
+use Rattle.lead.specs.Lead.{Modest}
+use Rattle.guided.specs.Units.{Guiding}
 use Rattle.guided.specs.Roofs.{ledInverter, ledRoof, wattsFirst, requestedOf, litStep, varsKept}
 use Rattle.guided.proofs.SharedLaws.{back, small-same, none-leads, first-most, watts-same, requested-same, requested-none, requested-small, requested-fits, kept-stands, last-back, asked-read, asked-back, kept-back, vars-whole}
 

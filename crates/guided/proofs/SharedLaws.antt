@@ -22,7 +22,7 @@ use Rattle.lead.specs.declared.Lead.{Lead}
 use Rattle.lead.specs.Lead.{firstBy, baseOf, requestedBy, keptBy}
 use Rattle.lead.proofs.LeadLaws.{requested-fresh, requested-own, requested-most}
 use Rattle.lead.proofs.LeadProved.{lead-law}
-use Rattle.guided.specs.Posts.{Guiding}
+use Rattle.guided.specs.Units.{Guiding}
 
 -- a number as 32 bits hold it: one of at most 1.1 x 10^8 in size is read back
 abbrev pub back : ℤ → ℤ
@@ -83,7 +83,7 @@ module _ (l : Lead) where
       -- by what the circle leaves after the watts, they fit it
       pub requested-fits : l .fresh ≡ true → l .after ≡ true → natAbs (requestedBy l own last S n) ≤ legOf S n
       requested-fits f a =
-          subst (λ (z : ℤ). natAbs z ≤ legOf S n) (requested-fresh l own last S n f) (lead-law l S n (g .modest .y-small) .fits a)
+          subst (λ (z : ℤ). natAbs z ≤ legOf S n) (requested-fresh l own last S n f) (lead-law l S n (g .modest) .fits a)
 
   -- ---- and those kept
   pub kept-most : (last r : ℤ) → natAbs last ≤ 100000000 → natAbs r ≤ 100000000 → natAbs (keptBy l last r) ≤ 100000000

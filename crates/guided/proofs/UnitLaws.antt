@@ -27,8 +27,8 @@ use Rattle.storage.specs.declared.Outcome.{Outcome}
 use Rattle.storage.specs.Step.{gridWatts, outcomeOf, stepOf}
 use Rattle.lead.specs.declared.Lead.{Lead}
 use Rattle.lead.specs.Lead.{firstBy, lead, requestedBy, keptBy}
-use Rattle.lead.specs.Posts.{Modest}
-use Rattle.guided.specs.Posts.{Guiding}
+use Rattle.lead.specs.Lead.{Modest}
+use Rattle.guided.specs.Units.{Guiding}
 use Rattle.guided.specs.Units.{ledUnit, wattsFirst, requestedOf, ledStep, varsKept}
 use Rattle.guided.proofs.SharedLaws.{back, small-back, small-same, none-leads, first-most, watts-same, requested-same, requested-none, requested-small, kept-stands, last-back, asked-read, asked-back, kept-back}
 

@@ -9,9 +9,10 @@ use Rattle.lead.specs.Lead.{firstBy, requestedBy, keptBy}
 use Rattle.solar.specs.declared.Inverter.{Inverter}
 use Rattle.solar.specs.declared.Sun.{Sun}
 use Rattle.solar.specs.declared.Given.{Given}
-use Rattle.solar.specs.Roof.{Roof}
+use Rattle.solar.specs.Roof.{Roof, roofIn}
 use Rattle.solar.specs.Step.{stepOf}
 use Rattle.solar.specs.Relied.{Relied}
+use Rattle.guided.specs.Units.{Guiding}
 
 -- L4, L5: the inverter with the vars requested in place of its var request, and with the priority that counts
 abbrev pub ledInverter : Lead → Inverter → ℤ → Inverter
@@ -58,3 +59,7 @@ pub record LitLaw (l : Lead) (r : Roof) (last : ℤ) (on : Bool) (s : Sun) : Typ
   pub givenWhole : l .fresh ≡ true → l .after ≡ true → litStep l r last on s .on ≡ true → litStep l r last on s .vars ≡ requestedOf l r last on s
   pub unled : l .leads ≡ false → l .after ≡ false → l .fresh ≡ false → litStep l r last on s ≡ stepOf r on s
   pub stands : l .leads ≡ false → varsKept l r last on s ≡ last
+
+-- the theorem
+abbrev pub LitTheorem : Type 0
+LitTheorem = (l : Lead) (r : Roof) (last : ℤ) (on : Bool) (s : Sun) → roofIn r ≡ true → Guiding l last → LitLaw l r last on s

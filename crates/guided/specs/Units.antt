@@ -6,8 +6,9 @@ use lib.IntN.{ℤ, natAbs}
 use Rattle.whole.specs.Signed.{negative, signed}
 use Rattle.whole.specs.Largest.{legOf}
 use Rattle.unit.specs.declared.Unit.{Unit}
+use Rattle.unit.specs.Ranges.{Ranged}
 use Rattle.lead.specs.declared.Lead.{Lead}
-use Rattle.lead.specs.Lead.{firstBy, requestedBy, keptBy}
+use Rattle.lead.specs.Lead.{Modest, firstBy, requestedBy, keptBy}
 use Rattle.flows.specs.Flows.{flowOf, inverterWatts}
 use Rattle.storage.specs.declared.Outcome.{Outcome}
 use Rattle.storage.specs.Step.{stepOf}
@@ -54,6 +55,11 @@ unfoldable pub varsKept : Lead → Unit → ℤ → ℕ → ℤ → ℤ
 unfolding requestedOf
 varsKept l u last seconds request = keptBy l last (requestedOf l u last seconds request)
 
+-- what leads a step, in its bounds: a curve's value, and vars last requested of at most 10^8 either way
+pub record Guiding (l : Lead) (last : ℤ) : Type 0 where
+  pub modest : Modest l
+  pub last-small : natAbs last ≤ 100000000
+
 -- what can be relied on, for a unit and a step length in their ranges, any request, a curve's value of at most one and vars last requested of at most 10^8 either way:
 -- `led-law` proves it
 pub record LedLaw (l : Lead) (u : Unit) (last : ℤ) (seconds : ℕ) (request : ℤ) : Type 0 where
@@ -70,3 +76,7 @@ pub record LedLaw (l : Lead) (u : Unit) (last : ℤ) (seconds : ℕ) (request : 
   -- L9: without a function it is the step as it was, and what is kept stands
   pub unled : l .leads ≡ false → l .after ≡ false → l .fresh ≡ false → ledStep l u last seconds request ≡ stepOf u seconds request
   pub stands : l .leads ≡ false → varsKept l u last seconds request ≡ last
+
+-- the theorem
+abbrev pub LedTheorem : Type 0
+LedTheorem = (l : Lead) (u : Unit) (last : ℤ) (seconds : ℕ) (request : ℤ) → Ranged u seconds → Guiding l last → LedLaw l u last seconds request

@@ -4,7 +4,7 @@ ghost use lib.IntN.{pos};
 ghost use Rattle.solar.specs.Step.{given};
 ghost use Rattle.solar.specs.Posts.{roofBy, Roofed, Shining};
 ghost use Rattle.guided.specs.Roofs.{ledInverter, litStep, varsKept};
-ghost use Rattle.guided.specs.Posts.{Guiding};
+ghost use Rattle.guided.specs.Units.{Guiding};
 use super::Shone;
 use lead::Lead;
 use solar::Given;

@@ -4,7 +4,7 @@ ghost use Prim.Native.Nat.{_≤_};
 ghost use lib.IntN.{pos, natAbs, _+ℤ_};
 ghost use Rattle.unit.specs.Ranges.{Ranged};
 ghost use Rattle.guided.specs.Units.{ledUnit, ledStep, varsKept};
-ghost use Rattle.guided.specs.Posts.{Guiding};
+ghost use Rattle.guided.specs.Units.{Guiding};
 use super::Led;
 use lead::Lead;
 use storage::Outcome;

@@ -15,7 +15,7 @@ use Rattle.fields.specs.declared.Taken.the-variants.{Next, Stop}
 use Rattle.fields.specs.Fields.{headOf}
 use Rattle.stick.specs.declared.Reached.{Reached}
 use Rattle.stick.specs.Check.{fieldAt, reached, reachOf}
-use Rattle.chunks.specs.Sizes.{largest}
+use Rattle.chunks.specs.Sizes.{largestField}
 use Rattle.chunks.specs.Holds.{moved}
 use Rattle.chunks.proofs.FieldChunks.{Few}
 use Rattle.chunks.proofs.ReachChunks.{reach-fuel, reach-shift, there, passing, far-all, far-cut}
@@ -76,7 +76,7 @@ module _ (k : Kept) (few : Few (k .state)) (chunk : List ℕ) (some : 0 < length
   both = tail ++ chunk
 
   abbrev joint : List ℕ
-  joint = take largest both
+  joint = take largestField both
 
   both-long : length both ≡ length tail + length chunk
   both-long = length-append tail chunk
@@ -147,7 +147,7 @@ module _ (k : Kept) (few : Few (k .state)) (chunk : List ℕ) (some : 0 < length
     first-is : firstOf joint ≡ tail ++ take q chunk
     first-is =
         let p : past joint 0 ≡ length tail + q = omega (arith, beyond-tail) in
-        take-take (past joint 0) largest both (omega (arith, first-there, take-most largest both))
+        take-take (past joint 0) largestField both (omega (arith, first-there, take-most largestField both))
         ∙ ap (λ (n : ℕ). take n both) p
         ∙ take-append-add tail chunk q
 
@@ -192,7 +192,7 @@ module _ (k : Kept) (few : Few (k .state)) (chunk : List ℕ) (some : 0 < length
     stop-is = stops-first st few tail chunk some goes cut n e
 
     all-joint : joint ≡ both
-    all-joint = take-all largest both (omega (arith, gone-short k few chunk fair, ap (λ (r : Reached). r .at) stop-is))
+    all-joint = take-all largestField both (omega (arith, gone-short k few chunk fair, ap (λ (r : Reached). r .at) stop-is))
 
     stops-short : length joint ≤ tailMost
     stops-short = omega (arith, ap length all-joint, gone-short k few chunk fair, ap (λ (r : Reached). r .at) stop-is)
@@ -228,10 +228,10 @@ module _ (s chunk : List ℕ) (m : Mark) (r : Reached) (g : Gone s m chunk r) wh
     unfolding keptIn
     waited = open-waits s (g .is-open) (omega (arith, tail-some, open-tail s (g .is-open)))
 
-    module _ (j : List ℕ) (is : j ≡ take largest (keptIn s .tail ++ chunk)) where
+    module _ (j : List ℕ) (is : j ≡ take largestField (keptIn s .tail ++ chunk)) where
       pub joint-fits : (mid : State) → fieldAt (m .state) j 0 ≡ Next mid → Fits (keptIn s) chunk j mid (m .tail) (r .at) (r .state)
       joint-fits mid e =
-          let f : fieldAt (keptIn s .state) (take largest (keptIn s .tail ++ chunk)) 0 ≡ Next mid =
+          let f : fieldAt (keptIn s .state) (take largestField (keptIn s .tail ++ chunk)) 0 ≡ Next mid =
           sym (ap₂ (λ (st : State) (l : List ℕ). fieldAt st l 0) (mark-state s m (g .mark-is)) is) ∙ e in
           let fit = fits-there (keptIn s) few-said chunk tail-some (waited .0) (waited .1) fair-is mid f in
           subst (λ (x : Reached). Fits (keptIn s) chunk j mid (m .tail) (x .at) (x .state)) (sym (g .gone-is))
@@ -242,7 +242,7 @@ module _ (s chunk : List ℕ) (m : Mark) (r : Reached) (g : Gone s m chunk r) wh
       unfolding keptIn
       joint-stays n e =
           let k = keptIn s in
-          let f : fieldAt (keptIn s .state) (take largest (keptIn s .tail ++ chunk)) 0 ≡ Stop n =
+          let f : fieldAt (keptIn s .state) (take largestField (keptIn s .tail ++ chunk)) 0 ≡ Stop n =
           sym (ap₂ (λ (st : State) (l : List ℕ). fieldAt st l 0) (mark-state s m (g .mark-is)) is) ∙ e in
           subst (Stays s chunk j) (sym (mark-state s m (g .mark-is)))
           (subst (λ (l : List ℕ). Stays s chunk l (keptIn s .state)) (sym is)

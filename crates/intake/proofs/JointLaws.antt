@@ -16,7 +16,7 @@ use Rattle.fields.specs.declared.Taken.the-variants.{Next, Stop}
 use Rattle.fields.specs.Fields.{headOf}
 use Rattle.stick.specs.Check.{fieldAt, reached, reachOf}
 use Rattle.stick.proofs.WalkLaws.{field-stops}
-use Rattle.chunks.specs.Sizes.{largest}
+use Rattle.chunks.specs.Sizes.{largestField}
 use Rattle.chunks.specs.Holds.{moved}
 use Rattle.chunks.proofs.FieldChunks.{Few, past-append, field-cut, field-take}
 use Rattle.chunks.proofs.ReachChunks.{reach-fuel, reach-step, apart, reach-shift}
@@ -45,20 +45,20 @@ module _ (chunk : List ℕ) (left : ℕ) where
           (omega arith, (omega arith, ap (λ (k : ℕ). take k chunk) e ∙ take-length chunk ∙ sym (take-all left chunk (omega arith))))
       go false t e = let l : left ≤ length chunk = ltb-false (length chunk) left t in (omega arith, (omega arith, ap (λ (k : ℕ). take k chunk) e))
 
-module _ (tail chunk : List ℕ) (n : ℕ) (short : length tail ≤ tailMost) (is : n ≡ cond (ltb (length chunk) (largest - length tail)) (length chunk) (largest - length tail)) where
-  pub joint-is : tail ++ take n chunk ≡ take largest (tail ++ chunk)
+module _ (tail chunk : List ℕ) (n : ℕ) (short : length tail ≤ tailMost) (is : n ≡ cond (ltb (length chunk) (largestField - length tail)) (length chunk) (largestField - length tail)) where
+  pub joint-is : tail ++ take n chunk ≡ take largestField (tail ++ chunk)
   joint-is =
-      let e : length tail + (largest - length tail) ≡ largest = omega arith in
-      ap (λ (x : List ℕ). tail ++ x) (some chunk (largest - length tail) n is .1 .1)
-      ∙ sym (take-append-add tail chunk (largest - length tail))
+      let e : length tail + (largestField - length tail) ≡ largestField = omega arith in
+      ap (λ (x : List ℕ). tail ++ x) (some chunk (largestField - length tail) n is .1 .1)
+      ∙ sym (take-append-add tail chunk (largestField - length tail))
       ∙ ap (λ (k : ℕ). take k (tail ++ chunk)) e
 
   pub joint-long : length (tail ++ take n chunk) ≡ length tail + n
-  joint-long = length-append tail (take n chunk) ∙ ap (λ (k : ℕ). length tail + k) (length-take-le n chunk (some chunk (largest - length tail) n is .0))
+  joint-long = length-append tail (take n chunk) ∙ ap (λ (k : ℕ). length tail + k) (length-take-le n chunk (some chunk (largestField - length tail) n is .0))
 
   -- laid in a room of the largest field's bytes
-  module _ (room once twice : List ℕ) (long : length room ≡ largest) (first : once ≡ laid room 0 tail) (second : twice ≡ laid once (length tail) (slice 0 n chunk)) where
-    pub joined : take (length tail + n) twice ≡ take largest (tail ++ chunk)
+  module _ (room once twice : List ℕ) (long : length room ≡ largestField) (first : once ≡ laid room 0 tail) (second : twice ≡ laid once (length tail) (slice 0 n chunk)) where
+    pub joined : take (length tail + n) twice ≡ take largestField (tail ++ chunk)
     unfolding laid
     joined =
         let whole : twice ≡ laid room 0 (tail ++ take n chunk) =
@@ -74,14 +74,14 @@ module _ (st : State) (few : Few st) (tail chunk : List ℕ) (some-tail : 0 < le
   both = tail ++ chunk
 
   abbrev start : List ℕ
-  start = take largest both
+  start = take largestField both
 
   some-bytes : 0 < length both
   some-bytes = omega (arith, length-append tail chunk)
 
   -- the first field is what it is in the bytes put together
   first-field : fieldAt st both 0 ≡ fieldAt st start 0
-  first-field = sym (field-take st few both 0 largest (omega arith))
+  first-field = sym (field-take st few both 0 largestField (omega arith))
 
   pub stops-first : (n : ℕ) → fieldAt st start 0 ≡ Stop n → reached n 0 st ≡ reachOf (length both) st both 0
   stops-first n e = sym (reach-step both (length both) st 0 false (Stop n) (omega arith) some-bytes goes (first-field ∙ e))
@@ -97,7 +97,7 @@ module _ (st : State) (few : Few st) (tail chunk : List ℕ) (some-tail : 0 < le
     whole = omega (arith, accepted-there st s both 0 (omega arith) in-both .all, length-append tail chunk)
 
     same-past : past both 0 ≡ past start 0
-    same-past = ap (λ (l : List ℕ). past l 0) (sym (take-append-drop largest both)) ∙ past-append start (drop largest both) 0 (omega (arith, three))
+    same-past = ap (λ (l : List ℕ). past l 0) (sym (take-append-drop largestField both)) ∙ past-append start (drop largestField both) 0 (omega (arith, three))
 
     -- the tail is not the whole field
     beyond-tail : length tail ≤ past both 0

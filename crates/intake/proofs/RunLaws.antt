@@ -15,7 +15,7 @@ use Rattle.site.specs.Site.{count}
 use Rattle.site.specs.declared.Step.{Step}
 use Rattle.fields.specs.declared.State.{State}
 use Rattle.stick.specs.Site.{siteOf, roofsOf, plantOf, stepsFrom, dueFrom}
-use Rattle.stick.specs.Posts.{Accepted}
+use Rattle.stick.specs.Check.{Accepted}
 use Rattle.roofs.specs.Posts.{VarsHeld}
 use Rattle.fleet.specs.Step.{Stands}
 use Rattle.stretch.specs.Stretch.{allBytes, standsAfter, recordsFrom}

@@ -8,7 +8,8 @@ use lib.ListN.{length, take, drop, replicate}
 use Rattle.rows.specs.Rows.{unitsBy}
 use Rattle.site.specs.Site.{count}
 use Rattle.stick.specs.Site.{siteOf, roofsOf, plantOf}
-use Rattle.stick.specs.Posts.{Accepted, roofPlace}
+use Rattle.stick.specs.Check.{Accepted}
+use Rattle.stick.specs.Posts.{roofPlace}
 use Rattle.roofs.specs.Roofs.{ownVars}
 use Rattle.roofs.specs.Posts.{RoofsThere, roofsHere}
 use Rattle.fleet.specs.Step.{Standing, Stands, standing, atFirst}

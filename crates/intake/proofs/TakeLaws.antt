@@ -18,7 +18,7 @@ use Rattle.site.specs.declared.Due.{Due}
 use Rattle.site.specs.Site.{count}
 use Rattle.fields.specs.declared.State.{State}
 use Rattle.stick.specs.Site.{siteOf, roofsOf, plantOf, stepsFrom, dueFrom}
-use Rattle.stick.specs.Posts.{Accepted}
+use Rattle.stick.specs.Check.{Accepted}
 use Rattle.fleet.specs.Step.{Standing, Stands, standing}
 use Rattle.stretch.specs.Stretch.{standsFirst, standsAfter, recordsFrom}
 use Rattle.stretch.proofs.SiteLaws.{few-units, few-roofs}

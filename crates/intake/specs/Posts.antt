@@ -13,7 +13,7 @@ use Rattle.parts.specs.Header.{past}
 use Rattle.fields.specs.declared.State.{State}
 use Rattle.stick.specs.declared.Reached.{Reached}
 use Rattle.stick.specs.Site.{siteOf, roofsOf, plantOf, stepsFrom, dueFrom}
-use Rattle.stick.specs.Posts.{Accepted}
+use Rattle.stick.specs.Check.{Accepted}
 use Rattle.roofs.specs.Posts.{VarsHeld}
 use Rattle.fleet.specs.Step.{Stands}
 use Rattle.fleet.specs.Posts.{Held}

@@ -6,7 +6,7 @@ ghost use lib.Dec.{ltb};
 ghost use lib.ListN.{length, take};
 ghost use Rattle.parts.specs.Header.{past};
 ghost use Rattle.stick.specs.Check.{reachOf};
-ghost use Rattle.chunks.specs.Sizes.{largest};
+ghost use Rattle.chunks.specs.Sizes.{largestField};
 ghost use Rattle.chunks.specs.Holds.{moved};
 ghost use Rattle.kept.specs.Layout.{tailMost, tailBytes, tailPart, markIn, keptIn};
 ghost use Rattle.kept.specs.Posts.{Sized};
@@ -29,10 +29,10 @@ fn lesser(a: usize, b: usize) -> usize
 
 // Lays the tail and the chunk behind it, as far as the largest field goes; how many bytes that are.
 pub fn join(joint: &mut [u8], s: &[u8], chunk: &[u8]) -> usize
-    requires { ⌜ length (now joint) ≡ largest ⌝ }
+    requires { ⌜ length (now joint) ≡ largestField ⌝ }
     requires { ⌜ Sized (now s) ⌝ }
-    ensures { λ r. ⌜ r ≡ length (take largest (tailPart (now (s .entry)) ++ now (chunk .entry))) ⌝ }
-    ensures { λ r. ⌜ take r (now (joint .exit)) ≡ take largest (tailPart (now (s .entry)) ++ now (chunk .entry)) ⌝ }
+    ensures { λ r. ⌜ r ≡ length (take largestField (tailPart (now (s .entry)) ++ now (chunk .entry))) ⌝ }
+    ensures { λ r. ⌜ take r (now (joint .exit)) ≡ take largestField (tailPart (now (s .entry)) ++ now (chunk .entry)) ⌝ }
 {
     let t = octets::u8_at(s, 16) as usize;
     let n = lesser(chunk.len(), LARGEST - t);

@@ -9,7 +9,7 @@ ghost use Rattle.storage.specs.Posts.{Rested};
 ghost use Rattle.solar.specs.Posts.{Shining};
 ghost use Rattle.site.specs.Site.{count};
 ghost use Rattle.stick.specs.Site.{siteOf, roofsOf, plantOf, dueFrom};
-ghost use Rattle.stick.specs.Posts.{Accepted};
+ghost use Rattle.stick.specs.Check.{Accepted};
 ghost use Rattle.stretch.specs.Stretch.{allBytes, standsAfter, recordsFrom};
 ghost use Rattle.stretch.specs.Posts.{StepsThere, Holding, standsBy};
 ghost use Rattle.kept.specs.Layout.{stateSize, heldPlace, sitePlace, siteMost, topOf, standsOf};

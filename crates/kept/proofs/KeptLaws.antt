@@ -34,7 +34,7 @@ use Rattle.fields.specs.Fields.{atEnd, atReading, atVoltage, isReading, stateAf
 use Rattle.stick.specs.declared.Reached.{Reached}
 use Rattle.stick.specs.Check.{reachOf, start}
 use Rattle.stick.specs.Site.{siteOf}
-use Rattle.stick.specs.Posts.{Accepted}
+use Rattle.stick.specs.Check.{Accepted}
 use Rattle.stick.proofs.SiteProved.{sited}
 use Rattle.chunks.proofs.ReachChunks.{Went, there, passing, far-gone}
 use Rattle.chunks.proofs.HeadChunks.{accepted-field}

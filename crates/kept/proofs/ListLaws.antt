@@ -19,7 +19,8 @@ use Rattle.stick.specs.declared.Answer.{Answer}
 use Rattle.stick.specs.declared.Reached.{Reached}
 use Rattle.stick.specs.Check.{answer, reachOf, ends, walk, start, checkOf}
 use Rattle.stick.specs.Site.{siteOf, roofsOf}
-use Rattle.stick.specs.Posts.{answered, Accepted}
+use Rattle.stick.specs.Check.{Accepted}
+use Rattle.stick.specs.Posts.{answered}
 use Rattle.stick.proofs.ReachLaws.{walk-reach}
 use Rattle.stick.proofs.SiteProved.{sited, roofed}
 use Rattle.kept.specs.Kept.{begunAt}

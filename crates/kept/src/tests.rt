@@ -6,7 +6,7 @@ ghost use Rattle.whole.specs.Over.{allOf};
 ghost use Rattle.site.specs.Site.{count};
 ghost use Rattle.stick.specs.Check.{reachOf, start};
 ghost use Rattle.stick.specs.Site.{siteOf, roofsOf};
-ghost use Rattle.stick.specs.Posts.{Accepted};
+ghost use Rattle.stick.specs.Check.{Accepted};
 ghost use Rattle.kept.specs.Kept.{begunAt};
 ghost use Rattle.kept.specs.Layout.{stateSize, tailMost, siteMost, stepsKept, stageIn, siteBytes, sitePart, markIn, unitsKept, roofsKept};
 ghost use Rattle.kept.specs.Formed.{siteFits, placeFits, sunFits, voltFits, tailFits, unitFits, heldFits, flagFits, varFits, listsFit, standsFit, restClear, markFits, going, stopped, wellFormed};

@@ -2,12 +2,12 @@
 -- `read-law`. Assumes nothing.
 use Rattle.layouts.specs.Written.{Stick}
 use Rattle.layouts.specs.Ranges.{Fits}
-use Rattle.layouts.specs.Holds.{LaidLaw}
+use Rattle.layouts.specs.Holds.{LaidTheorem}
 use Rattle.layouts.proofs.LaidProved.{fits-accepted}
 use Rattle.layouts.proofs.SaidProved.{plant-said, steps-said}
 use Rattle.layouts.proofs.AloneProved.{alone}
 
-pub laid-law : (s : Stick) → Fits s → LaidLaw s
+pub laid-law : LaidTheorem
 laid-law s f = record {
   accepted = fits-accepted s f;
   plant = plant-said s f;

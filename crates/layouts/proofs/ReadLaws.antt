@@ -17,7 +17,8 @@ use Rattle.fields.proofs.TakenLaws.{not-many}
 use Rattle.stick.specs.declared.Answer.{Answer}
 use Rattle.stick.specs.declared.Reached.{Reached}
 use Rattle.stick.specs.Check.{fieldAt, reachOf, start, answer, ends, walk, checkOf}
-use Rattle.stick.specs.Posts.{answered, Accepted}
+use Rattle.stick.specs.Check.{Accepted}
+use Rattle.stick.specs.Posts.{answered}
 use Rattle.stick.proofs.WalkLaws.{field-cases}
 use Rattle.stick.proofs.SaidLaws.{free-parts}
 use Rattle.stick.proofs.ReachLaws.{walk-reach}

@@ -15,13 +15,13 @@ use Rattle.site.specs.declared.Head.{Head}
 use Rattle.fields.specs.Fields.{atUnits, kinds, sizeIn, sizeOf, valueOf, fleetIn, settingsAt, phaseAt, flags, stateOf, stateAfter}
 use Rattle.fields.proofs.FieldLaws.{fleet-alone}
 use Rattle.stick.specs.Check.{start}
-use Rattle.stick.specs.Posts.{Accepted}
+use Rattle.stick.specs.Check.{Accepted}
 use Rattle.stick.proofs.SaidLaws.{accepted-test}
 use Rattle.chunks.proofs.ReachChunks.{fleet-counts}
 use Rattle.layouts.specs.Written.{Stick}
 use Rattle.layouts.specs.Layout.{joined, fleetField, unitField, settingsField, connectionsField, roofFields, functionFields, weatherField, voltageField, stepFields, endField, laidOut}
 use Rattle.layouts.specs.Ranges.{Connected}
-use Rattle.layouts.specs.Holds.{ReadLaw}
+use Rattle.layouts.specs.Holds.{ReadLaw, ReadTheorem}
 use Rattle.layouts.proofs.LieLaws.{fleet-lies}
 use Rattle.layouts.proofs.ReadLaws.{Reads, Field, field-first, lies-at, value-at, accepted-reads}
 use Rattle.layouts.proofs.ReadHead.{UnitsRead, read-units, SettingsRead, read-settings, ConnectionsRead, read-connections}
@@ -116,5 +116,5 @@ module _ (file : List ℕ) where
         laid = sym laid;
       }
 
-pub read-law : (file : List ℕ) → ((i : ℕ) → getD file i 0 < 256) → Accepted file → ReadLaw file
+pub read-law : ReadTheorem
 read-law file bytes ok = let r = accepted-reads file bytes ok in whole file (r .0) (fleet-read file (r .1))

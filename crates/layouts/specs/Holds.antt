@@ -14,7 +14,7 @@ use Rattle.solar.specs.Weather.{dark, skyOf, sunOr}
 use Rattle.site.specs.declared.Step.{Step}
 use Rattle.site.specs.Site.{Site, Plant}
 use Rattle.stick.specs.declared.Answer.{Answer}
-use Rattle.stick.specs.Check.{answer, checkOf}
+use Rattle.stick.specs.Check.{answer, checkOf, Accepted}
 use Rattle.stick.specs.Site.{plantOf, stepsOf}
 use Rattle.layouts.specs.Written.{Connection, WeatherSaid, noWeather, weather, ReadingSaid, missing, powers, currents, StepSaid, Stick}
 use Rattle.layouts.specs.Layout.{laidOut}
@@ -60,3 +60,10 @@ pub record ReadLaw (file : List ℕ) : Type 0 where
   pub stick : Stick
   pub fits : Fits stick
   pub laid : laidOut stick ≡ file
+
+-- the theorems: of every stick that fits, and of every accepted file, whose numbers are bytes
+abbrev pub LaidTheorem : Type 0
+LaidTheorem = (s : Stick) → Fits s → LaidLaw s
+
+abbrev pub ReadTheorem : Type 0
+ReadTheorem = (file : List ℕ) → ((i : ℕ) → getD file i 0 < 256) → Accepted file → ReadLaw file

@@ -1,9 +1,9 @@
 -- Voltage-led vars (rules L1 to L5): what leads a step of a site, and the vars that are requested of a unit or an inverter in it.
-use Prim.Native.Nat.{ℕ}
+use Prim.Native.Nat.{ℕ, _≤_}
 use mathlib.Core.Bool.{Bool, true, false, cond, _&&_}
 use mathlib.Core.List.{List}
 use lib.Dec.{leb, eqb}
-use lib.IntN.{ℤ, pos, negℤ, _*ℤ_}
+use lib.IntN.{ℤ, pos, negℤ, natAbs, _*ℤ_}
 use Rattle.whole.specs.Largest.{legOf}
 use Rattle.whole.specs.Quotient.{cut}
 use Rattle.curve.specs.declared.Bounds.{Bounds}
@@ -64,3 +64,7 @@ requestedBy l own last S watts = cond (l .fresh) (ledVars l S watts) (cond (l .l
 -- L4: what is kept as last requested; without a function that stands as it was
 abbrev pub keptBy : Lead → ℤ → ℤ → ℤ
 keptBy l last requested = cond (l .leads) requested last
+
+-- a lead whose value is a curve's: at most one either way
+pub record Modest (l : Lead) : Type 0 where
+  pub y-small : natAbs (l .y) ≤ 10000

@@ -3,11 +3,9 @@ use Prim.Native.Nat.{ℕ, _+_, _≤_}
 use mathlib.Core.Bool.{Bool, true, cond}
 use mathlib.Core.List.{List}
 use mathlib.Core.Path.{_≡_}
-use lib.IntN.{natAbs}
 use lib.ListN.{length}
 use Rattle.octets.specs.BigEndian.{be}
 use Rattle.curve.specs.Layout.{curveBytes, pointsAt}
-use Rattle.lead.specs.declared.Lead.{Lead}
 use Rattle.lead.specs.Lead.{Function, Leading, unled, led, functionIn}
 
 -- a function as it lies at a place of bytes, its field and its curve's, or none
@@ -22,7 +20,3 @@ leadingHere bytes there at = cond there (led (functionHere bytes at)) unled
 pub record LeadingThere (bytes : List ℕ) (there : Bool) (at : ℕ) : Type 0 where
   pub within : there ≡ true → at + 7 + curveBytes ≤ length bytes
   pub in-range : there ≡ true → functionIn (functionHere bytes at) ≡ true
-
--- a curve's value of at most one either way
-pub record Modest (l : Lead) : Type 0 where
-  pub y-small : natAbs (l .y) ≤ 10000

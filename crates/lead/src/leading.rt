@@ -5,7 +5,8 @@ ghost use lib.IntN.{pos, natAbs};
 ghost use Rattle.curve.specs.Curve.{curveAt};
 ghost use Rattle.curve.specs.Layout.{pointsAt};
 ghost use Rattle.lead.specs.Lead.{leadOf, firstBy, baseOf, ledVars, requestedBy, keptBy};
-ghost use Rattle.lead.specs.Posts.{leadingHere, LeadingThere, Modest};
+ghost use Rattle.lead.specs.Lead.{Modest};
+ghost use Rattle.lead.specs.Posts.{leadingHere, LeadingThere};
 use super::Lead;
 use super::Voltage;
 

@@ -7,7 +7,7 @@ use lib.Dec.{eqb}
 use borrow.Author.Tests.{eq-eqb, ne-eqb}
 use Rattle.stick.specs.declared.Answer.{Answer}
 use Rattle.stick.specs.Check.{checkOf}
-use Rattle.stick.specs.Posts.{Accepted}
+use Rattle.stick.specs.Check.{Accepted}
 use Rattle.partner.specs.declared.Verdict.{Verdict}
 use Rattle.partner.specs.declared.PartnerAnswer.the-variants.{Judged, Unjudged}
 use Rattle.partner.specs.Verdict.{verdictOf, partnerAnswer}

@@ -15,7 +15,8 @@ use Rattle.site.specs.declared.Step.{Step}
 use Rattle.site.specs.Site.{Plant}
 use Rattle.fields.specs.Fields.{isReading}
 use Rattle.stick.specs.Site.{placesOf, plantOf, dueAfter, stepsFrom, ofSteps, headFrom}
-use Rattle.stick.specs.Posts.{Accepted, stepsPlace}
+use Rattle.stick.specs.Check.{Accepted}
+use Rattle.stick.specs.Posts.{stepsPlace}
 use Rattle.stick.proofs.PlaceLaws.{from, from-over, from-field, steps-over}
 use Rattle.stick.proofs.StepLaws.{Ending, ends-here, ends-later}
 use Rattle.stick.proofs.SiteProved.{walk-accepted}

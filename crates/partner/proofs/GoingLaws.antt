@@ -19,7 +19,7 @@ use Rattle.site.specs.declared.Step.{Step}
 use Rattle.site.specs.Site.{Plant, count}
 use Rattle.fields.specs.Fields.{isReading}
 use Rattle.stick.specs.Site.{plantOf, dueAfter, stepsFrom, stepsOf}
-use Rattle.stick.specs.Posts.{Accepted}
+use Rattle.stick.specs.Check.{Accepted}
 use Rattle.stick.proofs.PlaceLaws.{from}
 use Rattle.stick.proofs.StepLaws.{Ending}
 use Rattle.stick.proofs.SiteProved.{accepted, steps-from}

@@ -9,11 +9,11 @@ use lib.Dec.{eqb}
 use lib.ListN.{length, take, drop, length-append, length-take, length-drop}
 use lib.Seq.{take-all, take-at, drop-at, take-add, drop-drop, append-snoc}
 use borrow.Author.Tests.{eqb-true, eqb-false}
-use Rattle.stick.specs.Posts.{Accepted}
+use Rattle.stick.specs.Check.{Accepted}
 use Rattle.season.specs.Run.{resultOf}
 use Rattle.partner.specs.declared.Verdict.{Verdict}
 use Rattle.partner.specs.Verdict.{Field, fieldsOf, right, theirBytes, ourField, same, verdictFrom, verdictOf}
-use Rattle.partner.specs.Holds.{bytesBefore, FieldOf, Wrong, differs, lacks, exceeds, VerdictLaw}
+use Rattle.partner.specs.Holds.{bytesBefore, FieldOf, Wrong, differs, lacks, exceeds, VerdictTheorem}
 use Rattle.partner.specs.Posts.{wrongAt}
 use Rattle.partner.proofs.AlikeLaws.{same-true, same-false}
 use Rattle.partner.proofs.PlacesLaws.{verdict-wrong, verdict-next, verdict-over}
@@ -160,7 +160,7 @@ module _ (run result : List ℕ) where
   unfolding verdictOf bytesBefore
   judged-all z = judged (made run z) [] refl (record { upto = omega arith; within = omega arith; alike = refl; rest = refl })
 
-pub verdict-law : (run result : List ℕ) → Accepted run → VerdictLaw run result
+pub verdict-law : VerdictTheorem
 verdict-law run result z =
     let j = judged-all run result z in
     let v = verdictOf run result in

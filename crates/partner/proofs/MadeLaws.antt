@@ -22,7 +22,8 @@ use Rattle.site.specs.declared.Due.{Due}
 use Rattle.site.specs.declared.Step.{Step}
 use Rattle.site.specs.Site.{Site, Plant, count, noneYet, stepWith}
 use Rattle.stick.specs.Site.{plantOf, readingAt, dueAfter, stepsIn, stepsFrom, stepsOf}
-use Rattle.stick.specs.Posts.{Accepted, stepsPlace}
+use Rattle.stick.specs.Check.{Accepted}
+use Rattle.stick.specs.Posts.{stepsPlace}
 use Rattle.stick.proofs.PlaceLaws.{from, from-field, Passed, closes-step, goes-by}
 use Rattle.stick.proofs.StepLaws.{Ending, ends-here, ends-later}
 use Rattle.stick.proofs.SiteProved.{accepted, walk-accepted}

@@ -13,7 +13,8 @@ use Rattle.fields.specs.Fields.{isReading}
 use Rattle.site.specs.Site.{Plant}
 use Rattle.stick.specs.Check.{checkOf}
 use Rattle.stick.specs.Site.{placesFrom, plantOf}
-use Rattle.stick.specs.Posts.{Accepted, stepsPlace}
+use Rattle.stick.specs.Check.{Accepted}
+use Rattle.stick.specs.Posts.{stepsPlace}
 use Rattle.records.specs.Records.{endBytes}
 use Rattle.stretch.specs.Posts.{FieldsAt, StepsThere}
 use Rattle.stretch.proofs.AcceptedLaws.{steps-there}

@@ -4,6 +4,7 @@ use mathlib.Core.List.{List, [], _∷_, _++_}
 use mathlib.Core.Path.{_≡_}
 use lib.ListN.{length, take, drop}
 use Rattle.parts.specs.Header.{past}
+use Rattle.stick.specs.Check.{Accepted}
 use Rattle.season.specs.Run.{resultOf}
 use Rattle.partner.specs.declared.Verdict.{Verdict}
 use Rattle.partner.specs.Verdict.{Field, fieldsOf, right, theirBytes, ourField, verdictOf}
@@ -45,3 +46,7 @@ pub record VerdictLaw (run result : List ℕ) : Type 0 where
   pub whole : bytesBefore (fieldsOf run) ≡ length (resultOf run)
   pub fields : (before : List Field) (w : Field) (behind : List Field) → FieldOf run before w behind
       → past (resultOf run) (bytesBefore before) ≡ bytesBefore before + w .size
+
+-- the theorem: of every accepted run file and any result
+abbrev pub VerdictTheorem : Type 0
+VerdictTheorem = (run result : List ℕ) → Accepted run → VerdictLaw run result

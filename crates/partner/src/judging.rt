@@ -1,7 +1,7 @@
 ghost use mathlib.Core.Path.{_≡_};
 ghost use lib.ListN.{length};
 ghost use Rattle.stick.specs.Site.{plantOf};
-ghost use Rattle.stick.specs.Posts.{Accepted};
+ghost use Rattle.stick.specs.Check.{Accepted};
 ghost use Rattle.stretch.specs.Stretch.{allBytes};
 ghost use Rattle.season.specs.Posts.{Lengths, SetOut};
 ghost use Rattle.partner.specs.Verdict.{verdictOf, partnerAnswer};

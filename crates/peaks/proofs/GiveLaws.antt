@@ -19,9 +19,9 @@ use Rattle.unit.proofs.RangeLaws.{bounds}
 use Rattle.storage.specs.declared.Outcome.{Outcome}
 use Rattle.storage.specs.Relied.{Balanced, carried}
 use Rattle.lead.specs.declared.Lead.{Lead}
-use Rattle.lead.specs.Posts.{Modest}
+use Rattle.lead.specs.Lead.{Modest}
 use Rattle.guided.specs.Units.{ledStep, LedLaw}
-use Rattle.guided.specs.Posts.{Guiding}
+use Rattle.guided.specs.Units.{Guiding}
 use Rattle.guided.proofs.LedProved.{led-law}
 use Rattle.guided.proofs.SharedLaws.{back, small-same}
 use Rattle.site.specs.Site.{Site, count, unitOf}

@@ -3,7 +3,7 @@ ghost use Prim.Native.Nat.{_+_, _≤_, _<_};
 ghost use lib.IntN.{pos, _+ℤ_};
 ghost use lib.ListN.{length};
 ghost use Rattle.site.specs.Site.{count};
-ghost use Rattle.lead.specs.Posts.{Modest};
+ghost use Rattle.lead.specs.Lead.{Modest};
 ghost use Rattle.fleet.specs.Step.{standing, storedAfter, varsAfter, after};
 ghost use Rattle.fleet.specs.Posts.{Ready, Held, siteIn};
 ghost use Rattle.tally.specs.Posts.{Within};

@@ -11,6 +11,8 @@ use lib.Signed.{leZ, ltZ, mag}
 use borrow.Author.Tests.{ne-eqb, le-leb, lt-leb}
 use mir.Syntax.{Width, w32, w64}
 use mir.Val.{SFits, toZ, ofZ}
+use Rattle.whole.specs.declared.Refusal.{Refusal}
+use Rattle.whole.specs.Call.{refusal}
 use Rattle.whole.proofs.Choice.{passed-failed}
 use Rattle.whole.proofs.SignLaws.{read, sign-is, size-sum, size-fits, wide-is, wide-size}
 use Rattle.reading.specs.declared.Phases.{Phases}
@@ -119,11 +121,11 @@ module _ (whole : Float → Watts) (p : Phases) (phase : ℕ) where
   abbrev pub all-three : Measure
   all-three = chosenOf phase (whole (p .first)) (whole (p .second)) (whole (p .third))
 
-  pub no-phase : 5 < phase → RefusedBy 5 ≡ measureBy whole p phase
-  no-phase h = sym (ap (λ (t : Bool). cond t all-three (RefusedBy 5)) (lt-leb phase 5 h))
+  pub no-phase : 5 < phase → (r : Refusal) → r ≡ refusal 5 → RefusedBy r ≡ measureBy whole p phase
+  no-phase h r er = ap RefusedBy er ∙ sym (ap (λ (t : Bool). cond t all-three (RefusedBy (refusal 5))) (lt-leb phase 5 h))
 
   pub measured : phase ≤ 5 → all-three ≡ measureBy whole p phase
-  measured h = sym (ap (λ (t : Bool). cond t all-three (RefusedBy 5)) (le-leb phase 5 h))
+  measured h = sym (ap (λ (t : Bool). cond t all-three (RefusedBy (refusal 5))) (le-leb phase 5 h))
 
 -- the sizes that the choice asks for, of numbers widened from 32 bits
 pub widened-size : (a : ℤ) → mag a < 2 ^ 31 → natAbs (back (toZ w32 (ofZ w32 a))) ≤ 2147483648

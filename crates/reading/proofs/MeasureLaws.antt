@@ -10,6 +10,7 @@ use lib.IntN.{ℤ, pos, _+ℤ_, natAbs}
 use lib.Ieee.{Float, nan, inf, fin, up, down}
 use lib.Signed.{leZ}
 use borrow.Author.Tests.{leb-true}
+use Rattle.whole.specs.Call.{refusal}
 use Rattle.whole.proofs.Choice.{by-test}
 use Rattle.whole.proofs.SignLaws.{size-signed, size-sum}
 use Rattle.whole.specs.Signed.{signed}
@@ -86,7 +87,7 @@ chosen-small phase (Whole a) (Whole b) (Whole c) hx hy hz = choice-upto mostWatt
 
 by-small : (whole : Float → Watts) → ((x : Float) → Small (whole x)) → (p : Phases) (phase : ℕ) → Bounded (measureBy whole p phase)
 by-small whole small p phase =
-    by-test Bounded (leb phase 5) (chosenOf phase (whole (p .first)) (whole (p .second)) (whole (p .third))) (RefusedBy 5)
+    by-test Bounded (leb phase 5) (chosenOf phase (whole (p .first)) (whole (p .second)) (whole (p .third))) (RefusedBy (refusal 5))
     (λ t. chosen-small phase (whole (p .first)) (whole (p .second)) (whole (p .third)) (small (p .first)) (small (p .second)) (small (p .third)))
     (λ t. omega arith)
 

@@ -9,7 +9,7 @@ use native.Mathlib.Omega.{arith}
 use lib.Dec.{leb}
 use borrow.Author.Tests.{leb-true, leb-false}
 use Rattle.reading.specs.Conversion.{nearest}
-use Rattle.reading.specs.Laws.{away, Nearest}
+use Rattle.reading.specs.Laws.{away, NearestTheorem}
 use Rattle.reading.proofs.NearestLaws.{ruled, ruled-less, ruled-tie, ruled-more}
 
 -- one of two orders
@@ -113,7 +113,7 @@ module _ (n d q r : ℕ) (is : q * d + r ≡ n) (l : r < d) where
     | inr k ↦ subst⁻¹ Even (ruled-less q (r * 2) d k) (near-even (omega arith))
   ]
 
-pub nearest-proved : (n d : ℕ) → 0 < d → Nearest n d
+pub nearest-proved : NearestTheorem
 unfolding nearest
 nearest-proved n d some = record {
   closest = rule-closest n d (n / d) (n % d) (div-add-mod' n d) (mod-lt n some);

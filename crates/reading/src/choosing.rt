@@ -52,13 +52,13 @@ fn chosen(phase: u8, a: Watts, b: Watts, c: Watts) -> Measure
     ensures { λ r. ⌜ r ≡ chosenOf phase a b c ⌝ }
 {
     let Watts::Whole(x) = a else {
-        return Measure::RefusedBy(6);
+        return Measure::RefusedBy(whole::refused(6));
     };
     let Watts::Whole(y) = b else {
-        return Measure::RefusedBy(6);
+        return Measure::RefusedBy(whole::refused(6));
     };
     let Watts::Whole(z) = c else {
-        return Measure::RefusedBy(6);
+        return Measure::RefusedBy(whole::refused(6));
     };
     Measure::Chosen(choice(phase, x as i64, y as i64, z as i64))
 }
@@ -69,7 +69,7 @@ pub fn regulated(p: Phases, phase: u8) -> Measure
     ensures { λ r. ⌜ r ≡ measureOf p phase ⌝ }
 {
     if 5 < phase {
-        return Measure::RefusedBy(5);
+        return Measure::RefusedBy(whole::refused(5));
     }
     chosen(
         phase,
@@ -84,7 +84,7 @@ pub fn current(p: Phases, phase: u8) -> Measure
     ensures { λ r. ⌜ r ≡ currentOf p phase ⌝ }
 {
     if 5 < phase {
-        return Measure::RefusedBy(5);
+        return Measure::RefusedBy(whole::refused(5));
     }
     chosen(
         phase,

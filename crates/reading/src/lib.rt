@@ -15,6 +15,7 @@ pub use convert::milliamperes;
 pub use convert::watts_of_bits;
 pub use kilowatts::kw;
 pub use kilowatts::kw_bits;
+use whole::Refusal;
 
 // What a kW double becomes: whole watts, at most 10^8 in size, or nothing that can be used. An A
 // double becomes whole milliamperes so, none below 0.
@@ -43,8 +44,8 @@ pub enum Meter {
     Shows(i64),
 }
 
-// The regulated measure in watts or milliamperes, or the number of the refusal.
+// The regulated measure in watts or milliamperes, or the refusal.
 pub enum Measure {
     Chosen(i64),
-    RefusedBy(u8),
+    RefusedBy(Refusal),
 }

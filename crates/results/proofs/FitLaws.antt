@@ -31,7 +31,7 @@ use Rattle.lead.specs.declared.Voltage.{Voltage}
 use Rattle.lead.specs.declared.Voltage.the-variants.{Unsaid, Said}
 use Rattle.lead.specs.declared.Lead.{Lead}
 use Rattle.lead.specs.Lead.{Leading, unled, led, leadOf}
-use Rattle.lead.specs.Posts.{Modest}
+use Rattle.lead.specs.Lead.{Modest}
 use Rattle.lead.proofs.FunctionLaws.{curve-small}
 use Rattle.storage.specs.declared.Outcome.{Outcome}
 use Rattle.storage.specs.Relied.{Balanced, Relied}
@@ -46,7 +46,7 @@ use Rattle.solar.proofs.RoofLaws.{ranged}
 use Rattle.solar.proofs.RoofLaws.{Ranged as RoofRanged}
 use Rattle.solar.proofs.PowerLaws.{dc-most}
 use Rattle.guided.specs.Units.{ledUnit, ledStep, requestedOf}
-use Rattle.guided.specs.Posts.{Guiding}
+use Rattle.guided.specs.Units.{Guiding}
 use Rattle.guided.proofs.LedProved.{led-law}
 use Rattle.guided.specs.Roofs.{ledRoof, litStep}
 use Rattle.guided.specs.Roofs.{requestedOf as roofRequested}

@@ -13,13 +13,13 @@ use mir.Val.{toZ}
 use Rattle.octets.specs.BigEndian.{be}
 use Rattle.site.specs.declared.Step.{Step}
 use Rattle.site.specs.Site.{Plant, count}
-use Rattle.stick.specs.Posts.{Accepted}
+use Rattle.stick.specs.Check.{Accepted}
 use Rattle.stick.specs.Site.{plantOf, stepsOf}
 use Rattle.stick.proofs.SiteProved.{steps-count, steps-most}
 use Rattle.stretch.specs.Stretch.{standsFirst, allBytes}
 use Rattle.season.specs.Run.{resultBy, resultOf}
 use Rattle.season.proofs.RunLaws.{by-length}
-use Rattle.results.specs.Says.{AlikeUnit, AlikeInverter, UnitSays, InverterSays, EndSays, before, stepAt, requestAt, outcomeAt, givenAt, unitPlace, inverterPlace, ResultLaw, SameLaw}
+use Rattle.results.specs.Says.{AlikeUnit, AlikeInverter, UnitSays, InverterSays, EndSays, before, stepAt, requestAt, outcomeAt, givenAt, unitPlace, inverterPlace, ResultLaw, ResultTheorem, SameLaw, SameTheorem}
 use Rattle.results.proofs.RecordLaws.{UnitFits, unit-says, RoofFits, roof-says, end-says}
 use Rattle.results.proofs.FitLaws.{small-mag, OutcomeFits, GivenFits}
 use Rattle.results.proofs.StandLaws.{Sound, Holds, plant-sound, first-holds, after-holds, request-small, outcome-fits, given-fits, sun-shines}
@@ -90,7 +90,7 @@ module _ (file : List ℕ) (ok : Accepted file) where
       let n = few-steps in
       end-says (a .0) (resultOf file) (allBytes p * length ss) (length ss) (omega arith) (result-by file ∙ a .1) (a .2) (sym (ap length (result-by file) ∙ by-length p ss))
 
-pub result-law : (file : List ℕ) → Accepted file → ResultLaw file
+pub result-law : ResultTheorem
 result-law file ok = record { units = unit-at file ok; inverters = inverter-at file ok; ends = end-at file ok }
 
 -- ---- two results that are the same
@@ -215,5 +215,5 @@ module _ (file other : List ℕ) (a : ResultLaw file) (b : ResultLaw other) (e :
     inverters = same-inverters;
   }
 
-pub same-law : (file other : List ℕ) → Accepted file → Accepted other → resultOf file ≡ resultOf other → SameLaw file other
+pub same-law : SameTheorem
 same-law file other a b e = all-same file other (result-law file a) (result-law other b) e

@@ -14,7 +14,7 @@ use Rattle.unit.specs.Ranges.{holding}
 use Rattle.unit.proofs.RangeLaws.{bounds}
 use Rattle.members.specs.Ranges.{fleetFor}
 use Rattle.lead.specs.declared.Lead.{Lead}
-use Rattle.lead.specs.Posts.{Modest}
+use Rattle.lead.specs.Lead.{Modest}
 use Rattle.solar.specs.Posts.{Shining}
 use Rattle.parts.specs.Header.{tagAt}
 use Rattle.fields.specs.Fields.{isReading}
@@ -24,7 +24,7 @@ use Rattle.site.specs.Site.{Site, Plant, count, noUnit, unitOf, roofOf, noneYet
 use Rattle.site.specs.Ranges.{Sited, Roofed, Guided}
 use Rattle.site.proofs.RangeLaws.{unit-ranged}
 use Rattle.stick.specs.Site.{readingAt, dueAfter, stepsIn, stepsFrom, stepsOf, plantOf, placesFrom}
-use Rattle.stick.specs.Posts.{Accepted}
+use Rattle.stick.specs.Check.{Accepted}
 use Rattle.stick.proofs.SiteProved.{sited, roofed, leading-guided}
 use Rattle.roofs.specs.Roofs.{lit}
 use Rattle.roofs.specs.Posts.{VarsHeld}

@@ -17,6 +17,7 @@ use Rattle.solar.specs.declared.Given.{Given}
 use Rattle.lead.specs.declared.Lead.{Lead}
 use Rattle.site.specs.declared.Step.{Step}
 use Rattle.site.specs.Site.{Plant, count, stepWith, noneYet}
+use Rattle.stick.specs.Check.{Accepted}
 use Rattle.stick.specs.Site.{plantOf, stepsOf}
 use Rattle.fleet.specs.Step.{Stands, askedBy, given, stepBytes}
 use Rattle.roofs.specs.Roofs.{lit}
@@ -110,3 +111,10 @@ pub record SameLaw (file other : List ℕ) : Type 0 where
       (requestAt (plantOf other) (stepsOf other) k i) (outcomeAt (plantOf other) (stepsOf other) k i)
   pub inverters : (k : ℕ) → k < length (stepsOf file) → (i : ℕ) → i < length (plantOf file .roofs)
       → AlikeInverter (givenAt (plantOf file) (stepsOf file) k i) (givenAt (plantOf other) (stepsOf other) k i)
+
+-- the theorems: of every accepted file, and of every two whose results are the same
+abbrev pub ResultTheorem : Type 0
+ResultTheorem = (file : List ℕ) → Accepted file → ResultLaw file
+
+abbrev pub SameTheorem : Type 0
+SameTheorem = (file other : List ℕ) → Accepted file → Accepted other → resultOf file ≡ resultOf other → SameLaw file other

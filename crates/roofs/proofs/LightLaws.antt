@@ -17,7 +17,7 @@ use Rattle.solar.specs.declared.Given.{Given}
 use Rattle.solar.specs.Roof.{Roof}
 use Rattle.solar.specs.Posts.{roofBy}
 use Rattle.solar.specs.Step.{stepOf, dcOf, onAfter, givenBy, given}
-use Rattle.guided.specs.Posts.{Guiding}
+use Rattle.guided.specs.Units.{Guiding}
 use Rattle.guided.specs.Roofs.{litStep, varsKept}
 use Rattle.guided.proofs.SharedLaws.{back, last-back}
 use Rattle.fields.specs.Fields.{inverterAt}

@@ -13,12 +13,12 @@ use Rattle.whole.proofs.OverLaws.{part, part-none, part-all, part-length, part-
 use Rattle.octets.specs.BigEndian.{laid}
 use Rattle.octets.proofs.LaidLaws.{laid-length}
 use Rattle.lead.specs.declared.Lead.{Lead}
-use Rattle.lead.specs.Posts.{Modest}
+use Rattle.lead.specs.Lead.{Modest}
 use Rattle.solar.specs.declared.Sun.{Sun}
 use Rattle.solar.specs.declared.Given.{Given}
 use Rattle.solar.specs.Roof.{Roof, roofIn}
 use Rattle.guided.specs.declared.Shone.{Shone}
-use Rattle.guided.specs.Posts.{Guiding}
+use Rattle.guided.specs.Units.{Guiding}
 use Rattle.guided.specs.Roofs.{litStep, varsKept}
 use Rattle.guided.proofs.SharedLaws.{back, small-same}
 use Rattle.site.specs.Site.{roofOf}

@@ -10,7 +10,7 @@ use lib.Seq.{ext-getD}
 use Rattle.whole.specs.Over.{each}
 use Rattle.whole.proofs.OverLaws.{each-at, each-length, part, part-all}
 use Rattle.lead.specs.declared.Lead.{Lead}
-use Rattle.lead.specs.Posts.{Modest}
+use Rattle.lead.specs.Lead.{Modest}
 use Rattle.solar.specs.declared.Sun.{Sun}
 use Rattle.solar.specs.Roof.{Roof, roofIn}
 use Rattle.solar.proofs.RoofLaws.{ranged}

@@ -15,11 +15,11 @@ use Rattle.controller.proofs.OneSign.{one-sign}
 use Rattle.site.specs.declared.Step.{Step}
 use Rattle.site.specs.Site.{Site, Plant}
 use Rattle.stick.specs.Site.{plantOf, stepsOf}
-use Rattle.stick.specs.Posts.{Accepted}
+use Rattle.stick.specs.Check.{Accepted}
 use Rattle.fleet.specs.Step.{Stands, atFirst, askedBy, after}
 use Rattle.fleet.proofs.StepLaws.{asked-keeps}
 use Rattle.stretch.specs.Stretch.{standsFirst, nextOf, standsAfter}
-use Rattle.season.specs.Holds.{RunLaw}
+use Rattle.season.specs.Holds.{RunTheorem}
 use Rattle.season.proofs.AnswerLaws.{result-length}
 use Rattle.season.proofs.UsedLaws.{none-refused, no-current-refused}
 
@@ -44,7 +44,7 @@ unfolding standsAfter nextOf after
 stands-one p st [] h = h
 stands-one p st (s ∷ ss) h = stands-one p (nextOf p st s) ss (asked-one (p .site) (st .units .stored) (st .units .requests) (s .reading) h)
 
-pub run-law : (file : List ℕ) → Accepted file → RunLaw file
+pub run-law : RunTheorem
 run-law file a = record {
   resultLength = result-length file;
   noneRefused = none-refused file a;

@@ -9,7 +9,8 @@ use lib.ListN.{length, take, drop, replicate, length-replicate}
 use Rattle.rows.specs.Rows.{unitsBy}
 use Rattle.site.specs.Site.{noneYet}
 use Rattle.stick.specs.Site.{siteOf, roofsOf, plantOf}
-use Rattle.stick.specs.Posts.{Accepted, roofPlace, functionPlace, guided, stepsPlace}
+use Rattle.stick.specs.Check.{Accepted}
+use Rattle.stick.specs.Posts.{roofPlace, functionPlace, guided, stepsPlace}
 use Rattle.roofs.specs.Roofs.{allOff, ownVars}
 use Rattle.roofs.specs.Posts.{VarsHeld, roofsHere}
 use Rattle.fleet.specs.declared.Frame.{Frame}

@@ -16,7 +16,8 @@ use Rattle.site.specs.declared.Step.{Step}
 use Rattle.site.specs.Site.{noneYet, stepWith}
 use Rattle.fields.specs.Fields.{isReading}
 use Rattle.stick.specs.Site.{placesFrom, siteOf, readingAt, dueAfter, stepsIn, stepsFrom, stepsOf}
-use Rattle.stick.specs.Posts.{Accepted, stepsPlace}
+use Rattle.stick.specs.Check.{Accepted}
+use Rattle.stick.specs.Posts.{stepsPlace}
 use Rattle.stick.proofs.SiteProved.{sited, steps-from}
 use Rattle.fleet.proofs.UsedLaws.{chosen, chosen-current}
 use Rattle.stretch.specs.Posts.{FieldsAt, StepsThere}

@@ -10,6 +10,7 @@ use Rattle.reading.specs.declared.Measure.the-variants.{Chosen}
 use Rattle.reading.specs.Choice.{measureOf, currentOf}
 use Rattle.controller.specs.OneSign.{OneSign}
 use Rattle.site.specs.Site.{noneYet, stepWith}
+use Rattle.stick.specs.Check.{Accepted}
 use Rattle.stick.specs.Site.{siteOf, plantOf, stepsOf}
 use Rattle.stretch.specs.Stretch.{standsFirst, standsAfter}
 use Rattle.season.specs.Run.{resultOf}
@@ -25,3 +26,7 @@ pub record RunLaw (file : List ℕ) : Type 0 where
       → (m : ℤ) × (currentOf p (siteOf file .head .phase) ≡ Chosen m)
   -- after any number of steps the requests are not of both signs
   pub oneSign : (k : ℕ) → OneSign (standsAfter (plantOf file) (standsFirst (plantOf file)) (take k (stepsOf file)) .units .requests)
+
+-- the theorem: of every accepted file
+abbrev pub RunTheorem : Type 0
+RunTheorem = (file : List ℕ) → Accepted file → RunLaw file

@@ -7,7 +7,8 @@ use lib.IntN.{ℤ}
 use lib.ListN.{length}
 use Rattle.stick.specs.Check.{checkOf}
 use Rattle.stick.specs.Site.{siteOf, roofsOf, plantOf}
-use Rattle.stick.specs.Posts.{Accepted, stepsPlace}
+use Rattle.stick.specs.Check.{Accepted}
+use Rattle.stick.specs.Posts.{stepsPlace}
 use Rattle.site.specs.Site.{count, noneYet}
 use Rattle.fleet.specs.Posts.{siteIn}
 use Rattle.stretch.specs.declared.Track.{Track}

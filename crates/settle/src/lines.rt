@@ -1,4 +1,4 @@
-ghost use Rattle.stick.specs.Posts.{Accepted};
+ghost use Rattle.stick.specs.Check.{Accepted};
 use super::sums;
 use super::sums::Left;
 use libc::STDERR_FILENO;

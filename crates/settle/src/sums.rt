@@ -1,7 +1,7 @@
 ghost use Prim.Native.Nat.{_+_, _≤_};
 ghost use lib.IntN.{natAbs};
 ghost use lib.ListN.{length};
-ghost use Rattle.stick.specs.Posts.{Accepted};
+ghost use Rattle.stick.specs.Check.{Accepted};
 use unit::Unit;
 
 // What a study leaves: the sum of the requests, the reading, how far this is from the target, and

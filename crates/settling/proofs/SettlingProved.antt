@@ -25,7 +25,7 @@ use Rattle.rules.specs.declared.Settings.{Settings}
 use Rattle.members.specs.Ranges.{Fleet}
 use Rattle.members.specs.Sums.{differ}
 use Rattle.settling.specs.Study.{studyPass}
-use Rattle.settling.specs.Settling.{Premises, SettlingLaw, Above, ratingAbove, requestsAt, requestAt, measureAt, gapAt, changes, changing}
+use Rattle.settling.specs.Settling.{Premises, SettlingLaw, SettlingTheorem, Above, ratingAbove, requestsAt, requestAt, measureAt, gapAt, changes, changing}
 
 -- ---- order of signed numbers that are no less than 0
 pos-le : (a b : ℤ) (x y : ℕ) → a ≡ pos x → b ≡ pos y → x ≤ y → a ≤ℤ b
@@ -186,5 +186,5 @@ module _ (s : Settings) (load : ℤ) (f : Fleet) (n : ℕ) (p : Premises s load 
             request-is k i l ∙ ap pos none;
       }
 
-pub settling : (s : Settings) (load : ℤ) (f : Fleet) (n : ℕ) → Premises s load f n → SettlingLaw s load f n
+pub settling : SettlingTheorem
 settling = law

@@ -100,3 +100,7 @@ pub record StudyLaw (s : Settings) (load : ℤ) (f : Fleet) (budget n : ℕ) : T
   -- settled: the next pass changes none; not settled: every pass of the budget changed one
   pub settledIs : studyOf s load f budget n .settled ≡ true → changes s load f n (studyOf s load f budget n .changing) ≡ false
   pub unsettledIs : studyOf s load f budget n .settled ≡ false → studyOf s load f budget n .changing ≡ budget
+
+-- the theorem, which is demand 3
+abbrev pub SettlingTheorem : Type 0
+SettlingTheorem = (s : Settings) (load : ℤ) (f : Fleet) (n : ℕ) → Premises s load f n → SettlingLaw s load f n

@@ -17,7 +17,7 @@ use Rattle.solar.specs.declared.Given.{Given}
 use Rattle.solar.specs.Roof.{Roof, roofIn}
 use Rattle.solar.specs.Weather.{sun}
 use Rattle.solar.specs.Step.{dcOf, onAfter, limitOf, acOf, limitedVars, wattsOf, varsOf, given, givenBy, stepOf}
-use Rattle.solar.specs.Relied.{Relied}
+use Rattle.solar.specs.Relied.{ReliedTheorem}
 use Rattle.solar.proofs.RoofLaws.{Ranged, ranged}
 use Rattle.solar.proofs.PowerLaws.{as-it-was}
 
@@ -92,7 +92,7 @@ module _ (r : Roof) (on : Bool) (s : Sun) where
   more-sun i h = more-dc (r .inverter .array) (natAbs (curveAt (r .warm) (s .temperature))) (s .irradiance) i h
 
 -- ---- the whole
-pub relied : (r : Roof) → roofIn r ≡ true → (on : Bool) (s : Sun) → Relied r on s
+pub relied : ReliedTheorem
 relied r h on s =
     let b : Ranged r = ranged r h in
     let v = r .inverter in

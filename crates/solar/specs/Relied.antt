@@ -4,7 +4,7 @@ use mathlib.Core.Bool.{Bool, true, false}
 use mathlib.Core.Path.{_≡_}
 use lib.IntN.{pos, natAbs}
 use Rattle.solar.specs.declared.Sun.{Sun}
-use Rattle.solar.specs.Roof.{Roof}
+use Rattle.solar.specs.Roof.{Roof, roofIn}
 use Rattle.solar.specs.Weather.{sun}
 use Rattle.solar.specs.Step.{dcOf, limitOf, stepOf}
 
@@ -24,3 +24,7 @@ pub record Relied (r : Roof) (on : Bool) (s : Sun) : Type 0 where
   pub stays : r .inverter .«cut_out» * r .inverter .kva ≤ dcOf r s * 10000 → dcOf r s * 10000 ≤ r .inverter .«cut_in» * r .inverter .kva → stepOf r on s .on ≡ on
   -- I9: more sun never gives less
   pub moreSun : (i : ℕ) → s .irradiance ≤ i → dcOf r s ≤ dcOf r (sun i (s .temperature))
+
+-- the theorem
+abbrev pub ReliedTheorem : Type 0
+ReliedTheorem = (r : Roof) → roofIn r ≡ true → (on : Bool) (s : Sun) → Relied r on s

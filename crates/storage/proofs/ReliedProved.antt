@@ -13,12 +13,12 @@ use Rattle.flows.proofs.FlowLaws.{flow-able}
 use Rattle.storage.proofs.ReliedLaws.{vars-in-circle, vars-provided, vars-absorbed, no-more, moves-no-more, charging-draws, watts-le, stays, never-above, conserves}
 use Rattle.unit.specs.declared.Unit.{Unit}
 use Rattle.unit.specs.Ranges.{idleDraw, unitIn, secondsIn}
-use Rattle.storage.specs.Relied.{Relied}
+use Rattle.storage.specs.Relied.{ReliedTheorem}
 use Rattle.energy.specs.Limits.{heldSize, gridLoss, varsOf}
 use Rattle.flows.specs.Flows.{flowOf, inverterWatts}
 use Rattle.storage.specs.Step.{gridWatts, outcomeOf, stepOf}
 
-pub relied : (u : Unit) (seconds : ℕ) (request : ℤ) → unitIn u ≡ true → secondsIn seconds ≡ true → Relied u seconds request
+pub relied : ReliedTheorem
 unfolding stepOf outcomeOf gridWatts
 relied u seconds request e t =
     let p = heldSize u request in

@@ -1,11 +1,12 @@
 -- What a planner relies on (rules U13 to U16), of the definition of a step: for a unit in its ranges, a step length in its range and any request.
 use Prim.Native.Nat.{ℕ, _+_, _*_, _≤_}
+use mathlib.Core.Bool.{true}
 use mathlib.Core.Path.{_≡_}
 use mathlib.Core.Logic.{_⊎_}
 use lib.IntN.{ℤ, pos, negsuc, negℤ, natAbs, _+ℤ_}
 use lib.Signed.{_≤ℤ_}
 use Rattle.unit.specs.declared.Unit.{Unit}
-use Rattle.unit.specs.Ranges.{idleDraw}
+use Rattle.unit.specs.Ranges.{idleDraw, unitIn, secondsIn}
 use Rattle.storage.specs.declared.Outcome.{Outcome}
 use Rattle.storage.specs.Step.{stepOf}
 
@@ -38,3 +39,7 @@ pub record Relied (u : Unit) (seconds : ℕ) (request : ℤ) : Type 0 where
   pub nothingWhileCharging : (x : ℕ) → request ≡ negsuc x → stepOf u seconds request .watts ≤ℤ pos 0
   -- its inverter moves no more than it is asked either way, or it idles and its inverter draws the idle draw
   pub movesNoMore : (natAbs (carried u (stepOf u seconds request)) ≤ natAbs request) ⊎ (carried u (stepOf u seconds request) ≡ negℤ (pos (idleDraw u)))
+
+-- the theorem
+abbrev pub ReliedTheorem : Type 0
+ReliedTheorem = (u : Unit) (seconds : ℕ) (request : ℤ) → unitIn u ≡ true → secondsIn seconds ≡ true → Relied u seconds request

@@ -15,7 +15,8 @@ use Rattle.lead.specs.Posts.{leadingHere, LeadingThere}
 use Rattle.site.specs.Site.{Site, noRoof, roofOf}
 use Rattle.fields.specs.Fields.{inverterAt}
 use Rattle.stick.specs.Site.{siteOf, roofsOf, leadingOf, plantOf}
-use Rattle.stick.specs.Posts.{Accepted, roofBytes, roofPlace, functionPlace, guided, stepsPlace}
+use Rattle.stick.specs.Check.{Accepted}
+use Rattle.stick.specs.Posts.{roofBytes, roofPlace, functionPlace, guided, stepsPlace}
 use Rattle.stick.proofs.SiteProved.{accepted, roofed, roof-is, leading-is, leading-there}
 use Rattle.roofs.specs.Posts.{roofHere, roofsHere, RoofsThere}
 use Rattle.roofs.proofs.LoopLaws.{here-count, here-at}

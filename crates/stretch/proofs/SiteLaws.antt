@@ -11,7 +11,7 @@ use Rattle.site.specs.declared.Head.{Head}
 use Rattle.site.specs.Site.{Site, count}
 use Rattle.site.specs.Ranges.{Sited}
 use Rattle.stick.specs.Site.{siteOf, roofsOf}
-use Rattle.stick.specs.Posts.{Accepted}
+use Rattle.stick.specs.Check.{Accepted}
 use Rattle.stick.proofs.SiteProved.{sited, roofed}
 use Rattle.fleet.specs.declared.Frame.{Frame}
 use Rattle.fleet.specs.Posts.{siteBy, siteIn}

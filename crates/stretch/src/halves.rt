@@ -5,7 +5,7 @@ ghost use lib.ListN.{length, take, drop, replicate};
 ghost use Rattle.octets.specs.BigEndian.{laid};
 ghost use Rattle.rows.specs.Rows.{unitsBy};
 ghost use Rattle.solar.specs.Posts.{Shining};
-ghost use Rattle.lead.specs.Posts.{Modest};
+ghost use Rattle.lead.specs.Lead.{Modest};
 ghost use Rattle.records.specs.Records.{roofRecordBytes};
 ghost use Rattle.roofs.specs.Roofs.{ownVars, onAfter, varsAfter, roofsBy};
 ghost use Rattle.roofs.specs.Posts.{RoofsThere, VarsHeld, roofsHere};

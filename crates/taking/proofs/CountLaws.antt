@@ -20,7 +20,8 @@ use Rattle.fields.proofs.FieldLaws.{fewer}
 use Rattle.stick.specs.declared.Answer.{Answer}
 use Rattle.stick.specs.Check.{start}
 use Rattle.stick.specs.Site.{placesOf, having, roofAt, siteOf, roofsOf, plantOf}
-use Rattle.stick.specs.Posts.{answered, Accepted, unitsAt}
+use Rattle.stick.specs.Check.{Accepted}
+use Rattle.stick.specs.Posts.{answered, unitsAt}
 use Rattle.stick.proofs.WalkLaws.{ends-complete, not-too-large}
 use Rattle.stick.proofs.PlaceLaws.{from, from-over, from-field, Passed, picked, left-out}
 use Rattle.stick.proofs.ReachLaws.{walk-reach}

@@ -24,7 +24,7 @@ use Rattle.rows.proofs.RowLaws.{length-map}
 use Rattle.lead.specs.declared.Voltage.{Voltage}
 use Rattle.lead.specs.declared.Voltage.the-variants.{Unsaid, Said}
 use Rattle.lead.specs.Lead.{Leading, unled, led, leadOf}
-use Rattle.lead.specs.Posts.{Modest}
+use Rattle.lead.specs.Lead.{Modest}
 use Rattle.lead.proofs.FunctionLaws.{curve-small}
 use Rattle.rules.specs.declared.Settings.{Settings}
 use Rattle.members.specs.Ranges.{Fleet, fleetFor, someAbove, someBelow}
@@ -39,7 +39,7 @@ use Rattle.site.specs.Site.{Site, Plant, noUnit, count, unitOf}
 use Rattle.site.specs.Ranges.{Sited, Roofed, Guided}
 use Rattle.site.proofs.RangeLaws.{unit-ranged}
 use Rattle.stick.specs.Site.{siteOf, plantOf}
-use Rattle.stick.specs.Posts.{Accepted}
+use Rattle.stick.specs.Check.{Accepted}
 use Rattle.stick.proofs.SiteProved.{sited, roofed, leading-guided}
 use Rattle.roofs.specs.Posts.{VarsHeld}
 use Rattle.roofs.proofs.VarsLaws.{own-held, after-held}

@@ -8,7 +8,8 @@ use borrow.Author.Needs.{needs}
 use borrow.Author.Tests.{not-true, not-false}
 use Rattle.site.specs.Site.{count}
 use Rattle.stick.specs.Site.{siteOf}
-use Rattle.stick.specs.Posts.{Accepted, connected}
+use Rattle.stick.specs.Check.{Accepted}
+use Rattle.stick.specs.Posts.{connected}
 use Rattle.ask.proofs.SaysLaws.{accepts, no-connection, connection-said, connection-outside, none-connected}
 use Rattle.ask.proofs.says.connection_of.Statement.{statement}
 use Rattle.ask.proofs.says.connection_of.Tie as tie

@@ -1,5 +1,5 @@
 -- Of a file that the check accepts the head is what the file says; any other is refused as the check refuses it.
-use Rattle.stick.specs.Posts.{Accepted}
+use Rattle.stick.specs.Check.{Accepted}
 use Rattle.ask.proofs.SaysLaws.{accepts, no-head, head-said}
 use borrow.Author.Needs.{needs}
 use Rattle.ask.proofs.says.head.Statement.{statement}

@@ -1,6 +1,6 @@
 -- Of a file that the check accepts its inverters are counted, at most 64; of any other the number is 0.
 use native.Mathlib.Omega.{arith}
-use Rattle.stick.specs.Posts.{Accepted}
+use Rattle.stick.specs.Check.{Accepted}
 use Rattle.stick.proofs.SiteProved.{roofed}
 use Rattle.ask.proofs.SaysLaws.{accepts, no-inverters, inverters-said}
 use borrow.Author.Needs.{needs}

@@ -1,5 +1,5 @@
 -- Of a file that the check accepts the seconds stand in its head; of any other the number is 0.
-use Rattle.stick.specs.Posts.{Accepted}
+use Rattle.stick.specs.Check.{Accepted}
 use Rattle.ask.proofs.SaysLaws.{accepts, no-seconds, seconds-said}
 use borrow.Author.Needs.{needs}
 use Rattle.ask.proofs.says.seconds.Statement.{statement}

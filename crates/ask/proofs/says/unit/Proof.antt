@@ -4,7 +4,7 @@ use Prim.Native.Nat.{_<_}
 use native.Mathlib.Omega.{arith}
 use Rattle.site.specs.Site.{count}
 use Rattle.stick.specs.Site.{siteOf}
-use Rattle.stick.specs.Posts.{Accepted}
+use Rattle.stick.specs.Check.{Accepted}
 use Rattle.ask.proofs.SaysLaws.{accepts, no-unit, unit-said, unit-outside}
 use borrow.Author.Needs.{needs}
 use Rattle.ask.proofs.says.unit.Statement.{statement}

@@ -11,7 +11,7 @@ use Rattle.settling.specs.declared.Trial.{Trial}
 use Rattle.site.specs.declared.Head.{Head}
 use Rattle.site.specs.Site.{count}
 use Rattle.stick.specs.Site.{siteOf}
-use Rattle.stick.specs.Posts.{Accepted}
+use Rattle.stick.specs.Check.{Accepted}
 use Rattle.ask.specs.Says.{trialSaid}
 use Rattle.ask.proofs.SaysLaws.{accepts, no-study}
 use Rattle.ask.proofs.StudyLaws.{trial-made, other-count, other-trial, study-made}

@@ -2,7 +2,7 @@
 use borrow.Author.Needs.{needs}
 use mathlib.Core.Path.{subst⁻¹}
 use Rattle.solar.specs.Posts.{roofBy}
-use Rattle.guided.specs.Posts.{Guiding}
+use Rattle.guided.specs.Units.{Guiding}
 use Rattle.guided.proofs.SharedLaws.{last-back}
 use Rattle.guided.proofs.RoofLaws.{unled-step, unled-kept, step-read, kept-read}
 use Rattle.guided.proofs.roofs.light.Statement.{statement}

@@ -8,7 +8,7 @@ use lib.ListN.{length, take}
 use Rattle.octets.specs.BigEndian.{laid}
 use Rattle.fields.specs.declared.Taken.the-variants.{Next, Stop}
 use Rattle.stick.specs.Check.{fieldAt}
-use Rattle.chunks.specs.Sizes.{largest}
+use Rattle.chunks.specs.Sizes.{largestField}
 use Rattle.kept.specs.Layout.{tailPart, keptIn, bytesFor}
 use Rattle.intake.proofs.OpenLaws.{open-sized}
 use Rattle.intake.proofs.JointLaws.{take-most}
@@ -26,13 +26,13 @@ made f = f .before .before .before .before
 abbrev bytes : tie.Start → List ℕ
 bytes s = tailPart (s .args .s .now) ++ s .args .chunk .now
 
-few : (j : tie.After-join) → j .join .result ≤ largest
-few j = omega (arith, j .join .ensures .0, take-most largest (bytes (first j)))
+few : (j : tie.After-join) → j .join .result ≤ largestField
+few j = omega (arith, j .join .ensures .0, take-most largestField (bytes (first j)))
 
 abbrev read : tie.After-join → List ℕ
 read j = take (j .join .result - 0) (j .join .last .0)
 
-joint-read : (j : tie.After-join) → read j ≡ take largest (keptIn (first j .args .s .now) .tail ++ first j .args .chunk .now)
+joint-read : (j : tie.After-join) → read j ≡ take largestField (keptIn (first j .args .s .now) .tail ++ first j .args .chunk .now)
 unfolding keptIn
 joint-read j = let z : j .join .result - 0 ≡ j .join .result = omega arith in ap (λ (k : ℕ). take k (j .join .last .0)) z ∙ j .join .ensures .1
 

@@ -13,7 +13,7 @@ use Rattle.fields.specs.declared.Taken.{Taken}
 use Rattle.fields.specs.declared.Taken.the-variants.{Next, Stop}
 use Rattle.fields.specs.Fields.{headOf}
 use Rattle.stick.specs.Check.{fieldAt, reached, reachOf}
-use Rattle.chunks.specs.Sizes.{largest}
+use Rattle.chunks.specs.Sizes.{largestField}
 use Rattle.chunks.specs.Holds.{moved}
 use Rattle.chunks.proofs.FieldChunks.{Few}
 use Rattle.kept.specs.declared.Mark.{Mark}
@@ -31,10 +31,10 @@ first j = j .before .before .before .before .before
 abbrev bytes : tie.Start → List ℕ
 bytes s = tailPart (s .args .s .now) ++ s .args .chunk .now
 
-few : (j : tie.After-join) → j .join .result ≤ largest
-few j = omega (arith, j .join .ensures .0, take-most largest (bytes (first j)))
+few : (j : tie.After-join) → j .join .result ≤ largestField
+few j = omega (arith, j .join .ensures .0, take-most largestField (bytes (first j)))
 
-joint-read : (j : tie.After-join) → take (j .join .result - 0) (j .join .last .0) ≡ take largest (bytes (first j))
+joint-read : (j : tie.After-join) → take (j .join .result - 0) (j .join .last .0) ≡ take largestField (bytes (first j))
 joint-read j = let z : j .join .result - 0 ≡ j .join .result = omega arith in ap (λ (k : ℕ). take k (j .join .last .0)) z ∙ j .join .ensures .1
 
 -- the mark's state and tail are the state's
@@ -57,7 +57,7 @@ waited s = let (o, (m, l)) = s .pre in open-waits (s .args .s .now) o (omega (ar
 
 -- the first field, as it is read
 abbrev field-of : tie.After-field → Taken
-field-of f = let s = first (f .before .before .before .before) in fieldAt (stateIn (s .args .s .now)) (take largest (bytes s)) 0
+field-of f = let s = first (f .before .before .before .before) in fieldAt (stateIn (s .args .s .now)) (take largestField (bytes s)) 0
 
 stop-is : (n : tie.After-number) → field-of (n .before .before) ≡ Stop (n .number .given .0 .0)
 stop-is n =

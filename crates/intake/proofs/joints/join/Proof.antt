@@ -9,7 +9,7 @@ use lib.Dec.{ltb}
 use lib.ListN.{length, take}
 use lib.Seq.{slice, length-slice}
 use Rattle.octets.specs.BigEndian.{laid}
-use Rattle.chunks.specs.Sizes.{largest}
+use Rattle.chunks.specs.Sizes.{largestField}
 use Rattle.kept.specs.Layout.{tailPlace, tailMost, tailBytes, tailPart}
 use Rattle.intake.proofs.JointLaws.{some, joint-is, joint-long, joined}
 use Rattle.intake.proofs.joints.join.Statement.{statement}
@@ -31,8 +31,8 @@ tail-long c =
 short : (c : tie.After-u8-at) → c .u8-at .result ≤ tailMost
 short c = let (j, z) = c .before .before .before .before .pre in omega (arith, z .tail-fits, c .u8-at .ensures)
 
-some-of : (c : tie.After-lesser) → (c .lesser .result ≤ length (c .before .before .before .before .before .args .chunk .now)) × (c .lesser .result ≤ largest - c .before .u8-at .result)
-some-of c = let e = some (c .before .before .before .before .before .args .chunk .now) (largest - c .before .u8-at .result) (c .lesser .result) (c .lesser .ensures) in (e .0, e .1 .0)
+some-of : (c : tie.After-lesser) → (c .lesser .result ≤ length (c .before .before .before .before .before .args .chunk .now)) × (c .lesser .result ≤ largestField - c .before .u8-at .result)
+some-of c = let e = some (c .before .before .before .before .before .args .chunk .now) (largestField - c .before .u8-at .result) (c .lesser .result) (c .lesser .ensures) in (e .0, e .1 .0)
 
 u8-at-requires : tie.Need-u8-at-requires
 u8-at-requires c κs = search needs
@@ -82,8 +82,8 @@ returns c =
     let chunk = a .chunk .now in
     let n = l .lesser .result in
     let t : length tail ≡ u .u8-at .result = tail-long u in
-    let is : n ≡ cond (ltb (length chunk) (largest - length tail)) (length chunk) (largest - length tail) =
-    l .lesser .ensures ∙ ap (λ (k : ℕ). cond (ltb (length chunk) (largest - k)) (length chunk) (largest - k)) (sym t) in
+    let is : n ≡ cond (ltb (length chunk) (largestField - length tail)) (length chunk) (largestField - length tail) =
+    l .lesser .ensures ∙ ap (λ (k : ℕ). cond (ltb (length chunk) (largestField - k)) (length chunk) (largestField - k)) (sym t) in
     let few : length tail ≤ tailMost = omega (arith, t, short u) in (
       ap (λ (k : ℕ). k + n) (sym t) ∙ sym (joint-long tail chunk n few is) ∙ ap length (joint-is tail chunk n few is),
       ap (λ (k : ℕ). take (k + n) (second .copy2 .last .0)) (sym t)

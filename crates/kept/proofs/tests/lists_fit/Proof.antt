@@ -9,7 +9,7 @@ use lib.ListN.{length}
 use borrow.Author.Tests.{not-true, not-false}
 use Rattle.site.specs.Site.{count}
 use Rattle.stick.specs.Site.{siteOf, roofsOf}
-use Rattle.stick.specs.Posts.{Accepted}
+use Rattle.stick.specs.Check.{Accepted}
 use Rattle.kept.specs.Kept.{begunAt}
 use Rattle.kept.specs.Layout.{stageIn, stepsKept, sitePart}
 use Rattle.kept.proofs.ListLaws.{site-part-is, site-part-length, part-accepted, few-units, few-roofs, lists-before, lists-begun}

@@ -9,7 +9,7 @@ use lib.ListN.{length, take, drop}
 use Rattle.whole.specs.Over.{allOf}
 use Rattle.stick.specs.Site.{siteOf}
 use Rattle.site.specs.Site.{count}
-use Rattle.stick.specs.Posts.{Accepted}
+use Rattle.stick.specs.Check.{Accepted}
 use Rattle.kept.specs.Layout.{sitePlace, sitePart, storeAt, requestAt}
 use Rattle.kept.specs.Formed.{heldFits, varFits}
 use Rattle.kept.proofs.StandLaws.{upTo-length}

@@ -14,8 +14,11 @@ enum-known-a c = search needs
 enum-told : tie.Need-enum-told
 enum-told c = search needs
 
+refused-requires : tie.Need-refused-requires
+refused-requires c κs = search needs
+
 returns : tie.Need-returns
-returns c = search needs
+returns c = cc
 
 enum-known-b : tie.Need-enum-known-b
 enum-known-b c = search needs
@@ -23,8 +26,11 @@ enum-known-b c = search needs
 enum-told-2 : tie.Need-enum-told-2
 enum-told-2 c = search needs
 
+refused-requires-2 : tie.Need-refused-requires-2
+refused-requires-2 c κs = search needs
+
 returns-2 : tie.Need-returns-2
-returns-2 c = search needs
+returns-2 c = cc
 
 enum-known-c : tie.Need-enum-known-c
 enum-known-c c = search needs
@@ -32,8 +38,11 @@ enum-known-c c = search needs
 enum-told-3 : tie.Need-enum-told-3
 enum-told-3 c = search needs
 
+refused-requires-3 : tie.Need-refused-requires-3
+refused-requires-3 c κs = search needs
+
 returns-3 : tie.Need-returns-3
-returns-3 c = search needs
+returns-3 c = cc
 
 cast-choice : tie.Need-cast-choice
 cast-choice c =
@@ -80,12 +89,15 @@ chosen-spec =
     (tie.spec
     enum-known-a
     enum-told
+    refused-requires
     returns
     enum-known-b
     enum-told-2
+    refused-requires-2
     returns-2
     enum-known-c
     enum-told-3
+    refused-requires-3
     returns-3
     cast-choice
     cast-choice-2

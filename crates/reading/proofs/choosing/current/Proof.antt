@@ -6,9 +6,14 @@ use Rattle.reading.proofs.ChoiceLaws.{no-phase, measured}
 use Rattle.reading.proofs.choosing.current.Statement.{statement}
 use Rattle.reading.proofs.choosing.current.Tie as tie
 
+refused-requires : tie.Need-refused-requires
+refused-requires c κs = search needs
+
 returns : tie.Need-returns
 unfolding currentOf
-returns c = no-phase milliOf (c .before .args .p) (c .before .args .phase) (c .if1 .taken)
+returns c =
+    let t = c .before in
+    no-phase milliOf (t .before .args .p) (t .before .args .phase) (t .if1 .taken) (c .refused .result) (c .refused .ensures)
 
 milliamperes-requires : tie.Need-milliamperes-requires
 milliamperes-requires c κs = search needs
@@ -30,6 +35,7 @@ pub current-spec : {M : Type 1} → statement M
 current-spec =
     tie.close
     (tie.spec
+    refused-requires
     returns
     milliamperes-requires
     milliamperes-requires-2

@@ -6,9 +6,14 @@ use Rattle.reading.proofs.ChoiceLaws.{no-phase, measured}
 use Rattle.reading.proofs.choosing.regulated.Statement.{statement}
 use Rattle.reading.proofs.choosing.regulated.Tie as tie
 
+refused-requires : tie.Need-refused-requires
+refused-requires c κs = search needs
+
 returns : tie.Need-returns
 unfolding measureOf
-returns c = no-phase wattsOf (c .before .args .p) (c .before .args .phase) (c .if1 .taken)
+returns c =
+    let t = c .before in
+    no-phase wattsOf (t .before .args .p) (t .before .args .phase) (t .if1 .taken) (c .refused .result) (c .refused .ensures)
 
 converted-requires : tie.Need-converted-requires
 converted-requires c κs = search needs
@@ -30,6 +35,7 @@ pub regulated-spec : {M : Type 1} → statement M
 regulated-spec =
     tie.close
     (tie.spec
+    refused-requires
     returns
     converted-requires
     converted-requires-2

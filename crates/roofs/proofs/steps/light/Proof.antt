@@ -10,7 +10,7 @@ use Rattle.whole.proofs.OverLaws.{and-parts}
 use Rattle.solar.specs.declared.Inverter.{Inverter}
 use Rattle.solar.specs.Step.{given}
 use Rattle.solar.specs.Posts.{Roofed}
-use Rattle.guided.specs.Posts.{Guiding}
+use Rattle.guided.specs.Units.{Guiding}
 use Rattle.guided.proofs.SharedLaws.{last-back}
 use Rattle.guided.proofs.RoofLaws.{unled-step, unled-kept}
 use Rattle.roofs.specs.Posts.{roofHere}

@@ -2,7 +2,7 @@
 use mathlib.Core.Path.{sym, ap₂, _∙_}
 use Prim.Native.Nat.{_+_}
 use lib.ListN.{length}
-use Rattle.stick.specs.Posts.{Accepted}
+use Rattle.stick.specs.Check.{Accepted}
 use Rattle.stretch.proofs.RoofLaws.{roofs-there}
 use Rattle.stretch.proofs.SiteLaws.{rows-there, loaded-sited}
 use Rattle.season.proofs.LoadLaws.{all-set}
