@@ -4,5 +4,6 @@ pub mod AcceptedLaws
 pub mod SameLaws
 pub mod BytesLaws
 pub mod RefusedLaws
+pub mod LostLaws
 pub mod StepsLaws
 pub mod RescueProved

@@ -1,5 +1,5 @@
 -- A rescue refuses by the check's own walk: up to the first reading made missing and the first weather or voltage that waits, the two are one, and from there
--- on the steps have begun, where nothing is due. Assumes nothing.
+-- on the steps have begun, where nothing is due. So where a field is due, no step has been counted. Assumes nothing.
 use mathlib.Core.Path.{_≡_, refl, sym, ap, ap₂, _∙_}
 use mathlib.Core.Logic.{_⊎_, inl, inr}
 use mathlib.Core.Bool.{Bool, true, false, not, cond, _&&_, _||_}
@@ -20,7 +20,7 @@ use Rattle.stick.specs.Check.{answer, fieldAt, reached, reachOf, ends, start, c
 use Rattle.stick.specs.Site.{ofSteps}
 use Rattle.stick.proofs.WalkLaws.{not-too-large}
 use Rattle.stick.proofs.ReachLaws.{walk-reach}
-use Rattle.chunks.proofs.ReachChunks.{reach-over, reach-step, gone}
+use Rattle.chunks.proofs.ReachChunks.{reach-over, reach-step, Went, there, passing, gone}
 use Rattle.kept.specs.Kept.{begun}
 use Rattle.taking.proofs.StageLaws.{HeadTook, StepTook, sort, along}
 use Rattle.rescue.specs.Saved.{Saved, keeping, bytesAt, waits, savedOf, beforeSteps, due}
@@ -85,6 +85,14 @@ step-free st tag c o =
     go false true = refl
     go false false = refl
 
+-- so where a field is due they have not begun
+due-before : (st : State) (tag : ℕ) → due st tag ≡ true → begun st ≡ false
+due-before st tag d = go (begun st) refl
+  where
+    go : (b : Bool) → begun st ≡ b → b ≡ false
+    go true e = absurd (passed-failed d (begun-free st tag e))
+    go false e = refl
+
 -- ---- the end of the file is not due
 due-going : (st : State) (tag : ℕ) → due st tag ≡ true → eqb (st .stage) 0 ≡ false
 due-going st tag d = go (eqb (st .stage) 0) refl
@@ -133,6 +141,15 @@ module _ (file : List ℕ) where
       let g = gone file (length file) st at (omega arith) h in
       begun-free (far st at .state) (tagAt file (far st at .at)) (along file (g .went) b .begun-next)
 
+  -- ---- before the steps have begun none is counted
+  none-counted : {st next : State} {i j : ℕ} → Went file next j st i → begun next ≡ false → next .steps ≡ st .steps
+  none-counted (there e f) b = ap (λ (s : State). s .steps) (sym e)
+  none-counted {st} {next} {i} (passing m l e f w more) b = go (sort file st i m (omega arith) f) (none-counted more b)
+    where
+      go : HeadTook file st i m ⊎ StepTook file st i m → next .steps ≡ m .steps → next .steps ≡ st .steps
+      go (inl k) further = further ∙ k .none
+      go (inr k) further = absurd (passed-failed (along file more (k .behind) .begun-next) b)
+
   -- ---- a weather or a voltage that waits: a step may be closed there
   module _ {st m : State} {at : ℕ} (f : waits m ≡ true) where
     waiting-took : HeadTook file st at m ⊎ StepTook file st at m → StepTook file st at m
@@ -177,6 +194,11 @@ module _ (file : List ℕ) where
   unfolding dueFirst
   due-same d (alike n a t) = (n, a)
   due-same d (free a b) = absurd (passed-failed d b)
+
+  -- the check has counted no step there
+  no-step : dueFirst file ≡ true → r .state .steps ≡ 0
+  unfolding dueFirst
+  no-step d = none-counted (gone file (length file) start 0 (omega arith) (omega arith) .went) (due-before (r .state) (tagAt file (r .at)) d)
 
   abbrev numbered : ℕ → ℕ
   numbered n = cond (eqb n 0) 8 n
@@ -227,6 +249,12 @@ module _ (file : List ℕ) where
         ap (λ (a : Answer). a .place) (by-due true d)
         ∙ due-same d (met (saved-file file)) .1
         ∙ sym (ap (λ (a : Answer). a .place) (check-due d))
+
+    pub same-steps : dueFirst file ≡ true → rescueOf file .steps ≡ checkOf file .steps
+    same-steps d =
+        ap (λ (a : Answer). a .steps) (by-due true d)
+        ∙ sym (no-step d)
+        ∙ sym (ap (λ (a : Answer). a .steps) (check-due d))
 
     pub not-else : dueFirst file ≡ false → (rescueOf file .number ≡ 0) ⊎ ((rescueOf file ≡ answer 12 0 0) × (2097152 < length (outputOf file)))
     unfolding outputOf

@@ -5,7 +5,7 @@ use Rattle.rescued.specs.Holds.{RescueLaw}
 use Rattle.rescued.proofs.AcceptedLaws.{output-accepted}
 use Rattle.rescued.proofs.SameLaws.{taken, same, no-change, same-again, no-change-again}
 use Rattle.rescued.proofs.BytesLaws.{bytes}
-use Rattle.rescued.proofs.RefusedLaws.{too-large, refused, same-number, same-place, not-else}
+use Rattle.rescued.proofs.RefusedLaws.{too-large, refused, same-number, same-place, same-steps, not-else}
 use Rattle.rescued.proofs.StepsLaws.{steps, counted}
 
 pub rescue-law : (file : List ℕ) → RescueLaw file
@@ -23,5 +23,6 @@ rescue-law file = record {
   refused = refused file;
   same-number = same-number file;
   same-place = same-place file;
+  same-steps = same-steps file;
   not-else = not-else file;
 }

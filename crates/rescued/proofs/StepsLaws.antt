@@ -1,5 +1,5 @@
 -- The steps of a rescue's output are the file's, in order: what is kept are whole fields, each field that is kept says there what it says in the file, a
--- reading made missing closes the step with the sun and the voltage it had, and the end field closes none. Assumes nothing.
+-- reading made missing is one that cannot be used and closes the step with the sun and the voltage it had, and the end field closes none. Assumes nothing.
 use mathlib.Core.Path.{_≡_, refl, sym, ap, ap₂, _∙_, subst, subst⁻¹}
 use mathlib.Core.Logic.{inl, inr}
 use mathlib.Core.Bool.{Bool, true, false, cond}
@@ -18,7 +18,7 @@ use Rattle.site.specs.declared.Step.{Step}
 use Rattle.site.specs.declared.Due.{Due}
 use Rattle.site.specs.Site.{due, noneYet, stepWith}
 use Rattle.fields.specs.declared.State.{State}
-use Rattle.fields.specs.declared.Taken.the-variants.{Next}
+use Rattle.fields.specs.declared.Taken.the-variants.{Next, Stop}
 use Rattle.fields.specs.Fields.{isReading, kinds, sizeIn, sizeOf}
 use Rattle.fields.proofs.FieldLaws.{after-reading}
 use Rattle.stick.specs.declared.Answer.{Answer}
@@ -35,6 +35,7 @@ use Rattle.rescue.specs.Answers.{endField, outputBy, outputOf, savedAnswer, res
 use Rattle.rescue.proofs.SaveLaws.{by-measure, Unread, Saving, over, ended, refused, lost, passed, waiting}
 use Rattle.rescued.specs.Holds.{Likes, none, next}
 use Rattle.rescued.proofs.BytesLaws.{saved-file}
+use Rattle.rescued.proofs.LostLaws.{lost-six}
 
 -- ---- the steps from a field on, by whether it is a reading, with what the step under way has
 abbrev stepsBy : List ℕ → ℕ → Bool → Due → List Step
@@ -175,10 +176,10 @@ module _ (file : List ℕ) where
 
   module _ {st : State} {at : ℕ} {s : Saved} (l : at < length file) where
     -- a reading made missing
-    held-lost : Unread st file at → Held file (closedStep st) (past file at) s → Held file st at (keeping missingField (at ∷ []) s)
-    held-lost u h = record {
+    held-lost : fieldAt st file at ≡ Stop 6 → Unread st file at → Held file (closedStep st) (past file at) s → Held file st at (keeping missingField (at ∷ []) s)
+    held-lost f u h = record {
       whole = whole-append missingField (s .kept) missing-whole (h .whole);
-      likes = λ d. likes-so (missing-steps (s .kept) d) (here d) (next (record { sun = refl; voltage = refl; reading = inr refl }) (h .likes noneYet));
+      likes = λ d. likes-so (missing-steps (s .kept) d) (here d) (next (record { sun = refl; voltage = refl; reading = inr (refl, lost-six st file at f u) }) (h .likes noneYet));
       counted = λ d. let c = h .counted noneYet in let n = ap length (missing-steps (s .kept) d) in omega arith;
     }
       where
@@ -218,7 +219,7 @@ module _ (file : List ℕ) where
   held {st} {at} (over e) = held-none st at 0
   held {st} {at} (ended l e) = held-none st at 9
   held {st} {at} (refused n l e f u) = held-none st at n
-  held {st} {at} (lost l e f u more) = held-lost l u (held more)
+  held {st} {at} (lost l e f u more) = held-lost l f u (held more)
   held {st} {at} (passed m l e f w g more) = held-passed l m f (held more)
   held {st} {at} (waiting {s = s} m l e f w g more) = held-none st at (s .number)
 

@@ -9,17 +9,18 @@ use lib.ListN.{length}
 use Rattle.octets.specs.BigEndian.{be}
 use Rattle.parts.specs.Header.{tagAt}
 use Rattle.reading.specs.declared.Reading.the-variants.{Missing}
+use Rattle.reading.specs.Choice.{refusalOf}
 use Rattle.site.specs.declared.Step.{Step}
 use Rattle.stick.specs.Check.{answer, reachOf, start, checkOf}
 use Rattle.stick.specs.Site.{stepsOf}
 use Rattle.rescue.specs.Saved.{due}
 use Rattle.rescue.specs.Answers.{Change, outputOf, changesOf, rescueOf}
 
--- a step as it was, or its reading made missing
+-- a step as it was, or its reading made missing, which is done only to a reading that cannot be used: one refused by 6
 pub record Like (kept was : Step) : Type 0 where
   pub sun : kept .sun ≡ was .sun
   pub voltage : kept .voltage ≡ was .voltage
-  pub reading : (kept .reading ≡ was .reading) ⊎ (kept .reading ≡ Missing)
+  pub reading : (kept .reading ≡ was .reading) ⊎ ((kept .reading ≡ Missing) × (refusalOf (was .reading) ≡ 6))
 
 -- steps in order; others may come behind them
 pub data Likes : List Step → List Step → Type 0 where
@@ -50,14 +51,15 @@ pub record RescueLaw (file : List ℕ) : Type 0 where
   -- rescuing the output changes nothing
   pub same-again : rescueOf file .number ≡ 0 → outputOf (outputOf file) ≡ outputOf file
   pub no-change-again : rescueOf file .number ≡ 0 → changesOf (outputOf file) ≡ []
-  -- every step of the output is one of the file, in order, or its reading made missing; and there are as many as the rescue says
+  -- every step of the output is one of the file, in order, or its reading made missing where it cannot be used; and there are as many as the rescue says
   pub steps : rescueOf file .number ≡ 0 → Likes (stepsOf (outputOf file)) (stepsOf file)
   pub counted : rescueOf file .number ≡ 0 → length (stepsOf (outputOf file)) ≡ rescueOf file .steps
   -- the bytes of the output and those dropped are the file's, and those of an end field that was written
   pub bytes : length (outputOf file) + droppedIn (changesOf file) ≡ length file + writtenIn (changesOf file)
-  -- it refuses exactly where the size or a field due before the steps is not good, with the check's number and place; the output's size aside
+  -- it refuses exactly where the size or a field due before the steps is not good, with the check's number, place and steps; the output's size aside
   pub too-large : 2097152 < length file → rescueOf file ≡ answer 12 0 0
   pub refused : length file ≤ 2097152 → dueFirst file ≡ true → (checkOf file .number ≡ 0 → ⊥)
   pub same-number : length file ≤ 2097152 → dueFirst file ≡ true → rescueOf file .number ≡ checkOf file .number
   pub same-place : length file ≤ 2097152 → dueFirst file ≡ true → rescueOf file .place ≡ checkOf file .place
+  pub same-steps : length file ≤ 2097152 → dueFirst file ≡ true → rescueOf file .steps ≡ checkOf file .steps
   pub not-else : length file ≤ 2097152 → dueFirst file ≡ false → (rescueOf file .number ≡ 0) ⊎ ((rescueOf file ≡ answer 12 0 0) × (2097152 < length (outputOf file)))
