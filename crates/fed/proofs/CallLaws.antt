@@ -72,6 +72,20 @@ module _ (s : List ℕ) where
         let stop = stoppedBytes (endFault k) (k .place - length (k .tail)) (k .state .steps) in
         ap (λ (b : Bool). left-by b (eqb (endFault k) 0) (eqb (endNumber s room) 0) s taken stop) e ∙ ap₂ (λ (x y : Bool). left-by goes x y s taken stop) f g
 
+-- ---- with room enough the end is what it is with just its room
+module _ (s : List ℕ) (room : ℕ) (enough : endBytes ≤ room) where
+  pub room-number : endNumber s room ≡ endNumber s endBytes
+  room-number = by room enough ∙ sym (by endBytes (omega arith))
+    where
+      by : (r : ℕ) → endBytes ≤ r → endNumber s r ≡ answered-by (eqb (ownNumber s) 0) (ownNumber s) (eqb (endFault (keptIn s)) 0) (endFault (keptIn s)) false
+      by r l = end-number-by s (eqb (ownNumber s) 0) (eqb (endFault (keptIn s)) 0) false refl r refl (le-ltb r endBytes l)
+
+  pub room-leaves : endLeaves s room ≡ endLeaves s endBytes
+  room-leaves =
+      let fine = eqb (endFault (keptIn s)) 0 in
+      let done = eqb (endNumber s endBytes) 0 in
+      end-leaves-by s (isOpen s) fine done refl room refl (ap (λ (n : ℕ). eqb n 0) room-number) ∙ sym (end-leaves-by s (isOpen s) fine done refl endBytes refl refl)
+
 -- ---- a state whose run does not go on: its own number, and it stands
 module _ (s : List ℕ) (own : ownNumber s ≡ 0 → ⊥) where
   pub own-feed : (c : List ℕ) (room : ℕ) → feedNumber s c room ≡ ownNumber s
@@ -276,7 +290,7 @@ module _ (k : Kept) (well : WellKept k) where
     refused-steps = stopped-steps-back (endFault k) (k .place - length (k .tail)) (k .state .steps) end-refusal (well .few) end-place
 
   module _ (e : endFault k ≡ 0) where
-    no-tail : length (k .tail) ≡ 0
+    pub no-tail : length (k .tail) ≡ 0
     unfolding endFault
     no-tail = go (eqb (length (k .tail)) 0) refl (eqb (k .state .stage) 0) e
       where
@@ -295,6 +309,12 @@ module _ (k : Kept) (well : WellKept k) where
 
     over-number : numberIn (stoppedBytes 9 (k .place) (k .state .steps)) ≡ 9
     over-number = stopped-number-back 9 (k .place) (k .state .steps) nine (well .few) over-place
+
+    pub over-place-back : placeIn (stoppedBytes 9 (k .place) (k .state .steps)) ≡ k .place
+    over-place-back = stopped-place-back 9 (k .place) (k .state .steps) nine (well .few) over-place
+
+    pub over-steps-back : stepsKept (stoppedBytes 9 (k .place) (k .state .steps)) ≡ k .state .steps
+    over-steps-back = stopped-steps-back 9 (k .place) (k .state .steps) nine (well .few) over-place
 
 -- ---- a call, by what the bytes are
 data Feeding (s c : List ℕ) (room : ℕ) : Type 0 where
@@ -440,6 +460,24 @@ module _ (s c : List ℕ) (room : ℕ) where
           let k = keptIn s in absurd (no-eleven (endFault k) (end-refusal k (kept-well s w z) f) (sym (refused-number s k refl w z room f) ∙ e))
       go (too-short w z f l) = end-number s (keptIn s) refl w z more f m
       go (taken w z f l) = end-number s (keptIn s) refl w z more f m
+
+-- an end that is accepted had room enough, and the run went on till then
+module _ (s : List ℕ) (room : ℕ) (ok : endNumber s room ≡ 0) where
+  pub over-room : endBytes ≤ room
+  over-room = go (ending s room)
+    where
+      go : Ending s room → endBytes ≤ room
+      go (shut-out own) = absurd (own (sym (own-end s own room) ∙ ok))
+      go (refused w z f) = absurd (f (sym (refused-number s (keptIn s) refl w z room f) ∙ ok))
+      go (too-short w z f l) = let g = short-end-number s (keptIn s) refl w z room f l in absurd (omega arith)
+      go (taken w z f l) = l
+
+  pub over-own : ownNumber s ≡ 0
+  over-own = go (eqb (ownNumber s) 0) refl
+    where
+      go : (b : Bool) → eqb (ownNumber s) 0 ≡ b → ownNumber s ≡ 0
+      go true e = eqb-true (ownNumber s) 0 e
+      go false e = sym (own-end s (eqb-false (ownNumber s) 0 e) room) ∙ ok
 
 -- ---- what a call writes
 module _ (s c lent : List ℕ) where

@@ -1,5 +1,6 @@
 -- A file of any size, fed in any chunks from the start on, against the walk over the whole of it: `fed-law`. Assumes nothing.
-use mathlib.Core.Path.{_≡_, refl, sym, ap, ap₂, _∙_}
+use mathlib.Core.Path.{_≡_, refl, sym, ap, ap₂, _∙_, subst⁻¹}
+use mathlib.Core.Logic.{inl}
 use mathlib.Core.Bool.{Bool, true, false, cond}
 use mathlib.Core.List.{List, _++_}
 use Prim.Native.Nat.{ℕ, _+_, _-_, _≤_, _<_}
@@ -34,11 +35,12 @@ use Rattle.taking.specs.Chunk.{headIn, goneBy, siteAfter, standsBefore, stepsBy
 use Rattle.taking.proofs.LeadLaws.{steps-counted}
 use Rattle.taking.proofs.TwiceLaws.{site-by}
 use Rattle.taking.proofs.FedLaws.{gone-leads}
+use Rattle.taking.proofs.NumberLaws.{Numbered, stop-number}
 use Rattle.taking.proofs.WellLaws.{start-well, fed-well}
 use Rattle.feed.specs.Answers.{faultLeaves, endFault, endNumber, endLeaves}
 use Rattle.fed.specs.Holds.{joined, leavesAll, first, FedLaw}
-use Rattle.fed.proofs.CallLaws.{fault-by, own-end, own-end-leaves, closed-own, closed-some, end-number, refused-number, refused-leaves, refused-place, refused-steps, fault-formed, fault-some}
-use Rattle.fed.proofs.CallLaws.{fault-number-back, fault-place-back, fault-steps-back}
+use Rattle.fed.proofs.CallLaws.{fault-by, own-end, own-end-leaves, closed-own, closed-some, end-number, end-leaves, refused-number, refused-leaves, refused-place, refused-steps, fault-formed, fault-some}
+use Rattle.fed.proofs.CallLaws.{fault-number-back, fault-place-back, fault-steps-back, no-tail, over-place-back, over-steps-back}
 use Rattle.fed.proofs.ChunkLaws.{after, after-fine, after-fault, after-formed, after-short, fed-place, leaves-all, leaves-one, results-all}
 
 zero-plus : (n : ℕ) → 0 - 0 + n ≡ n
@@ -97,6 +99,19 @@ module _ (file : List ℕ) where
   walked-steps : walk (length file) start file 0 .steps ≡ goneBy atStart file .state .steps
   walked-steps = ap (λ (a : Answer). a .steps) walked ∙ told-steps (goneBy atStart file)
 
+  -- 10 and 11 are none of its numbers
+  pub walked-numbered : Numbered (walk (length file) start file 0 .number)
+  walked-numbered = subst⁻¹ Numbered walked-number (go (eqb (goneBy atStart file .number) 0) refl)
+    where
+      at-end-numbered : (b : Bool) → Numbered (cond b 0 8)
+      at-end-numbered true = inl (omega arith)
+      at-end-numbered false = inl (omega arith)
+
+      go : (b : Bool) → eqb (goneBy atStart file .number) 0 ≡ b → Numbered (answered (goneBy atStart file) .number)
+      go true e =
+          subst⁻¹ Numbered (told-end (goneBy atStart file) (eqb-true (goneBy atStart file .number) 0 e)) (at-end-numbered (eqb (goneBy atStart file .state .stage) 0))
+      go false e = subst⁻¹ Numbered (told-number (goneBy atStart file) (eqb-false (goneBy atStart file .number) 0 e)) (stop-number atStart file)
+
   -- ---- no fault: what the end says is what the walk says
   tail-long : length (fedBy atStart file .tail) ≡ length file - goneBy atStart file .at
   unfolding fedBy
@@ -136,6 +151,11 @@ module _ (file : List ℕ) where
           is-one : (n : ℕ) → n ≤ 1 → (n ≡ 0 → ⊥) → n ≡ 1
           is-one n l z = omega (arith, z)
 
+  -- what the end leaves of a file, accepted or not
+  record Left : Type 0 where
+    place : placeIn (endLeaves (after atStart file) endBytes) ≡ walk (length file) start file 0 .place
+    steps : stepsKept (endLeaves (after atStart file) endBytes) ≡ walk (length file) start file 0 .steps
+
   -- ---- the end of an accepted file
   module _ (ok : walk (length file) start file 0 .number ≡ 0) where
     went : goneBy atStart file .number ≡ 0
@@ -153,6 +173,24 @@ module _ (file : List ℕ) where
         ap (λ (s : List ℕ). endNumber s endBytes) (after-fine atStart file fine)
         ∙ end-number s (fedBy atStart file) (kept-back (fedBy atStart file) kept-so) (kept-formed (fedBy atStart file) kept-so) (kept-number (fedBy atStart file) kept-so) endBytes
         (end-told fine ∙ ok) (omega arith)
+
+    pub whole-place : walk (length file) start file 0 .place ≡ length file
+    whole-place = walked-place ∙ gone-all went
+
+    over-left : Left
+    over-left =
+        let k = fedBy atStart file in
+        let e : endFault k ≡ 0 = end-told fine ∙ ok in
+        let left =
+        ap (λ (s : List ℕ). endLeaves s endBytes) (after-fine atStart file fine)
+        ∙ end-leaves (bytesFor k) k (kept-back k kept-so) (kept-formed k kept-so) (kept-number k kept-so) endBytes e (omega arith) in
+        let t = no-tail k kept-so e in
+        let p = fed-place atStart file in
+        let at : k .place ≡ goneBy atStart file .at = omega arith in
+        record {
+          place = ap placeIn left ∙ over-place-back k kept-so e ∙ at ∙ sym walked-place;
+          steps = ap stepsKept left ∙ over-steps-back k kept-so e ∙ ap (λ (s : State). s .steps) state-is ∙ sym walked-steps;
+        }
 
     -- ---- and its results
     ended : goneBy atStart file .state .stage ≡ 0
@@ -220,8 +258,7 @@ module _ (file : List ℕ) where
   module _ (no : walk (length file) start file 0 .number ≡ 0 → ⊥) where
     record Refused : Type 0 where
       number : endNumber (after atStart file) endBytes ≡ walk (length file) start file 0 .number
-      place : placeIn (endLeaves (after atStart file) endBytes) ≡ walk (length file) start file 0 .place
-      steps : stepsKept (endLeaves (after atStart file) endBytes) ≡ walk (length file) start file 0 .steps
+      left : Left
 
     -- by the end
     at-end : goneBy atStart file .number ≤ 1 → Refused
@@ -236,8 +273,10 @@ module _ (file : List ℕ) where
               ap (λ (s : List ℕ). endNumber s endBytes) (after-fine atStart file h)
               ∙ refused-number s k (kept-back k well) (kept-formed k well) (kept-number k well) endBytes e
               ∙ end-told h;
-          place = ap placeIn left ∙ refused-place k well e ∙ fed-place atStart file ∙ zero-plus (goneBy atStart file .at) ∙ sym walked-place;
-          steps = ap stepsKept left ∙ refused-steps k well e ∙ ap (λ (s : State). s .steps) state-is ∙ sym walked-steps;
+          left = record {
+            place = ap placeIn left ∙ refused-place k well e ∙ fed-place atStart file ∙ zero-plus (goneBy atStart file .at) ∙ sym walked-place;
+            steps = ap stepsKept left ∙ refused-steps k well e ∙ ap (λ (s : State). s .steps) state-is ∙ sym walked-steps;
+          };
         }
 
     -- by a fault before it
@@ -255,8 +294,10 @@ module _ (file : List ℕ) where
           number =
               ap (λ (s : List ℕ). endNumber s endBytes) is ∙ own-end s own endBytes ∙ closed-own s w some ∙ fault-number-back atStart start-well file h
               ∙ sym (walked-number ∙ told-number (goneBy atStart file) (λ z. omega arith));
-          place = ap placeIn left ∙ fault-place-back atStart start-well file h ∙ zero-plus (goneBy atStart file .at) ∙ sym walked-place;
-          steps = ap stepsKept left ∙ fault-steps-back atStart start-well file h ∙ sym walked-steps;
+          left = record {
+            place = ap placeIn left ∙ fault-place-back atStart start-well file h ∙ zero-plus (goneBy atStart file .at) ∙ sym walked-place;
+            steps = ap stepsKept left ∙ fault-steps-back atStart start-well file h ∙ sym walked-steps;
+          };
         }
 
     refused-end : Refused
@@ -265,6 +306,13 @@ module _ (file : List ℕ) where
         go : (b : Bool) → leb (goneBy atStart file .number) 1 ≡ b → Refused
         go true e = at-end (leb-true (goneBy atStart file .number) 1 e)
         go false e = at-fault e
+
+  left-at-end : Left
+  left-at-end = go (eqb (walk (length file) start file 0 .number) 0) refl
+    where
+      go : (b : Bool) → eqb (walk (length file) start file 0 .number) 0 ≡ b → Left
+      go true e = over-left (eqb-true (walk (length file) start file 0 .number) 0 e)
+      go false e = refused-end (eqb-false (walk (length file) start file 0 .number) 0 e) .left
 
 -- ---- any chunks
 pub fed-law : (chunks : List (List ℕ)) → FedLaw chunks
@@ -279,6 +327,6 @@ fed-law chunks =
       same-results = λ ok.
           ap₂ (λ (l : List ℕ) (s : List ℕ). l ++ endOf (keptIn s .state .steps)) (results-all chunks (fine file ok)) is ∙ whole-results file ok;
       refused = λ no. ap (λ (s : List ℕ). endNumber s endBytes) is ∙ refused-end file no .number;
-      same-place = λ no. ap (λ (s : List ℕ). placeIn (endLeaves s endBytes)) is ∙ refused-end file no .place;
-      same-steps = λ no. ap (λ (s : List ℕ). stepsKept (endLeaves s endBytes)) is ∙ refused-end file no .steps;
+      same-place = ap (λ (s : List ℕ). placeIn (endLeaves s endBytes)) is ∙ left-at-end file .place;
+      same-steps = ap (λ (s : List ℕ). stepsKept (endLeaves s endBytes)) is ∙ left-at-end file .steps;
     }

@@ -2,3 +2,4 @@
 pub mod CallLaws
 pub mod ChunkLaws
 pub mod FedProved
+pub mod KnownLaws
