@@ -52,7 +52,7 @@ pub extern "C" fn yb_check_steps(file: &[u8]) -> u32
 pub extern "C" fn yb_value_start(file: &[u8], place: u64) -> u64
     ensures { λ r. ⌜ r ≡ partStart (now (file .entry)) place ⌝ }
 {
-    parts::part_start(file, place)
+    parts::place_past(file, place) - (parts::value_at(file, place).len() as u64)
 }
 
 // The support screen: how many of them are there.
@@ -60,7 +60,7 @@ pub extern "C" fn yb_value_start(file: &[u8], place: u64) -> u64
 pub extern "C" fn yb_value_len(file: &[u8], place: u64) -> u64
     ensures { λ r. ⌜ r ≡ partSize (now (file .entry)) place ⌝ }
 {
-    parts::part_size(file, place)
+    parts::value_at(file, place).len() as u64
 }
 
 // The run: the bytes that the result of a file needs, 0 for a file that the check refuses.
