@@ -1,6 +1,6 @@
-"""What the desk's commands share as programs: where the import tool is, and what its exit status has to be; signals that
-end them, on whose way out what is unfinished is removed; the new name of a file on the disk; and standard output and
-error as the caller has left them."""
+"""What the desk's commands share as programs: where the import tool is, and what its exit status has to be; signals
+that end them, on whose way out what is unfinished is removed; the new name of a file on the disk; and standard output
+and error as the caller has left them."""
 
 import errno
 import io
@@ -11,7 +11,7 @@ import sys
 
 ENDING = (signal.SIGINT, signal.SIGTERM, signal.SIGHUP)
 
-# The exit status with which the import tool ends when it says that of a stick. Any other says that something went wrong.
+# The exit status with which the import tool ends when it says that of a stick. Any other says that something is wrong.
 STATUS = {'complete': 0, 'refused': 1}
 
 # What a disk says that cannot be asked for a folder.

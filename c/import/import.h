@@ -266,7 +266,8 @@ void write_more(struct whole *whole, const uint8_t *bytes, size_t len);
 int end_whole(struct whole *whole);
 void drop_whole(struct whole *whole);
 
-/* The lines about a file that is in its place are out; or it is told that only they are lost. Gives COMPLETE, or FAILED.
+/* The lines about a file that is in its place are out; or it is told that only they are lost. Gives COMPLETE, or
+** FAILED.
 */
 int tell_written(const char *name);
 

@@ -1,7 +1,7 @@
 #!/usr/bin/env python3
 """failing_input.py FILE COMMAND..: runs a command whose standard input has the bytes of a file, and then fails with an
-input error where a file would end, as a stick does that is pulled out. It is the memory of this program, read through the
-system's file for that, up to the end of what is mapped. Gives the command's exit status."""
+input error where a file would end, as a stick does that is pulled out. It is the memory of this program, read through
+the system's file for that, up to the end of what is mapped. Gives the command's exit status."""
 import ctypes
 import mmap
 import os

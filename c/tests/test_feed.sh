@@ -131,7 +131,7 @@ good left
 # Nothing is said that is not so: a stick of several chunks, the same spoiled behind the first one, and the same cut.
 {
     head -c 180 examples/season.stick
-    for i in 1 2 3 4 5 6 7 8 9 10; do tail -c +181 examples/season.stick | head -c -7; done
+    for _ in 1 2 3 4 5 6 7 8 9 10; do tail -c +181 examples/season.stick | head -c -7; done
     printf '\177\0\004\0\0\015\040'
 } >"$work/several"
 cp "$work/several" "$work/spoiled"

@@ -3,8 +3,8 @@
 # Sourced by test_import.sh: nothing is said that is not so, wherever the lines or the bytes of a command cannot go: a
 # device that is full, a pipe that nobody reads, a full disk, a limit on the size of files, a signal in between.
 
-# writes_sticks: sticks of several chunks of 65,536 bytes: a complete one; one with a reading behind the first chunk that
-# is no number, one that is cut there, and one whose readings begin with such a one; and the results of the complete ones.
+# writes_sticks: sticks of several chunks of 65,536 bytes: a complete one; one with a reading that is no number behind
+# the first chunk, one that is cut there, and one whose first reading is no number; and the results of the complete ones.
 writes_sticks() {
     { bytes "$head_d" && repeated "$row" 3000 && bytes "$(end 3000)"; } >"$work/several"
     cp "$work/several" "$work/spoiled"
@@ -47,8 +47,8 @@ words_of() {
 }
 
 # into PLACE WORD..: call the command with its standard output there: full is /dev/full; deaf a pipe whose reader has
-# gone, while SIGPIPE is switched off; disk a new file on the full disk; limit one that may have no bytes. What it says on
-# standard error is kept, and what came through in $work/came.
+# gone, while SIGPIPE is switched off; disk a new file on the full disk; limit one that may have no bytes. What it says
+# on standard error is kept, and what came through in $work/came.
 into() {
     local place=$1
     shift
@@ -98,12 +98,12 @@ no_lines() {
 # no_bytes PLACE: a result or a rescued stick that goes to standard output, and does not get there. Of a stick that is
 # refused nothing goes there, and the lines are on standard error.
 no_bytes() {
-    local place=$1 words whole="-: cannot be written whole; throw away what is there: $(why "$1")"
+    local place=$1 words
     for words in 'run examples/season.stick' "run $work/several" "rescue $wreck" "rescue $work/spoiled" \
         "rescue $work/early" "rescue $work/cut" "rescue $work/several"; do
         # shellcheck disable=SC2086 # the words
         into "$place" $words -
-        good test "$status|$error" = "2|import: $whole"
+        good test "$status|$error" = "2|import: -: cannot be written whole; throw away what is there: $(why "$place")"
         good unsaid
     done
     for words in "$wreck" "$work/spoiled" "$work/early" "$work/cut"; do
@@ -211,7 +211,7 @@ kept_of() {
     fi
 }
 
-# A stick that is longer than a rescue takes is sent to none; of one whose end has not come through the pipe that is said.
+# A stick that is longer than a rescue takes is sent to none; of one whose end has not come through a pipe that is said.
 rescue_advice() {
     local file keeps='import rescue keeps what can be kept of this one'
     long_stick
@@ -256,7 +256,8 @@ writes_suite() {
         words_of "${place/OUT/$work/out/result}" "$work/several" ''
         old
         error=$(env "$hearing" "$import" "${words[@]}" 2>&1 >&9; echo "|$?")
-        status=${error##*|} error=$(grep -v '^qemu: uncaught target signal' <<<"${error%|*}") called="${words[*]} >deaf" output=''
+        status=${error##*|} error=$(grep -v '^qemu: uncaught target signal' <<<"${error%|*}")
+        called="${words[*]} >deaf" output=''
         good test "$status|$error" = '141|'
         if [ "${place#*OUT}" != "$place" ]; then good test "$(ls -A "$work/out")" = result; else good kept; fi
     done
@@ -290,7 +291,7 @@ writes_suite() {
     limited_file
 }
 
-# faulty_output FAULTS WORD..: a result or a rescued stick to standard output, which is a file, while these faults happen.
+# faulty_output FAULTS WORD..: a result or a rescued stick to standard output, a file, while these faults happen.
 faulty_output() {
     local faults=$1
     shift
@@ -301,7 +302,7 @@ faulty_output() {
     status=${error##*|} error=$(grep -v '^qemu: uncaught target signal' <<<"${error%|*}")
 }
 
-# The calls that bring bytes to standard output fail or are interrupted, up to its closing: what is said comes behind it.
+# The calls that bring bytes to standard output fail or are interrupted, up to its closing: what is said comes behind.
 writes_fault_suite() {
     local stick=examples/season.stick fault words due
     for words in "run $stick" "rescue $wreck"; do

@@ -247,8 +247,8 @@ good test -s "$work/output"
 { cat "$work/long"; printf '\0'; } >"$work/more"
 run_it "$work/more"
 
-# into PLACE FILE PROGRAM WORD..: run a program on a file, with its standard output there: full is /dev/full; deaf a pipe
-# whose reader has gone, while SIGPIPE is switched off; disk a small disk; limit a file that may have 8 KiB.
+# into PLACE FILE PROGRAM WORD..: run a program on a file, with its standard output there: full is /dev/full; deaf a
+# pipe whose reader has gone, while SIGPIPE is switched off; disk a small disk; limit a file that may have 8 KiB.
 into() {
     local place=$1 file=$2 program=$3
     shift 3
@@ -267,9 +267,9 @@ true_of() {
     [[ $error != *complete* || $(line "$1") == *': complete, '* ]]
 }
 
-# unwritten PLACE FILE: stick_run cannot write there all that it has. It stops, has not read to the end, and says so; the
-# end record of a stick without steps comes when all is read. Of a stick that is refused before any step was written, the
-# refusal is all there is to say.
+# unwritten PLACE FILE: stick_run cannot write there all that it has. It stops, has not read to the end, and says so;
+# the end record of a stick without steps comes when all is read. Of a stick that is refused before any step was
+# written, the refusal is all there is to say.
 not_whole='standard output: not written whole; throw away what it holds'
 unwritten() {
     into "$1" "$2" stick_run
@@ -294,8 +294,8 @@ unheard() {
     good test "${error#*settled}" = "$error"
 }
 
-# A result that cannot be written is told, at the first step and, where there is none, at the end record; sticks that are
-# refused at once or far behind, cut, and whole.
+# A result that cannot be written is told, at the first step and, where there is none, at the end record; sticks that
+# are refused at once or far behind, cut, and whole.
 { head -c 180 examples/season.stick; printf '\177\0\004\0\0\0\0'; } >"$work/none"
 all_of "$work/none"
 cp "$work/long" "$work/spoiled"
@@ -336,9 +336,9 @@ umount "$work/disk" 2>/dev/null
 unreadable() {
     called=$*
     error=$("$@" 2>&1 >"$work/output")
-    error+=$(cat "$work/output" | tr -d '\0')
-    good grep -q '^standard input: cannot be read$' <<<"$error"
-    good test "$(grep -cE 'complete|refused|settled|request' <<<"$error")" = 0
+    error+=$(tr -d '\0' <"$work/output")
+    good grep -qa '^standard input: cannot be read$' <<<"$error"
+    good test "$(grep -cEa 'complete|refused|settled|request' <<<"$error")" = 0
 }
 # A folder, and a device that fails: at once, and where a stick ends, which then has not come to its end.
 for program in stick_check stick_run 'settle 1000'; do
@@ -347,10 +347,17 @@ for program in stick_check stick_run 'settle 1000'; do
         unreadable "${how[@]}" target/bin/$program <"$file"
     done
     if command -v python3 >/dev/null; then
-        for file in examples/season.stick "$work/full" "$work/none" examples/refused-06-three-faults.stick; do
+        for file in examples/season.stick "$work/full" "$work/none" <(head -c 5000 examples/season.stick); do
             # shellcheck disable=SC2086 # the words
             unreadable c/tests/failing_input.py "$file" "${how[@]}" target/bin/$program
         done
+        # What was refused before that stays refused, where it is said.
+        file=examples/refused-06-three-faults.stick
+        # shellcheck disable=SC2086 # the words
+        error=$(c/tests/failing_input.py "$file" "${how[@]}" target/bin/$program 2>&1 | tr -d '\0')
+        called="$program, where standard input fails behind $file"
+        good grep -qaxE "standard input: cannot be read|$(line "$file" | sed 's/[()]/./g')" <<<"$error"
+        good test "$(grep -cEa 'complete|settled|request' <<<"$error")" = 0
     fi
 done
 command -v python3 >/dev/null || echo 'NOT RUN: standard input that fails behind a stick; install the package python3'

@@ -1,5 +1,5 @@
 """Places that take no byte, for what a command says and for what it writes: a device that is full, a pipe that nobody
-reads, a small disk without room; and a limit on the size of files, which stands for the disk where none can be mounted."""
+reads, a small disk without room; and a limit on the size of files, which stands for the disk where there is none."""
 
 import os
 import subprocess

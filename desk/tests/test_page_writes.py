@@ -1,5 +1,5 @@
-"""season-page says that there is a page when it is in its place. Where the page or the line cannot be written, where the
-import tool does not end as it says, and for sticks that are refused or cut."""
+"""season-page says that there is a page when it is in its place. Where the page or the line cannot be written, where
+the import tool does not end as it says, and for sticks that are refused or cut."""
 
 import errno
 import os

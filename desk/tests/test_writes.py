@@ -1,5 +1,5 @@
-"""stick-from-csv says that a stick is complete when that is so: it is in its place, and import has checked it. Where the
-stick or the lines cannot be written, where import does not end as it says, and for logs that are refused."""
+"""stick-from-csv says that a stick is complete when that is so: it is in its place, and import has checked it. Where
+the stick or the lines cannot be written, where import does not end as it says, and for logs that are refused."""
 
 import errno
 import os
