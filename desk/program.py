@@ -11,9 +11,6 @@ import sys
 
 ENDING = (signal.SIGINT, signal.SIGTERM, signal.SIGHUP)
 
-# The exit status with which the import tool ends when it says that of a stick. Any other says that something is wrong.
-STATUS = {'complete': 0, 'refused': 1}
-
 # What a disk says that cannot be asked for a folder.
 NOT_ASKED = (errno.EINVAL, errno.ENOTSUP, errno.EACCES)
 
@@ -31,6 +28,12 @@ def import_tool():
         if is_program(beside):
             return beside
     return shutil.which('import')
+
+
+def ended_as(status, returncode):
+    """Whether the import tool ended with the exit status of what its object says of a stick. With any other one, or
+    by a signal, something went wrong, whatever it says."""
+    return (status, returncode) in (('complete', 0), ('refused', 1))
 
 
 def sync_folder(folder):

@@ -409,15 +409,14 @@ static void tell_number(struct told *told, const struct stick *stick, const stru
 /* A rescue takes no file that is too long, and none that a new end could make so. */
 static void say_rescue(struct text *text, const struct stick *stick)
 {
-    enum { NEW_END = 7 };
-    uint64_t size = stick->size > stick->len ? stick->size : stick->len;
-    if (size > YB_MOST_FILE_BYTES - NEW_END)
+    enum { NEW_END = 7, MOST_RESCUED = YB_MOST_FILE_BYTES - NEW_END };
+    if (stick->size > MOST_RESCUED || stick->len > MOST_RESCUED)
         return;
     say(text, " import rescue keeps what can be kept of this one");
     if (stick->size == 0) {
-        say(text, ", if it has no more than the ");
-        say_number(text, YB_MOST_FILE_BYTES);
-        say(text, " bytes that a rescue takes");
+        say(text, ", if it has no more than ");
+        say_number(text, MOST_RESCUED);
+        say(text, " bytes");
     }
     say(text, ".");
 }

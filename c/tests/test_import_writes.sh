@@ -229,8 +229,7 @@ rescue_advice() {
         good test "$status|${output#*import rescue}" = "1|$output"
     done
     call check - < <(cat "$work/soon")
-    good like "$status|$(tr -s ' \n' '  ' <"$work/output")" "1|* $keeps, if it has no more than the 2,097,152 bytes that \
-a rescue takes. "
+    good like "$status|$(tr -s ' \n' '  ' <"$work/output")" "1|* $keeps, if it has no more than 2,097,145 bytes. "
     for file in "$work/cut" "$wreck"; do
         call check - < <(cat "$file")
         good like "$status|$(tr -s ' \n' '  ' <"$work/output")" "1|* $keeps. "

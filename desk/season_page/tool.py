@@ -4,7 +4,7 @@ import subprocess
 import textwrap
 from contextlib import contextmanager
 
-from program import STATUS
+from program import ended_as
 
 from .faults import Failed, Refused
 
@@ -44,7 +44,7 @@ class Tool:
             raise Failed(f'import {command} --json gives no object: {errors(done.stderr)}') from fault
         if told.get('status') == 'failed':
             raise Failed(f'import {command}: {told.get("what")}')
-        if STATUS.get(told.get('status')) != done.returncode:
+        if not ended_as(told.get('status'), done.returncode):
             raise Failed(f'import {command}: it ended with status {done.returncode}: {errors(done.stderr)}')
         return told
 

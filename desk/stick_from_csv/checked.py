@@ -7,7 +7,7 @@ import os
 import stat
 import subprocess
 
-from program import STATUS, Waiting, import_tool, is_program, release, sync_folder
+from program import Waiting, ended_as, import_tool, is_program, release, sync_folder
 
 from .words import Failed, plain
 
@@ -118,7 +118,7 @@ def check(tool, path, data, steps):
     except OSError as why:
         raise Failed(f'{plain(tool)}: cannot be run: {why.strerror or why}') from None
     answer = answer_in(done.stdout)
-    if answer is None or STATUS.get(answer['status']) != done.returncode:
+    if answer is None or not ended_as(answer['status'], done.returncode):
         said = plain(done.stderr.decode('utf-8', 'replace').strip())[-300:]
         raise Failed(f'{plain(tool)}: gives no answer about the stick, status {done.returncode}'
                      f'{": " if said else ""}{said}; is it the import tool?')
