@@ -85,7 +85,7 @@ fn tell_pass(a: PassAnswer, requests: &[i32]) {
             say::number(p.changed as u64);
             show(requests);
         }
-        PassAnswer::PassRefused(n) => say::refusal(n),
+        PassAnswer::PassRefused(r) => say::refusal(r.number),
     }
 }
 
@@ -160,7 +160,7 @@ fn tell_study(a: StudyAnswer, requests: &[i32]) {
             say::number(r.passes as u64);
             show(requests);
         }
-        StudyAnswer::StudyRefused(n) => say::refusal(n),
+        StudyAnswer::StudyRefused(r) => say::refusal(r.number),
     }
 }
 

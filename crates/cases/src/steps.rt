@@ -41,6 +41,6 @@ fn tell(a: Stepped) {
             say::number(o.stored);
             say::number(o.loss);
         }
-        Stepped::RefusedBy(n) => say::refusal(n),
+        Stepped::RefusedBy(r) => say::refusal(r.number),
     }
 }

@@ -1,4 +1,4 @@
--- Rows about a rescue (rules H2 to H6, H8 and H10), about what a file says when it is asked (rules C3, C6, C8, C9, C11, C18 and C31), about the state of a fed run
+-- Rows about a rescue (rules H2 to H6, H8 and H10), about what a file says when it is asked (rules C3, C6, C8 to C12, C18 and C31), about the state of a fed run
 -- (rules E1, E2 and E9), a curve of one point and the mode of a study (rules Q35 and S1): no figure pins them.
 use mathlib.Core.List.{List, [], _∷_, _++_, map}
 use Prim.Native.Nat.{ℕ}
@@ -19,8 +19,11 @@ use Rattle.kept.specs.Layout.{numbersOf, sunKept}
 use Rattle.kept.specs.Formed.{flagFits}
 use Rattle.rescue.specs.Answers.{rescueOf, outputOf, changesOf, listBytes, rescueAnswer}
 use Rattle.feed.specs.Answers.{ownNumber, startNumber}
+use Rattle.settling.specs.declared.Studied.{Studied}
+use Rattle.settling.specs.Answers.{studyCall}
+use Rattle.site.specs.declared.Head.{Head}
 use Rattle.ask.specs.declared.Connection.{Connection}
-use Rattle.ask.specs.Says.{unitsSaid, invertersSaid, secondsSaid, unitAnswer, unitCall, connectionAnswer, connectionCall}
+use Rattle.ask.specs.Says.{unitsSaid, invertersSaid, secondsSaid, headAnswer, headCall, unitAnswer, unitCall, connectionAnswer, connectionCall, fileStudy, fileStudyLeaves}
 use Rattle.figures.specs.Rows.{Row, row, values, refused, refusedAt, said, flag, answered, study, check, bytes, set}
 use Rattle.figures.specs.Further.{opening, missing, ending, nan, then, seven, sixOf}
 use Rattle.figures.specs.Roofs.{roof, weather}
@@ -47,11 +50,21 @@ unfolding unitAnswer
 unitTold file i =
     said (λ (u : Unit). map pos (u .rated ∷ u .reserve ∷ u .stored ∷ u .rating ∷ u .kva ∷ idleLoss u ∷ [])
     ++ u .«var_request» ∷ map pos (u .weight ∷ u .inverter ∷ u .charge ∷ u .discharge ∷ u .priority ∷ []))
-    (unitCall file (unitAnswer file i))
+    (unitCall (unitAnswer file i))
 
 unfoldable pub connectionTold : List ℕ → ℕ → List ℤ
 unfolding connectionAnswer
-connectionTold file i = said (λ (c : Connection). pos (c .phases) ∷ pos (c .volts) ∷ []) (connectionCall file (connectionAnswer file i))
+connectionTold file i = said (λ (c : Connection). pos (c .phases) ∷ pos (c .volts) ∷ []) (connectionCall (connectionAnswer file i))
+
+-- the head's mode and target; and a study over a file: 1 where it settled, the changing passes, and then what the requests are
+unfoldable pub headTold : List ℕ → List ℤ
+unfolding headAnswer
+headTold file = said (λ (h : Head). pos (h .settings .mode) ∷ h .settings .target ∷ []) (headCall (headAnswer file))
+
+unfoldable pub studyTold : List ℕ → ℤ → ℕ → List ℤ → List ℤ
+unfolding fileStudy fileStudyLeaves
+studyTold file load budget rs =
+    said (λ (r : Studied). flag (r .settled) ∷ pos (r .passes) ∷ []) (studyCall (fileStudy file load budget rs)) ++ fileStudyLeaves file load budget rs
 
 -- a current of a quiet NaN
 unfoldable pub unknown : List ℕ
@@ -103,7 +116,7 @@ unsaved =
 
 -- questions and states
 unfoldable pub calls : List Row
-unfolding told unitTold connectionTold numbersOf sunKept flagFits ownNumber check study roof opening missing ending byCurrent joined bytes
+unfolding told unitTold connectionTold headTold studyTold numbersOf sunKept flagFits ownNumber check study roof opening missing ending byCurrent joined bytes
 calls =
     -- C6, C8, C9 and C18: an accepted file, and one that is not
     row (told (then (ending 1))) (pos 1 ∷ pos 0 ∷ pos 60 ∷ pos 47 ∷ [])
@@ -113,10 +126,15 @@ calls =
     (values (map pos (3600000 ∷ 0 ∷ 3600000 ∷ 1000 ∷ 1000 ∷ 1000 ∷ 0 ∷ 1 ∷ 10000 ∷ 10000 ∷ 10000 ∷ 0 ∷ [])))
     ∷ row (unitTold (then (ending 1)) 1) (refused 10)
     ∷ row (unitTold (then []) 0) (refusedAt 8 79 1)
-    -- C31: a connection; one of a unit that there is not; one of a file without connections
+    -- C10 and C12: the head of a file that is refused; a study over it, and one with a budget of 0
+    ∷ row (headTold (then [])) (refusedAt 8 79 1)
+    ∷ row (studyTold (then []) (pos 1000) 0 (pos 5 ∷ [])) (refusedAt 8 79 1 ++ pos 5 ∷ [])
+    ∷ row (studyTold (then (ending 1)) (pos 1000) 0 (pos 5 ∷ [])) (refused 5 ++ pos 5 ∷ [])
+    -- C31: a connection; one of a unit that there is not; one of a file without connections; one of a file that is refused
     ∷ row (connectionTold (byCurrent ++ joined ++ ending 0) 0) (values (pos 1 ∷ pos 230 ∷ []))
     ∷ row (connectionTold (byCurrent ++ joined ++ ending 0) 1) (refused 10)
     ∷ row (connectionTold (then (ending 1)) 0) (refused 10)
+    ∷ row (connectionTold (then []) 0) (refusedAt 8 79 1)
     -- E1: the first 27 bytes of a state, and its sun read back
     ∷ row (map pos (numbersOf mark)) (bytes 27 0x000000000000000064000000020b005a05000002bcffffec78251c)
     ∷ row (pos (sunKept (numbersOf mark) .irradiance) ∷ sunKept (numbersOf mark) .temperature ∷ []) (pos 700 ∷ negℤ (pos 5000) ∷ [])

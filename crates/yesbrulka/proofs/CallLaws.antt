@@ -7,7 +7,8 @@ use lib.IntN.{ℤ}
 use lib.Signed.{mag}
 use mir.Syntax.{w32, w64}
 use mir.Val.{toZ, ofZ, boolByte}
-use Rattle.whole.specs.Call.{Call, Gave, Refused, Refusal, refusal, numberOf, heldAfter}
+use Rattle.whole.specs.declared.Refusal.{Refusal}
+use Rattle.whole.specs.Call.{Call, Gave, Refused, numberOf, heldAfter}
 use Rattle.whole.proofs.SignLaws.{read}
 use Rattle.unit.specs.declared.Unit.{Unit}
 use Rattle.rules.specs.declared.Settings.{Settings}
@@ -48,8 +49,8 @@ module _ (a : PassAnswer) (need : ℤ) (changed : ℕ) where
     changed-is = byte-is (p .changed) ∙ sym (ap (λ (x : PassAnswer). heldAfter (passCall x) (λ (q : Passed). flag (q .changed)) changed) is);
   }
 
-  pass-kept : (n : ℕ) → a ≡ PassRefused n → PassSeen a n need need changed changed
-  pass-kept n is = record {
+  pass-kept : (r : Refusal) → a ≡ PassRefused r → PassSeen a (r .number) need need changed changed
+  pass-kept r is = record {
     number-is = sym (ap (λ (x : PassAnswer). numberOf (passCall x)) is);
     need-is = sym (ap (λ (x : PassAnswer). heldAfter (passCall x) (λ (q : Passed). q .need) need) is);
     changed-is = sym (ap (λ (x : PassAnswer). heldAfter (passCall x) (λ (q : Passed). flag (q .changed)) changed) is);
@@ -73,8 +74,8 @@ module _ (answer : Settings → ℤ → PassAnswer) (leaves : Settings → ℤ �
       → PassSeen (answer s measure) 0 need (toZ w64 (ofZ w64 (p .need))) changed (boolByte (p .changed)) × (after ≡ leaves s measure)
   pass-done p is h = (pass-given (answer s measure) need changed p (sym pass-is ∙ is) h, left-is)
 
-  pub pass-refused : (n : ℕ) → ans ≡ PassRefused n → PassSeen (answer s measure) n need need changed changed × (after ≡ leaves s measure)
-  pass-refused n is = (pass-kept (answer s measure) need changed n (sym pass-is ∙ is), left-is)
+  pub pass-refused : (r : Refusal) → ans ≡ PassRefused r → PassSeen (answer s measure) (r .number) need need changed changed × (after ≡ leaves s measure)
+  pass-refused r is = (pass-kept (answer s measure) need changed r (sym pass-is ∙ is), left-is)
 
 -- ---- a study
 module _ (c : Call Studied) (settled passes : ℕ) where
@@ -107,10 +108,10 @@ module _ (load target : ℤ) (band factor budget : ℕ) (f : Fleet) (rs : List �
       × (after ≡ studyLeaves (trialOf load target band factor budget) f rs)
   study-done r is = (study-given (studyCall (studyAnswer (trialOf load target band factor budget) f rs)) settled passes r (ap studyCall (sym study-is ∙ is)), study-left-is)
 
-  pub study-refused : (n : ℕ) → ans ≡ StudyRefused n
-      → StudySeen (studyCall (studyAnswer (trialOf load target band factor budget) f rs)) n settled settled passes passes
+  pub study-refused : (r : Refusal) → ans ≡ StudyRefused r
+      → StudySeen (studyCall (studyAnswer (trialOf load target band factor budget) f rs)) (r .number) settled settled passes passes
       × (after ≡ studyLeaves (trialOf load target band factor budget) f rs)
-  study-refused n is = (study-kept (studyCall (studyAnswer (trialOf load target band factor budget) f rs)) settled passes (refusal n) (ap studyCall (sym study-is ∙ is)), study-left-is)
+  study-refused r is = (study-kept (studyCall (studyAnswer (trialOf load target band factor budget) f rs)) settled passes r (ap studyCall (sym study-is ∙ is)), study-left-is)
 
 -- ---- a step, of a unit by its var request
 pub step-alike : {a b : Stepped} {number : ℕ} {watts watts′ vars vars′ : ℤ} {stored stored′ loss loss′ : ℕ} → a ≡ b
@@ -139,9 +140,9 @@ module _ (edition seconds : ℕ) (unit : ℤ → Unit) (var request : ℤ) (hv :
         loss-is = ap (λ (x : Stepped). heldAfter (stepCall x) (λ (q : Outcome). q .loss) loss) is;
       }
 
-  pub step-refused : (n : ℕ) → ans ≡ RefusedBy n → StepSeen (steppedAs edition (unit var) seconds request) n watts watts vars vars stored stored loss loss
-  step-refused n e =
-      let is : RefusedBy n ≡ steppedAs edition (unit var) seconds request = sym e ∙ step-is in
+  pub step-refused : (r : Refusal) → ans ≡ RefusedBy r → StepSeen (steppedAs edition (unit var) seconds request) (r .number) watts watts vars vars stored stored loss loss
+  step-refused r e =
+      let is : RefusedBy r ≡ steppedAs edition (unit var) seconds request = sym e ∙ step-is in
       record {
         number-is = ap (λ (x : Stepped). numberOf (stepCall x)) is;
         watts-is = ap (λ (x : Stepped). heldAfter (stepCall x) (λ (q : Outcome). q .watts) watts) is;
@@ -183,9 +184,9 @@ module _ (inverter : ℤ → Inverter) (l : Lists) (on : ℕ) (w : Weather) (var
         dc-is = ap (λ (x : Lit). heldAfter (litCall x) (λ (q : Given). q .dc) dc) is;
       }
 
-  pub lit-refused : (n : ℕ) → ans ≡ LightedNot n → LitSeen (litOf (inverter var) l on w) n turned turned watts watts vars vars dc dc
-  lit-refused n e =
-      let is : LightedNot n ≡ litOf (inverter var) l on w = sym e ∙ lit-is in
+  pub lit-refused : (r : Refusal) → ans ≡ LightedNot r → LitSeen (litOf (inverter var) l on w) (r .number) turned turned watts watts vars vars dc dc
+  lit-refused r e =
+      let is : LightedNot r ≡ litOf (inverter var) l on w = sym e ∙ lit-is in
       record {
         number-is = ap (λ (x : Lit). numberOf (litCall x)) is;
         on-is = ap (λ (x : Lit). heldAfter (litCall x) (λ (q : Given). flag (q .on)) turned) is;

@@ -8,7 +8,7 @@ use lib.Ieee.{Float}
 use lib.IntN.{ℤ}
 use denote.Ref.{RefT, now}
 use denote.Triple.Both.{Both}
-use Rattle.whole.specs.Call.{Call, Gave, Refused, numberOf, heldAfter}
+use Rattle.whole.specs.Call.{Call, numberOf, heldAfter}
 use Rattle.unit.specs.declared.Unit.{Unit}
 use Rattle.rules.specs.declared.Settings.{Settings}
 use Rattle.controller.specs.declared.Passed.{Passed}
@@ -30,11 +30,9 @@ use Rattle.site.specs.declared.Head.{Head}
 use Rattle.partner.specs.declared.Verdict.{Verdict}
 use Rattle.partner.specs.Verdict.{partnerAnswer, partnerCall}
 use Rattle.tally.specs.declared.Figures.{Figures}
-use Rattle.peaks.specs.declared.PeaksAnswer.{PeaksAnswer}
-use Rattle.peaks.specs.declared.PeaksAnswer.the-variants.{Told, Untold}
-use Rattle.peaks.specs.Answers.{peaksAnswer}
+use Rattle.peaks.specs.Answers.{peaksAnswer, peaksCall}
 use Rattle.ask.specs.declared.Connection.{Connection}
-use Rattle.ask.specs.Says.{refusalOver, headAnswer, headCall, unitAnswer, unitCall, connectionAnswer, connectionCall}
+use Rattle.ask.specs.Says.{headAnswer, headCall, unitAnswer, unitCall, connectionAnswer, connectionCall}
 
 -- a flag as a lent byte
 abbrev pub flag : Bool → ℕ
@@ -149,22 +147,18 @@ LitTold a number on watts vars dc =
 
 -- yb_settings, yb_unit and yb_connection: what a file says, as a call's answer
 abbrev pub headSaid : List ℕ → Call Head
-headSaid file = headCall file (headAnswer file)
+headSaid file = headCall (headAnswer file)
 
 abbrev pub unitSaid : List ℕ → ℕ → Call Unit
-unitSaid file i = unitCall file (unitAnswer file i)
+unitSaid file i = unitCall (unitAnswer file i)
 
 abbrev pub connectionTold : List ℕ → ℕ → Call Connection
-connectionTold file i = connectionCall file (connectionAnswer file i)
+connectionTold file i = connectionCall (connectionAnswer file i)
 
 -- yb_partner
 abbrev pub partnerTold : List ℕ → List ℕ → Call Verdict
 partnerTold run result = partnerCall (partnerAnswer run result)
 
 -- yb_peaks
-abbrev pub peaksCall : List ℕ → PeaksAnswer → Call Figures
-peaksCall file (Told f) = Gave f
-peaksCall file (Untold n) = Refused (refusalOver file n)
-
 abbrev pub peaksTold : List ℕ → ℤ → ℕ → Call Figures
-peaksTold file target len = peaksCall file (peaksAnswer file target len)
+peaksTold file target len = peaksCall (peaksAnswer file target len)

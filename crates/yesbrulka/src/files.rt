@@ -90,6 +90,6 @@ pub extern "C" fn yb_peaks(file: &[u8], target: i32, figures: &mut [i64]) -> u32
 {
     match peaks::peaks(file, target, figures) {
         PeaksAnswer::Told(_) => 0,
-        PeaksAnswer::Untold(n) => n as u32,
+        PeaksAnswer::Untold(r) => r.number as u32,
     }
 }

@@ -43,7 +43,7 @@ pub extern "C" fn yb_pass(
             *changed = p.changed as u8;
             0
         }
-        PassAnswer::PassRefused(n) => n as u32,
+        PassAnswer::PassRefused(r) => r.number as u32,
     }
 }
 
@@ -96,7 +96,7 @@ pub extern "C" fn yb_pass_current(
             *changed = p.changed as u8;
             0
         }
-        PassAnswer::PassRefused(n) => n as u32,
+        PassAnswer::PassRefused(r) => r.number as u32,
     }
 }
 
@@ -133,11 +133,11 @@ pub extern "C" fn yb_settle(
         budget,
     };
     match settling::settle(q, rated, reserve, stored, rating, weight, requests) {
-        StudyAnswer::StudyDone(r) => {
-            *settled = r.settled as u8;
-            *passes = r.passes;
+        StudyAnswer::StudyDone(found) => {
+            *settled = found.settled as u8;
+            *passes = found.passes;
             0
         }
-        StudyAnswer::StudyRefused(n) => n as u32,
+        StudyAnswer::StudyRefused(r) => r.number as u32,
     }
 }

@@ -5,7 +5,8 @@ ghost use Rattle.unit.specs.declared.Unit.{Unit};
 ghost use Rattle.unit.specs.Ranges.{idleLoss};
 ghost use Rattle.site.specs.declared.Head.{Head};
 ghost use Rattle.ask.specs.declared.Connection.{Connection};
-ghost use Rattle.ask.specs.Says.{unitsSaid, invertersSaid, secondsSaid, fileStudy, fileStudyLeaves, fileStudyCall};
+ghost use Rattle.settling.specs.Answers.{studyCall};
+ghost use Rattle.ask.specs.Says.{unitsSaid, invertersSaid, secondsSaid, fileStudy, fileStudyLeaves};
 ghost use Rattle.yesbrulka.specs.Calls.{held, StudyTold, headSaid, unitSaid, connectionTold};
 use ask::ConnectionAnswer;
 use ask::HeadAnswer;
@@ -65,7 +66,7 @@ pub extern "C" fn yb_settings(
             *phase = h.phase;
             0
         }
-        HeadAnswer::HeadRefused(n) => n as u32,
+        HeadAnswer::HeadRefused(r) => r.number as u32,
     }
 }
 
@@ -120,7 +121,7 @@ pub extern "C" fn yb_unit(
             *priority = u.priority;
             0
         }
-        UnitAnswer::UnitRefused(n) => n as u32,
+        UnitAnswer::UnitRefused(r) => r.number as u32,
     }
 }
 
@@ -138,7 +139,7 @@ pub extern "C" fn yb_var_limits(file: &[u8], unit: u32, provide: &mut u32, absor
             *absorb = u.absorb;
             0
         }
-        UnitAnswer::UnitRefused(n) => n as u32,
+        UnitAnswer::UnitRefused(r) => r.number as u32,
     }
 }
 
@@ -156,7 +157,7 @@ pub extern "C" fn yb_connection(file: &[u8], unit: u32, phases: &mut u8, volts: 
             *volts = c.volts;
             0
         }
-        ConnectionAnswer::ConnectionRefused(n) => n as u32,
+        ConnectionAnswer::ConnectionRefused(r) => r.number as u32,
     }
 }
 
@@ -172,7 +173,7 @@ pub extern "C" fn yb_study(
     settled: &mut u8,
     passes: &mut u32,
 ) -> u32
-    ensures { λ r. ⌜ StudyTold (fileStudyCall (held file) (fileStudy (held file) load budget (held requests))) r settled passes ⌝ }
+    ensures { λ r. ⌜ StudyTold (studyCall (fileStudy (held file) load budget (held requests))) r settled passes ⌝ }
     ensures { λ _. ⌜ now (requests .exit) ≡ fileStudyLeaves (now (file .entry)) load budget (now (requests .entry)) ⌝ }
 {
     match ask::study(file, load, budget, requests) {
@@ -181,6 +182,6 @@ pub extern "C" fn yb_study(
             *passes = found.passes;
             0
         }
-        StudyAnswer::StudyRefused(n) => n as u32,
+        StudyAnswer::StudyRefused(r) => r.number as u32,
     }
 }

@@ -130,7 +130,7 @@ pub extern "C" fn yb_step_as(
             *loss = o.loss;
             0
         }
-        Stepped::RefusedBy(n) => n as u32,
+        Stepped::RefusedBy(r) => r.number as u32,
     }
 }
 
@@ -182,6 +182,6 @@ pub extern "C" fn yb_solar(
             *dc = g.dc;
             0
         }
-        Lit::RefusedBy(n) => n as u32,
+        Lit::RefusedBy(r) => r.number as u32,
     }
 }

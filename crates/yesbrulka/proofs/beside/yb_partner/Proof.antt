@@ -1,7 +1,7 @@
 -- The verdict is stored, or the number of the run file's refusal returned and nothing stored.
 use borrow.Author.Needs.{needs}
 use mathlib.Core.Path.{sym, ap, _∙_}
-use Rattle.whole.specs.Call.{Refusal}
+use Rattle.stick.specs.Check.{refusalBy}
 use Rattle.partner.specs.declared.Verdict.{Verdict}
 use Rattle.partner.specs.Verdict.{partnerCall}
 use Rattle.yesbrulka.specs.Calls.{partnerTold}
@@ -44,8 +44,7 @@ returns-2 c =
     let q = c .before .before in
     let o = q .before .before in
     let a = o .before .before .before .args in
-    let b = q .a .given .0 .0 in
-    let r : Refusal = record { number = b .number; place = b .place; steps = b .steps } in
+    let r = refusalBy (q .a .given .0 .0) in
     let told = partnerTold (a .run .now) (a .result .now) in
     let is = ap partnerCall (sym (q .a .given .1) ∙ o .judge .ensures) in (
       call-number told r is,

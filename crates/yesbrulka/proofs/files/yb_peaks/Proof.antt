@@ -7,8 +7,7 @@ use mir.Syntax.{w32}
 use Rattle.whole.specs.Call.{numberOf}
 use Rattle.whole.proofs.SignLaws.{read}
 use Rattle.peaks.specs.declared.PeaksAnswer.{PeaksAnswer}
-use Rattle.peaks.specs.Answers.{peaksAnswer, peaksLeaves}
-use Rattle.yesbrulka.specs.Calls.{peaksCall}
+use Rattle.peaks.specs.Answers.{peaksAnswer, peaksLeaves, peaksCall}
 use Rattle.yesbrulka.proofs.files.yb_peaks.Statement.{statement}
 use Rattle.yesbrulka.proofs.files.yb_peaks.Tie as tie
 
@@ -34,8 +33,8 @@ peaks-requires c κs = search needs
 enum-told : tie.Need-enum-told
 enum-told c = search needs
 
-enum-known-n : tie.Need-enum-known-n
-enum-known-n c = search needs
+enum-known-r : tie.Need-enum-known-r
+enum-known-r c = search needs
 
 cast-result : tie.Need-cast-result
 cast-result c = search needs
@@ -47,17 +46,17 @@ returns : tie.Need-returns
 returns c =
     let p = c .before .before .before in
     let a = start p .args in
-    (sym (ap (λ (x : PeaksAnswer). numberOf (peaksCall (a .file .now) x)) (sym (is p) ∙ c .enum-told .given .1)), left p)
+    (sym (ap (λ (x : PeaksAnswer). numberOf (peaksCall x)) (sym (is p) ∙ c .enum-told .given .1)), left p)
 
 same-length-2 : tie.Need-same-length-2
 same-length-2 c = search needs
 
 returns-2 : tie.Need-returns-2
 returns-2 c =
-    let n = c .before in
+    let n = c .before .before in
     let p = n .before .before .before in
     let a = start p .args in
-    (sym (ap (λ (x : PeaksAnswer). numberOf (peaksCall (a .file .now) x)) (sym (is p) ∙ n .n .given .1)), left p)
+    (sym (ap (λ (x : PeaksAnswer). numberOf (peaksCall x)) (sym (is p) ∙ n .r .given .1)), left p)
 
 pub yb-peaks-spec : {M : Type 1} → statement M
 yb-peaks-spec =
@@ -65,7 +64,7 @@ yb-peaks-spec =
     (tie.spec
     peaks-requires
     enum-told
-    enum-known-n
+    enum-known-r
     cast-result
     same-length
     returns

@@ -32,8 +32,8 @@ enum-known-p c = search needs
 cast-changed : tie.Need-cast-changed
 cast-changed c = search needs
 
-enum-known-n : tie.Need-enum-known-n
-enum-known-n c = search needs
+enum-known-r : tie.Need-enum-known-r
+enum-known-r c = search needs
 
 cast-result : tie.Need-cast-result
 cast-result c = search needs
@@ -55,11 +55,11 @@ same-length-2 c = search needs
 
 returns-2 : tie.Need-returns-2
 returns-2 c =
-    let q = c .before in
+    let q = c .before .before in
     let p = q .before .before .before in
     let s = start p in
     let a = s .args in
-    pass-refused (answer s) (leaves s) (a .mode) (a .target) (a .band) (a .factor) (a .measure) (s .fits .target .sfits) (s .fits .measure .sfits) (p .pass-current .result) (p .pass-current .last .1 .1 .1 .1 .1 .1 .1 .1 .0) (p .pass-current .ensures .0) (p .pass-current .ensures .1) (a .need .now) (a .changed .now) (q .n .given .0 .0) (q .n .given .1)
+    pass-refused (answer s) (leaves s) (a .mode) (a .target) (a .band) (a .factor) (a .measure) (s .fits .target .sfits) (s .fits .measure .sfits) (p .pass-current .result) (p .pass-current .last .1 .1 .1 .1 .1 .1 .1 .1 .0) (p .pass-current .ensures .0) (p .pass-current .ensures .1) (a .need .now) (a .changed .now) (q .r .given .0 .0) (q .r .given .1)
 
 pub yb-pass-current-spec : {M : Type 1} → statement M
 yb-pass-current-spec =
@@ -68,7 +68,7 @@ yb-pass-current-spec =
     pass-current-requires
     enum-known-p
     cast-changed
-    enum-known-n
+    enum-known-r
     cast-result
     same-length
     returns

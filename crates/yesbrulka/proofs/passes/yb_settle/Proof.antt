@@ -8,14 +8,14 @@ use Rattle.yesbrulka.proofs.passes.yb_settle.Tie as tie
 settle-requires : tie.Need-settle-requires
 settle-requires c κs = search needs
 
-enum-known-r : tie.Need-enum-known-r
-enum-known-r c = search needs
+enum-known-found : tie.Need-enum-known-found
+enum-known-found c = search needs
 
 cast-settled : tie.Need-cast-settled
 cast-settled c = search needs
 
-enum-known-n : tie.Need-enum-known-n
-enum-known-n c = search needs
+enum-known-r : tie.Need-enum-known-r
+enum-known-r c = search needs
 
 cast-result : tie.Need-cast-result
 cast-result c = search needs
@@ -29,27 +29,27 @@ returns c =
     let p = q .before .before .before in
     let s = p .before .before .before .before .before .before .before in
     let a = s .args in
-    study-done (a .load) (a .target) (a .band) (a .factor) (a .budget) (fleetOf (a .rated .now) (a .reserve .now) (a .stored .now) (a .rating .now) (a .weight .now)) (a .requests .now) (s .fits .load .sfits) (s .fits .target .sfits) (p .settle .result) (p .settle .last .1 .1 .1 .1 .1 .1 .0) (p .settle .ensures .0) (p .settle .ensures .1) (a .settled .now) (a .passes .now) (q .r .given .0 .0) (q .r .given .1)
+    study-done (a .load) (a .target) (a .band) (a .factor) (a .budget) (fleetOf (a .rated .now) (a .reserve .now) (a .stored .now) (a .rating .now) (a .weight .now)) (a .requests .now) (s .fits .load .sfits) (s .fits .target .sfits) (p .settle .result) (p .settle .last .1 .1 .1 .1 .1 .1 .0) (p .settle .ensures .0) (p .settle .ensures .1) (a .settled .now) (a .passes .now) (q .found .given .0 .0) (q .found .given .1)
 
 same-length-2 : tie.Need-same-length-2
 same-length-2 c = search needs
 
 returns-2 : tie.Need-returns-2
 returns-2 c =
-    let q = c .before in
+    let q = c .before .before in
     let p = q .before .before .before in
     let s = p .before .before .before .before .before .before .before in
     let a = s .args in
-    study-refused (a .load) (a .target) (a .band) (a .factor) (a .budget) (fleetOf (a .rated .now) (a .reserve .now) (a .stored .now) (a .rating .now) (a .weight .now)) (a .requests .now) (s .fits .load .sfits) (s .fits .target .sfits) (p .settle .result) (p .settle .last .1 .1 .1 .1 .1 .1 .0) (p .settle .ensures .0) (p .settle .ensures .1) (a .settled .now) (a .passes .now) (q .n .given .0 .0) (q .n .given .1)
+    study-refused (a .load) (a .target) (a .band) (a .factor) (a .budget) (fleetOf (a .rated .now) (a .reserve .now) (a .stored .now) (a .rating .now) (a .weight .now)) (a .requests .now) (s .fits .load .sfits) (s .fits .target .sfits) (p .settle .result) (p .settle .last .1 .1 .1 .1 .1 .1 .0) (p .settle .ensures .0) (p .settle .ensures .1) (a .settled .now) (a .passes .now) (q .r .given .0 .0) (q .r .given .1)
 
 pub yb-settle-spec : {M : Type 1} → statement M
 yb-settle-spec =
     tie.close
     (tie.spec
     settle-requires
-    enum-known-r
+    enum-known-found
     cast-settled
-    enum-known-n
+    enum-known-r
     cast-result
     same-length
     returns

@@ -4,7 +4,7 @@ use mathlib.Core.Path.{sym, ap, _∙_}
 use mir.Syntax.{w32}
 use Rattle.whole.proofs.SignLaws.{read}
 use Rattle.site.specs.declared.Head.{Head}
-use Rattle.ask.specs.Says.{refusalOver, headCall}
+use Rattle.ask.specs.Says.{headCall}
 use Rattle.yesbrulka.specs.Calls.{headSaid}
 use Rattle.yesbrulka.proofs.CallLaws.{call-zero, call-given, call-number, call-kept}
 use Rattle.yesbrulka.proofs.says.yb_settings.Statement.{statement}
@@ -16,8 +16,8 @@ head-requires c κs = search needs
 enum-known-h : tie.Need-enum-known-h
 enum-known-h c = search needs
 
-enum-known-n : tie.Need-enum-known-n
-enum-known-n c = search needs
+enum-known-r : tie.Need-enum-known-r
+enum-known-r c = search needs
 
 cast-result : tie.Need-cast-result
 cast-result c = search needs
@@ -28,7 +28,7 @@ returns c =
     let o = q .before .before in
     let a = o .before .before .args in
     let h = q .h .given .0 .0 in
-    let is = ap (headCall (a .file .now)) (sym (q .h .given .1) ∙ o .head .ensures) in (
+    let is = ap headCall (sym (q .h .given .1) ∙ o .head .ensures) in (
       call-zero (headSaid (a .file .now)) h is,
       (
         call-given (headSaid (a .file .now)) h is (λ (x : Head). x .settings .mode) (a .mode .now),
@@ -47,11 +47,11 @@ returns c =
 
 returns-2 : tie.Need-returns-2
 returns-2 c =
-    let q = c .before in
+    let q = c .before .before in
     let o = q .before .before in
     let a = o .before .before .args in
-    let r = refusalOver (a .file .now) (q .n .given .0 .0) in
-    let is = ap (headCall (a .file .now)) (sym (q .n .given .1) ∙ o .head .ensures) in (
+    let r = q .r .given .0 .0 in
+    let is = ap headCall (sym (q .r .given .1) ∙ o .head .ensures) in (
       call-number (headSaid (a .file .now)) r is,
       (
         call-kept (headSaid (a .file .now)) r is (λ (x : Head). x .settings .mode) (a .mode .now),
@@ -70,4 +70,4 @@ returns-2 c =
 
 pub yb-settings-spec : {M : Type 1} → statement M
 yb-settings-spec =
-    tie.close (tie.spec head-requires enum-known-h enum-known-n cast-result returns returns-2)
+    tie.close (tie.spec head-requires enum-known-h enum-known-r cast-result returns returns-2)

@@ -4,7 +4,8 @@ use mathlib.Core.Path.{_≡_, sym, ap, _∙_}
 use lib.IntN.{ℤ}
 use mir.Syntax.{w64}
 use Rattle.whole.proofs.SignLaws.{read}
-use Rattle.ask.specs.Says.{refusalOver, fileStudy, fileStudyLeaves, fileStudyCall}
+use Rattle.settling.specs.Answers.{studyCall}
+use Rattle.ask.specs.Says.{fileStudy, fileStudyLeaves}
 use Rattle.yesbrulka.proofs.CallLaws.{study-given, study-kept}
 use Rattle.yesbrulka.proofs.says.yb_study.Statement.{statement}
 use Rattle.yesbrulka.proofs.says.yb_study.Tie as tie
@@ -18,8 +19,8 @@ enum-known-found c = search needs
 cast-settled : tie.Need-cast-settled
 cast-settled c = search needs
 
-enum-known-n : tie.Need-enum-known-n
-enum-known-n c = search needs
+enum-known-r : tie.Need-enum-known-r
+enum-known-r c = search needs
 
 cast-result : tie.Need-cast-result
 cast-result c = search needs
@@ -36,8 +37,8 @@ returns c =
     let l = read w64 (a .load) (s .fits .load .sfits) in
     let is : p .study .result ≡ fileStudy (a .file .now) (a .load) (a .budget) (a .requests .now) =
     p .study .ensures .0 ∙ ap (λ (z : ℤ). fileStudy (a .file .now) z (a .budget) (a .requests .now)) l in (
-      study-given (fileStudyCall (a .file .now) (fileStudy (a .file .now) (a .load) (a .budget) (a .requests .now))) (a .settled .now) (a .passes .now) (q .found .given .0 .0)
-          (ap (fileStudyCall (a .file .now)) (sym is ∙ q .found .given .1)),
+      study-given (studyCall (fileStudy (a .file .now) (a .load) (a .budget) (a .requests .now))) (a .settled .now) (a .passes .now) (q .found .given .0 .0)
+          (ap studyCall (sym is ∙ q .found .given .1)),
       p .study .ensures .1 ∙ ap (λ (z : ℤ). fileStudyLeaves (a .file .now) z (a .budget) (a .requests .now)) l,
     )
 
@@ -46,15 +47,15 @@ same-length-2 c = search needs
 
 returns-2 : tie.Need-returns-2
 returns-2 c =
-    let q = c .before in
+    let q = c .before .before in
     let p = q .before .before .before in
     let s = p .before .before .before in
     let a = s .args in
     let l = read w64 (a .load) (s .fits .load .sfits) in
     let is : p .study .result ≡ fileStudy (a .file .now) (a .load) (a .budget) (a .requests .now) =
     p .study .ensures .0 ∙ ap (λ (z : ℤ). fileStudy (a .file .now) z (a .budget) (a .requests .now)) l in (
-      study-kept (fileStudyCall (a .file .now) (fileStudy (a .file .now) (a .load) (a .budget) (a .requests .now))) (a .settled .now) (a .passes .now)
-          (refusalOver (a .file .now) (q .n .given .0 .0)) (ap (fileStudyCall (a .file .now)) (sym is ∙ q .n .given .1)),
+      study-kept (studyCall (fileStudy (a .file .now) (a .load) (a .budget) (a .requests .now))) (a .settled .now) (a .passes .now)
+          (q .r .given .0 .0) (ap studyCall (sym is ∙ q .r .given .1)),
       p .study .ensures .1 ∙ ap (λ (z : ℤ). fileStudyLeaves (a .file .now) z (a .budget) (a .requests .now)) l,
     )
 
@@ -65,7 +66,7 @@ yb-study-spec =
     study-requires
     enum-known-found
     cast-settled
-    enum-known-n
+    enum-known-r
     cast-result
     same-length
     returns

@@ -5,7 +5,7 @@ use mir.Syntax.{w32}
 use Rattle.whole.proofs.SignLaws.{read}
 use Rattle.unit.specs.declared.Unit.{Unit}
 use Rattle.unit.specs.Ranges.{idleLoss}
-use Rattle.ask.specs.Says.{refusalOver, unitCall}
+use Rattle.ask.specs.Says.{unitCall}
 use Rattle.yesbrulka.specs.Calls.{unitSaid}
 use Rattle.yesbrulka.proofs.CallLaws.{call-zero, call-given, call-number, call-kept}
 use Rattle.yesbrulka.proofs.says.yb_unit.Statement.{statement}
@@ -20,8 +20,8 @@ enum-known-u c = search needs
 idle-loss-requires : tie.Need-idle-loss-requires
 idle-loss-requires c κs = search needs
 
-enum-known-n : tie.Need-enum-known-n
-enum-known-n c = search needs
+enum-known-r : tie.Need-enum-known-r
+enum-known-r c = search needs
 
 cast-result : tie.Need-cast-result
 cast-result c = search needs
@@ -33,7 +33,7 @@ returns c =
     let o = q .before .before in
     let a = o .before .before .args in
     let u = q .u .given .0 .0 in
-    let is = ap (unitCall (a .file .now)) (sym (q .u .given .1) ∙ o .unit .ensures) in (
+    let is = ap unitCall (sym (q .u .given .1) ∙ o .unit .ensures) in (
       call-zero (unitSaid (a .file .now) (a .unit)) u is,
       (
         call-given (unitSaid (a .file .now) (a .unit)) u is (λ (x : Unit). x .rated) (a .rated .now),
@@ -73,11 +73,11 @@ returns c =
 
 returns-2 : tie.Need-returns-2
 returns-2 c =
-    let q = c .before in
+    let q = c .before .before in
     let o = q .before .before in
     let a = o .before .before .args in
-    let r = refusalOver (a .file .now) (q .n .given .0 .0) in
-    let is = ap (unitCall (a .file .now)) (sym (q .n .given .1) ∙ o .unit .ensures) in (
+    let r = q .r .given .0 .0 in
+    let is = ap unitCall (sym (q .r .given .1) ∙ o .unit .ensures) in (
       call-number (unitSaid (a .file .now) (a .unit)) r is,
       (
         call-kept (unitSaid (a .file .now) (a .unit)) r is (λ (x : Unit). x .rated) (a .rated .now),
@@ -117,4 +117,4 @@ returns-2 c =
 
 pub yb-unit-spec : {M : Type 1} → statement M
 yb-unit-spec =
-    tie.close (tie.spec unit-requires enum-known-u idle-loss-requires enum-known-n cast-result returns returns-2)
+    tie.close (tie.spec unit-requires enum-known-u idle-loss-requires enum-known-r cast-result returns returns-2)

@@ -16,8 +16,8 @@ enum-known-g c = search needs
 cast-after : tie.Need-cast-after
 cast-after c = search needs
 
-enum-known-n : tie.Need-enum-known-n
-enum-known-n c = search needs
+enum-known-r : tie.Need-enum-known-r
+enum-known-r c = search needs
 
 cast-result : tie.Need-cast-result
 cast-result c = search needs
@@ -32,13 +32,13 @@ returns c =
 
 returns-2 : tie.Need-returns-2
 returns-2 c =
-    let q = c .before in
+    let q = c .before .before in
     let d = q .before .before in
     let s = d .before in
     let a = s .args in
-    lit-refused (λ (v : ℤ). inverterOf (a .array) (a .kva) (a .cut-in) (a .cut-out) (a .limit) v (a .priority)) (listsOf (a .warm-x .now) (a .warm-y .now) (a .eff-x .now) (a .eff-y .now)) (a .on) (weatherOf (a .irradiance) (a .temperature)) (a .var-request) (s .fits .var-request .sfits) (d .step .result) (d .step .ensures) (a .after .now) (a .watts .now) (a .vars .now) (a .dc .now) (q .n .given .0 .0) (q .n .given .1)
+    lit-refused (λ (v : ℤ). inverterOf (a .array) (a .kva) (a .cut-in) (a .cut-out) (a .limit) v (a .priority)) (listsOf (a .warm-x .now) (a .warm-y .now) (a .eff-x .now) (a .eff-y .now)) (a .on) (weatherOf (a .irradiance) (a .temperature)) (a .var-request) (s .fits .var-request .sfits) (d .step .result) (d .step .ensures) (a .after .now) (a .watts .now) (a .vars .now) (a .dc .now) (q .r .given .0 .0) (q .r .given .1)
 
 pub yb-solar-spec : {M : Type 1} → statement M
 yb-solar-spec =
     tie.close
-    (tie.spec step-requires enum-known-g cast-after enum-known-n cast-result returns returns-2)
+    (tie.spec step-requires enum-known-g cast-after enum-known-r cast-result returns returns-2)

@@ -12,8 +12,8 @@ step-as-requires c κs = search needs
 enum-known-o : tie.Need-enum-known-o
 enum-known-o c = search needs
 
-enum-known-n : tie.Need-enum-known-n
-enum-known-n c = search needs
+enum-known-r : tie.Need-enum-known-r
+enum-known-r c = search needs
 
 cast-result : tie.Need-cast-result
 cast-result c = search needs
@@ -28,11 +28,11 @@ returns c =
 
 returns-2 : tie.Need-returns-2
 returns-2 c =
-    let q = c .before in
+    let q = c .before .before in
     let d = q .before .before in
     let s = d .before in
     let a = s .args in
-    step-refused (a .edition) (a .seconds) (λ (v : ℤ). unitOf (a .rated) (a .reserve) (a .stored) (a .rating) (a .kva) (a .idle-loss) v (a .weight) (a .inverter) (a .charge) (a .discharge) (a .priority) (a .provide) (a .absorb)) (a .var-request) (a .request) (s .fits .var-request .sfits) (s .fits .request .sfits) (d .step-as .result) (d .step-as .ensures) (a .watts .now) (a .vars .now) (a .after .now) (a .loss .now) (q .n .given .0 .0) (q .n .given .1)
+    step-refused (a .edition) (a .seconds) (λ (v : ℤ). unitOf (a .rated) (a .reserve) (a .stored) (a .rating) (a .kva) (a .idle-loss) v (a .weight) (a .inverter) (a .charge) (a .discharge) (a .priority) (a .provide) (a .absorb)) (a .var-request) (a .request) (s .fits .var-request .sfits) (s .fits .request .sfits) (d .step-as .result) (d .step-as .ensures) (a .watts .now) (a .vars .now) (a .after .now) (a .loss .now) (q .r .given .0 .0) (q .r .given .1)
 
 pub yb-step-as-spec : {M : Type 1} → statement M
-yb-step-as-spec = tie.close (tie.spec step-as-requires enum-known-o enum-known-n cast-result returns returns-2)
+yb-step-as-spec = tie.close (tie.spec step-as-requires enum-known-o enum-known-r cast-result returns returns-2)
