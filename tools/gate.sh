@@ -188,6 +188,7 @@ ahead=$!
 # More at a time than there are cores: each waits for the slowest of its batch. Six take a twentieth less than three here.
 step line 'proofs' env RT_JOBS="${RT_JOBS:-6}" rt ci
 step line 'wrong programs' tools/refusals.sh
+step one 'functions with a requires' tools/requires.sh --check
 wait "$ahead"
 step one 'stored cases' stored_cases
 step one 'sample sticks' sample_sticks

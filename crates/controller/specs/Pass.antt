@@ -1,5 +1,5 @@
--- One controller pass, rules P1 to P7 and P10 in their order, over those of `rules`. F is the sum of all requests. The fleet is discharging if some request is above 0,
--- charging if some is below 0, else idle. Modes 1, 2 and 4 discharge, 3 and 5 charge; 4 and 5 go by current.
+-- One pass of the controller, rules P1 to P7 and P10 in their order, over those of `rules`. A fleet's state shows in its requests: one above 0 makes it a discharging
+-- fleet, one below 0 a charging one, and where all are 0 it is idle; F is what they come to in all. Discharging modes are 1, 2 and 4, charging ones 3 and 5; by current go 4 and 5.
 use Prim.Native.Nat.{ℕ}
 use mathlib.Core.Bool.{Bool, not, cond, _&&_}
 use mathlib.Core.List.{List}
