@@ -1,16 +1,25 @@
 #!/bin/bash
-# Looks at what the prover said of the must-fail edits, once `rt ci` or `rt must-fail` has tried them. Several wrong
-# programs may stand in one edit file, so that one check of the crate serves them all; each is then a line
+# Holds the must-fail edits to what the prover says of them. Several wrong programs may stand in one edit file, so that
+# one check of the crate serves them all; each is a line
 #
 #     # LABEL [NAME]: which wrong program it is
 #
 # above its change, and NAME is the function or the law that must be refused for it. It is, if the log has an error of
 # its own in the proof of that function, or of that law: not one that only follows from another, and not one that says
 # that the proof file no longer fits the code. The last line counts the wrong programs.
+#
+#     tools/refusals.sh                    looks at what `rt ci` or `rt must-fail` left of each file: a step of the gate
+#     tools/refusals.sh --alone [WHICH..]  tries each wrong program by itself, over the crate's incremental folder
+#     tools/refusals.sh --page             writes docs/EDITS.md from what --alone has seen
+#
+# WHICH is a crate or CRATE/LABEL; without it all are tried. By itself a wrong program must be refused at its NAME, and
+# at no NAME of the others of its file: then none of them is refused for another's sake. These two are run by hand and
+# are no part of the gate; a try takes some 5 s.
 set -u
 cd "$(dirname "${BASH_SOURCE[0]}")/.." || exit 2
 passed=0
 failed=0
+seen=build/alone
 
 # errors LOG: the errors that say something of the facts.
 errors() {
@@ -18,9 +27,9 @@ errors() {
         grep -vE 'was not admitted|has no `Need-|has no field|is not in scope|that can be named from here'
 }
 
-# refused LOG NAME: a function or a law has an error of its own.
-refused() {
-    errors "$1" | grep -qE "/$2/Proof\.antt:[0-9]+:[0-9]+: error: |: error: \`$2\`: |^fn ([a-z_0-9]+::)+$2: no proof: "
+# own LOG NAME: those that a function or a law has for itself.
+own() {
+    errors "$1" | grep -E "/$2/Proof\.antt:[0-9]+:[0-9]+: error: |: error: \`$2\`: |^fn ([a-z_0-9]+::)+$2: no proof: "
 }
 
 # fault EDIT LABEL WHY: a wrong program that was not refused as it must be.
@@ -29,20 +38,203 @@ fault() {
     echo "$1: $2: $3"
 }
 
-for edit in crates/*/must-fail/*.edit; do
-    crate=${edit#crates/} crate=${crate%%/*}
-    log=target/must-fail/$crate/$(basename "$edit" .edit)/.log
-    names=$(sed -n 's/^# \([a-z_0-9]*\) \[\([a-zA-Z_0-9-]*\)\]: .*/\1 \2/p' "$edit")
-    if [ ! -f "$log" ]; then
-        fault "$edit" all 'it was not tried'
-    elif [ -z "$names" ]; then
-        if [ -n "$(errors "$log")" ]; then passed=$((passed + 1)); else fault "$edit" its 'no fact was refused'; fi
-    else
+# labels EDIT: a line `LABEL NAME` for each wrong program of a file.
+labels() {
+    sed -n 's/^# \([a-z_0-9]*\) \[\([a-zA-Z_0-9-]*\)\]: .*/\1 \2/p' "$1"
+}
+
+# part EDIT LABEL: the lines of one wrong program, behind the `file:` line that holds where it begins.
+part() {
+    awk -v label="$2" '
+        /^# [a-z_0-9]* \[/ { mine = $2 == label; if (mine) print file }
+        /^file: / { file = $0 }
+        mine' "$1"
+}
+
+# form EDIT: every change of a file belongs to a wrong program, and each of these has a name of its own to be held to.
+form() {
+    local twice
+    twice=$(labels "$1" | cut -d ' ' -f 2 | sort | uniq -d)
+    if sed '/^# [a-z_0-9]* \[/,$d' "$1" | grep -q '^new:'; then fault "$1" its 'a change has no label'; fi
+    if [ -n "$twice" ]; then fault "$1" its "more than one is held to ${twice//$'\n'/, }"; fi
+}
+
+# gate: what the last run of each file said.
+gate() {
+    local edit crate log label name
+    for edit in crates/*/must-fail/*.edit; do
+        crate=${edit#crates/} crate=${crate%%/*}
+        log=target/must-fail/$crate/$(basename "$edit" .edit)/.log
+        form "$edit"
+        if [ ! -f "$log" ]; then
+            fault "$edit" all 'it was not tried'
+            continue
+        fi
         while read -r label name; do
-            if refused "$log" "$name"; then passed=$((passed + 1)); else fault "$edit" "$label" "$name was not refused"; fi
-        done <<<"$names"
+            if own "$log" "$name" >/dev/null; then passed=$((passed + 1)); else fault "$edit" "$label" "$name was not refused"; fi
+        done < <(labels "$edit")
+    done
+}
+
+# tree CRATE: a repository below $seen that lists that crate alone, so that rt looks at no other; those below it are as
+# they were proved here.
+tree() {
+    local other
+    rm -rf "$seen/tree"
+    mkdir -p "$seen/tree/crates" "$seen/tree/target/inc" "$seen/$1"
+    grep "^$1:" crates.txt >"$seen/tree/crates.txt"
+    for other in crates/*; do
+        if [ "$other" != "crates/$1" ]; then ln -s "$PWD/$other" "$seen/tree/$other"; fi
+    done
+    ln -s "$PWD/target/rlib" "$seen/tree/target/rlib"
+}
+
+# change FILE OLD NEW: put NEW where OLD stands, which is one place.
+change() {
+    local text
+    [ -f "$1" ] && text=$(<"$1") || return 1
+    case $text in
+    *"$2"*"$2"*) return 1 ;;
+    *"$2"*) printf '%s%s%s\n' "${text%%"$2"*}" "$3" "${text#*"$2"}" >"$1" ;;
+    *) return 1 ;;
+    esac
+}
+
+# apply FOLDER: the changes on standard input, made in a crate.
+apply() {
+    local line file='' old=''
+    while IFS= read -r line; do
+        case $line in
+        'file: '*) file=$1/${line#file: } ;;
+        'old: '*) old=${line#old: } ;;
+        'new:'*)
+            line=${line#new:}
+            change "$file" "$old" "${line# }" || return 1
+            ;;
+        esac
+    done
+}
+
+# sum CRATE EDIT LABEL: what a try is of: the crate's files and the change.
+sum() {
+    { (cd "crates/$1" && find . -type f ! -path './must-fail/*' -exec sha256sum {} + | sort) && part "$2" "$3"; } | sha256sum
+}
+
+# try CRATE EDIT LABEL NAME: one wrong program by itself.
+try() {
+    local to=$seen/tree/crates/$1 log=$seen/$1/$3.log started=$SECONDS status other
+    rm -rf "$to" "$seen/tree/target/inc/$1" "$log" "$seen/$1/$3.sum"
+    mkdir "$to"
+    cp -R "crates/$1/src" "$to/src"
+    for other in specs proofs; do
+        if [ -d "crates/$1/$other" ]; then cp -R "crates/$1/$other" "$to/$other"; fi
+    done
+    cp -R "target/inc/$1" "$seen/tree/target/inc/$1"
+    if ! part "$2" "$3" | apply "$to"; then
+        fault "$2" "$3" 'an old text is not there, or more than once'
+        return
     fi
-done
+    (cd "$seen/tree" && rt dev "$1") >"$log" 2>&1
+    status=$?
+    sum "$1" "$2" "$3" >"$seen/$1/$3.sum"
+    if [ "$status" != 1 ] || ! grep -q '^logic=not-proved' "$log"; then
+        fault "$2" "$3" "it was not refused by the prover, whose status was $status"
+        return
+    fi
+    if ! own "$log" "$4" >/dev/null; then
+        fault "$2" "$3" "$4 was not refused"
+        return
+    fi
+    while read -r _ other; do
+        if [ "$other" != "$4" ] && own "$log" "$other" >/dev/null; then
+            fault "$2" "$3" "$other is refused too, for which another of the file stands"
+            return
+        fi
+    done < <(labels "$2")
+    passed=$((passed + 1))
+    echo "$1 $3: $4, $((SECONDS - started)) s"
+}
+
+# asked CRATE LABEL WHICH..: this one is to be tried.
+asked() {
+    local which="$1/$2 $1"
+    shift 2
+    [ $# = 0 ] || grep -qxF "${which/ /$'\n'}" < <(printf '%s\n' "$@")
+}
+
+# alone WHICH..: each of these by itself.
+alone() {
+    local folder crate edit label name ready
+    for folder in crates/*/must-fail; do
+        crate=${folder#crates/} crate=${crate%/must-fail} ready=
+        for edit in "$folder"/*.edit; do
+            while read -r label name; do
+                asked "$crate" "$label" "$@" || continue
+                if [ -z "$ready" ]; then
+                    ready=yes
+                    rt dev "$crate" >/dev/null 2>&1 || ready=no
+                    tree "$crate"
+                fi
+                if [ "$ready" = yes ]; then
+                    try "$crate" "$edit" "$label" "$name"
+                else
+                    fault "$edit" "$label" 'the crate is not proved as it stands'
+                fi
+            done < <(labels "$edit")
+        done
+    done
+}
+
+# changed EDIT LABEL: which kind of thing a wrong program changes.
+changed() {
+    if part "$1" "$2" | grep -q '^file: specs/'; then
+        echo definition
+    elif part "$1" "$2" | grep -qE '^old:.*(requires|ensures) \{'; then
+        echo contract
+    else
+        echo code
+    fi
+}
+
+# row CRATE EDIT LABEL NAME: its line of the page.
+row() {
+    local log=$seen/$1/$3.log first
+    if [ "$(cat "$seen/$1/$3.sum" 2>/dev/null)" != "$(sum "$1" "$2" "$3")" ]; then
+        fault "$2" "$3" 'as it stands it was not tried' >&2
+        return
+    fi
+    first=$(own "$log" "$4" | head -n 1 | sed -E 's/^[^ ]*: error: //; s/^fn .*\.antt; //; s/\|/\\|/g')
+    if [ "${#first}" -gt 120 ]; then first="${first:0:117}..."; fi
+    passed=$((passed + 1))
+    echo "| \`$1\` | \`$3\` | $(changed "$2" "$3") | \`$4\` | $first |"
+}
+
+# page: docs/EDITS.md, as it stands up to its table.
+page() {
+    local edit crate label name
+    sed '/^|---/q' docs/EDITS.md
+    for edit in crates/*/must-fail/*.edit; do
+        crate=${edit#crates/} crate=${crate%%/*}
+        while read -r label name; do row "$crate" "$edit" "$label" "$name"; done < <(labels "$edit")
+    done
+}
+
+case ${1:-} in
+'') gate ;;
+--alone)
+    shift
+    alone "$@"
+    ;;
+--page)
+    mkdir -p "$seen"
+    page >"$seen/EDITS.md"
+    cp "$seen/EDITS.md" docs/EDITS.md
+    ;;
+*)
+    echo 'usage: tools/refusals.sh [--alone [WHICH..] | --page]' >&2
+    exit 2
+    ;;
+esac
 
 echo "$passed passed, $failed failed"
 [ "$failed" = 0 ]
