@@ -38,7 +38,8 @@ fault() {
     echo "$1: $2: $3"
 }
 
-# labels EDIT: a line `LABEL NAME` for each wrong program of a file.
+# labels EDIT: a line `LABEL NAME` for each wrong program of a file. It is read by `<<<"$(..)"` and not by `< <(..)`: where
+# process numbers come round quickly, bash may take the status of such a process for that of a later one.
 labels() {
     sed -n 's/^# \([a-z_0-9]*\) \[\([a-zA-Z_0-9-]*\)\]: .*/\1 \2/p' "$1"
 }
@@ -53,9 +54,10 @@ part() {
 
 # form EDIT: every change of a file belongs to a wrong program, and each of these has a name of its own to be held to.
 form() {
-    local twice
+    local bare twice
+    bare=$(sed '/^# [a-z_0-9]* \[/,$d; /^new:/!d' "$1")
     twice=$(labels "$1" | cut -d ' ' -f 2 | sort | uniq -d)
-    if sed '/^# [a-z_0-9]* \[/,$d' "$1" | grep -q '^new:'; then fault "$1" its 'a change has no label'; fi
+    if [ -n "$bare" ]; then fault "$1" its 'a change has no label'; fi
     if [ -n "$twice" ]; then fault "$1" its "more than one is held to ${twice//$'\n'/, }"; fi
 }
 
@@ -71,8 +73,8 @@ gate() {
             continue
         fi
         while read -r label name; do
-            if own "$log" "$name" >/dev/null; then passed=$((passed + 1)); else fault "$edit" "$label" "$name was not refused"; fi
-        done < <(labels "$edit")
+            if [ -n "$(own "$log" "$name")" ]; then passed=$((passed + 1)); else fault "$edit" "$label" "$name was not refused"; fi
+        done <<<"$(labels "$edit")"
     done
 }
 
@@ -141,25 +143,28 @@ try() {
         fault "$2" "$3" "it was not refused by the prover, whose status was $status"
         return
     fi
-    if ! own "$log" "$4" >/dev/null; then
+    if [ -z "$(own "$log" "$4")" ]; then
         fault "$2" "$3" "$4 was not refused"
         return
     fi
     while read -r _ other; do
-        if [ "$other" != "$4" ] && own "$log" "$other" >/dev/null; then
+        if [ "$other" != "$4" ] && [ -n "$(own "$log" "$other")" ]; then
             fault "$2" "$3" "$other is refused too, for which another of the file stands"
             return
         fi
-    done < <(labels "$2")
+    done <<<"$(labels "$2")"
     passed=$((passed + 1))
     echo "$1 $3: $4, $((SECONDS - started)) s"
 }
 
 # asked CRATE LABEL WHICH..: this one is to be tried.
 asked() {
-    local which="$1/$2 $1"
+    local crate=$1 label=$2 which
     shift 2
-    [ $# = 0 ] || grep -qxF "${which/ /$'\n'}" < <(printf '%s\n' "$@")
+    for which; do
+        if [ "$which" = "$crate" ] || [ "$which" = "$crate/$label" ]; then return 0; fi
+    done
+    [ $# = 0 ]
 }
 
 # alone WHICH..: each of these by itself.
@@ -180,7 +185,7 @@ alone() {
                 else
                     fault "$edit" "$label" 'the crate is not proved as it stands'
                 fi
-            done < <(labels "$edit")
+            done <<<"$(labels "$edit")"
         done
     done
 }
@@ -215,7 +220,7 @@ page() {
     sed '/^|---/q' docs/EDITS.md
     for edit in crates/*/must-fail/*.edit; do
         crate=${edit#crates/} crate=${crate%%/*}
-        while read -r label name; do row "$crate" "$edit" "$label" "$name"; done < <(labels "$edit")
+        while read -r label name; do row "$crate" "$edit" "$label" "$name"; done <<<"$(labels "$edit")"
     done
 }
 
