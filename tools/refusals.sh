@@ -119,7 +119,7 @@ apply() {
 
 # sum CRATE EDIT LABEL: what a try is of: the crate's files and the change.
 sum() {
-    { (cd "crates/$1" && find . -type f ! -path './must-fail/*' -exec sha256sum {} + | sort) && part "$2" "$3"; } | sha256sum
+    { (cd "crates/$1" && find . -type f ! -path './must-fail/*' -exec sha256sum {} + | sort) && part "$2" "$3" | grep -v '^#'; } | sha256sum
 }
 
 # try CRATE EDIT LABEL NAME: one wrong program by itself.
