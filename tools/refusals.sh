@@ -44,11 +44,12 @@ labels() {
     sed -n 's/^# \([a-z_0-9]*\) \[\([a-zA-Z_0-9-]*\)\]: .*/\1 \2/p' "$1"
 }
 
-# part EDIT LABEL: the lines of one wrong program, behind the `file:` line that holds where it begins.
+# part EDIT LABEL: the lines of one wrong program, each change with the `file:` line that holds for it.
 part() {
     awk -v label="$2" '
-        /^# [a-z_0-9]* \[/ { mine = $2 == label; if (mine) print file }
-        /^file: / { file = $0 }
+        /^# [a-z_0-9]* \[/ { mine = $2 == label }
+        /^file: / { file = $0; next }
+        mine && /^old: / { print file }
         mine' "$1"
 }
 
