@@ -189,6 +189,7 @@ alone() {
             done <<<"$(labels "$edit")"
         done
     done
+    if [ "$((passed + failed))" = 0 ]; then fault "$*" all 'there is no such wrong program'; fi
 }
 
 # changed EDIT LABEL: which kind of thing a wrong program changes.
