@@ -38,8 +38,8 @@ fault() {
     echo "$1: $2: $3"
 }
 
-# labels EDIT: a line `LABEL NAME` for each wrong program of a file. It is read by `<<<"$(..)"` and not by `< <(..)`: where
-# process numbers come round quickly, bash may take the status of such a process for that of a later one.
+# labels EDIT: a line `LABEL NAME` for each wrong program of a file. It is read by `<<<"$(..)"` and not by `< <(..)`:
+# where process numbers come round quickly, bash may take the status of such a process for that of a later one.
 labels() {
     sed -n 's/^# \([a-z_0-9]*\) \[\([a-zA-Z_0-9-]*\)\]: .*/\1 \2/p' "$1"
 }
@@ -123,39 +123,43 @@ sum() {
     { (cd "crates/$1" && find . -type f ! -path './must-fail/*' -exec sha256sum {} + | sort) && part "$2" "$3" | grep -v '^#'; } | sha256sum
 }
 
+# flaw LOG EDIT NAME: what is amiss with the refusal of a wrong program by itself, or nothing.
+flaw() {
+    local other
+    if ! grep -q '^logic=not-proved' "$1"; then
+        echo 'it was not refused by the prover'
+    elif [ -z "$(own "$1" "$3")" ]; then
+        echo "$3 was not refused"
+    else
+        while read -r _ other; do
+            if [ "$other" != "$3" ] && [ -n "$(own "$1" "$other")" ]; then echo "$other is refused too, and stands for another of the file"; fi
+        done <<<"$(labels "$2")"
+    fi
+}
+
 # try CRATE EDIT LABEL NAME: one wrong program by itself.
 try() {
-    local to=$seen/tree/crates/$1 log=$seen/$1/$3.log started=$SECONDS status other
+    local to=$seen/tree/crates/$1 log=$seen/$1/$3.log started=$SECONDS folder why
     rm -rf "$to" "$seen/tree/target/inc/$1" "$log" "$seen/$1/$3.sum"
     mkdir "$to"
     cp -R "crates/$1/src" "$to/src"
-    for other in specs proofs; do
-        if [ -d "crates/$1/$other" ]; then cp -R "crates/$1/$other" "$to/$other"; fi
+    for folder in specs proofs; do
+        if [ -d "crates/$1/$folder" ]; then cp -R "crates/$1/$folder" "$to/$folder"; fi
     done
     cp -R "target/inc/$1" "$seen/tree/target/inc/$1"
     if ! part "$2" "$3" | apply "$to"; then
         fault "$2" "$3" 'an old text is not there, or more than once'
         return
     fi
-    (cd "$seen/tree" && rt dev "$1") >"$log" 2>&1
-    status=$?
+    (cd "$seen/tree" && rt dev "$1") </dev/null >"$log" 2>&1
     sum "$1" "$2" "$3" >"$seen/$1/$3.sum"
-    if [ "$status" != 1 ] || ! grep -q '^logic=not-proved' "$log"; then
-        fault "$2" "$3" "it was not refused by the prover, whose status was $status"
-        return
+    why=$(flaw "$log" "$2" "$4")
+    if [ -n "$why" ]; then
+        fault "$2" "$3" "$why"
+    else
+        passed=$((passed + 1))
+        echo "$1 $3: $4, $((SECONDS - started)) s"
     fi
-    if [ -z "$(own "$log" "$4")" ]; then
-        fault "$2" "$3" "$4 was not refused"
-        return
-    fi
-    while read -r _ other; do
-        if [ "$other" != "$4" ] && [ -n "$(own "$log" "$other")" ]; then
-            fault "$2" "$3" "$other is refused too, for which another of the file stands"
-            return
-        fi
-    done <<<"$(labels "$2")"
-    passed=$((passed + 1))
-    echo "$1 $3: $4, $((SECONDS - started)) s"
 }
 
 # asked CRATE LABEL WHICH..: this one is to be tried.
@@ -178,7 +182,7 @@ alone() {
                 asked "$crate" "$label" "$@" || continue
                 if [ -z "$ready" ]; then
                     ready=yes
-                    rt dev "$crate" >/dev/null 2>&1 || ready=no
+                    rt dev "$crate" </dev/null >/dev/null 2>&1 || ready=no
                     tree "$crate"
                 fi
                 if [ "$ready" = yes ]; then
@@ -205,9 +209,14 @@ changed() {
 
 # row CRATE EDIT LABEL NAME: its line of the page.
 row() {
-    local log=$seen/$1/$3.log first
-    if [ "$(cat "$seen/$1/$3.sum" 2>/dev/null)" != "$(sum "$1" "$2" "$3")" ]; then
-        fault "$2" "$3" 'as it stands it was not tried' >&2
+    local log=$seen/$1/$3.log first why
+    if [ "$(cat "$seen/$1/$3.sum" 2>/dev/null)" = "$(sum "$1" "$2" "$3")" ]; then
+        why=$(flaw "$log" "$2" "$4")
+    else
+        why='as it stands it was not tried'
+    fi
+    if [ -n "$why" ]; then
+        fault "$2" "$3" "$why" >&2
         return
     fi
     first=$(own "$log" "$4" | head -n 1 | sed -E 's/^[^ ]*: error: //; s/^fn .*\.antt; //; s/\|/\\|/g')
