@@ -109,9 +109,9 @@ module _ (chunks : List (List ℕ)) where
     abbrev by-end : Known
     by-end = knownEnd (endNumber (leavesAll first chunks) room) (endLeaves (leavesAll first chunks) room)
 
-    all-known : endBytes ≤ room → knownIn (leavesAll first chunks) room true ≡ knownBy (walked (joined chunks))
-    unfolding knownIn left knownEnd
-    all-known l = ap known-of (ended-told l) ∙ by-answer (walked (joined chunks)) (walked-numbered (joined chunks))
+    all-known : (all : Bool) → left (leavesAll first chunks) all ≡ false → endBytes ≤ room → knownIn (leavesAll first chunks) room all ≡ knownBy (walked (joined chunks))
+    unfolding knownIn knownEnd
+    all-known all e l = ap (λ (b : Bool). cond b NotKnown by-end) e ∙ ap known-of (ended-told l) ∙ by-answer (walked (joined chunks)) (walked-numbered (joined chunks))
 
     -- ---- complete
     module _ (all : Bool) (steps : ℕ) (said : knownIn (leavesAll first chunks) room all ≡ Complete steps) where
@@ -147,7 +147,8 @@ module _ (s : List ℕ) (room : ℕ) (all : Bool) where
   pub known-law : (k : Known) → k ≡ knownIn s room all → Knows s room all k
   known-law k is = record {
     by-state = is;
-    by-bytes = λ chunks led l fed. is ∙ ap₂ (λ (x : List ℕ) (b : Bool). knownIn x room b) led fed ∙ all-known chunks room l;
+    by-bytes = λ chunks led l over.
+        is ∙ ap (λ (x : List ℕ). knownIn x room all) led ∙ all-known chunks room all (ap (λ (x : List ℕ). left x all) (sym led) ∙ over) l;
     complete = λ chunks steps led said.
         let e : knownIn (leavesAll first chunks) room all ≡ Complete steps = ap (λ (x : List ℕ). knownIn x room all) (sym led) ∙ sym is ∙ said in
         (all-fed chunks room all steps e, accepted-whole chunks room all steps e);

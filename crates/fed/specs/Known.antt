@@ -1,7 +1,7 @@
 -- What is known of a file that was fed to a state (rule E10): by the bytes of the state, whatever they are; and so by the bytes that were fed, however these were cut. `known-law` proves
 -- that the one gives the other.
 use Prim.Native.Nat.{ℕ, _≤_}
-use mathlib.Core.Bool.{Bool, true, not, cond, _&&_, _||_}
+use mathlib.Core.Bool.{Bool, true, false, not, cond, _&&_, _||_}
 use mathlib.Core.List.{List}
 use mathlib.Core.Path.{_≡_}
 use lib.Dec.{eqb}
@@ -43,8 +43,8 @@ walked file = walk (length file) start file 0
 pub record Knows (s : List ℕ) (room : ℕ) (all : Bool) (k : Known) : Type 0 where
   -- for any bytes
   pub by-state : k ≡ knownIn s room all
-  -- a state that chunks led to: all of a file, which the end's room is enough for, is known by the check's answer over all its bytes
-  pub by-bytes : (chunks : List (List ℕ)) → s ≡ leavesAll first chunks → endBytes ≤ room → all ≡ true → k ≡ knownBy (walked (joined chunks))
+  -- a state that chunks led to, and room for the end: where all was fed, or a chunk was refused, what is known is the check's answer over the bytes that were fed
+  pub by-bytes : (chunks : List (List ℕ)) → s ≡ leavesAll first chunks → endBytes ≤ room → left s all ≡ false → k ≡ knownBy (walked (joined chunks))
   -- and complete is said of nothing else: all was fed, and the check accepts it with these steps
   pub complete : (chunks : List (List ℕ)) (steps : ℕ) → s ≡ leavesAll first chunks → k ≡ Complete steps
       → (all ≡ true) × (walked (joined chunks) ≡ answer 0 (length (joined chunks)) steps)

@@ -1,11 +1,16 @@
--- A file whose check answers 0 is accepted, and a study is made of no other.
-use Rattle.ask.proofs.SaysLaws.{accepts}
+-- A file that is known to be complete is one that the check accepts, and a study is made of no other.
 use borrow.Author.Needs.{needs}
+use mathlib.Core.Path.{sym, _∙_}
+use Rattle.stick.specs.Check.{checkOf}
+use Rattle.settle.proofs.KnownLaws.{complete-accepted}
 use Rattle.settle.proofs.studied.Statement.{statement}
 use Rattle.settle.proofs.studied.Tie as tie
 
-check-requires : tie.Need-check-requires
-check-requires c κs = search needs
+known-whole-requires : tie.Need-known-whole-requires
+known-whole-requires c κs = search needs
+
+enum-told : tie.Need-enum-told
+enum-told c = search needs
 
 line-requires : tie.Need-line-requires
 line-requires c κs = search needs
@@ -21,8 +26,8 @@ returns c = search needs
 
 made-requires : tie.Need-made-requires
 made-requires c κs =
-    let k = c .before in
-    accepts (k .before .before .args .file .now) (k .check .result) (k .check .ensures) (c .if1 .left)
+    let k = c .before .before in
+    complete-accepted (k .before .before .args .file .now) (c .enum-told .given .0 .0) (sym (k .known-whole .ensures) ∙ c .enum-told .given .1)
 
 returns-2 : tie.Need-returns-2
 returns-2 c = search needs
@@ -31,7 +36,8 @@ pub studied-spec : {M : Type 1} → statement M
 studied-spec =
     tie.close
     (tie.spec
-    check-requires
+    known-whole-requires
+    enum-told
     line-requires
     slice-aggregate-write-all
     write-all-requires
