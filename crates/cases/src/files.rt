@@ -8,15 +8,21 @@ pub fn check(v: &[u8]) {
     say::number(a.steps as u64);
 }
 
-// V: a place and a file. Where the value part of the field there begins, and how many bytes it has.
+// Where the value part of the field at a place begins, and how many bytes it has.
+fn part_at(file: &[u8], place: u64) {
+    let n = parts::value_at(file, place).len() as u64;
+    say::number(parts::place_past(file, place) - n);
+    say::number(n);
+}
+
+// V: a place and a file. Its value part.
 pub fn part(v: &[u8]) {
     if v.len() < 4 {
         return say::unknown();
     }
     let place = octets::u32_at(v, 0) as u64;
     say::refusal(0);
-    say::number(parts::part_start(&v[4..], place));
-    say::number(parts::part_size(&v[4..], place));
+    part_at(&v[4..], place);
 }
 
 // R: a room's length and a file. Number, place and steps of the run, and the result's bytes.
