@@ -340,14 +340,15 @@ unreadable() {
     good grep -qa '^standard input: cannot be read$' <<<"$error"
     good test "$(grep -cEa 'complete|refused|settled|request' <<<"$error")" = 0
 }
-# A folder, and a device that fails: at once, and where a stick ends, which then has not come to its end.
+# A folder, and a device that fails: at once, within a stick, and where one ends, which then has not come to its end.
+head -c 5000 examples/season.stick >"$work/begun"
 for program in stick_check stick_run 'settle 1000'; do
     for file in "$work" /proc/self/mem; do
         # shellcheck disable=SC2086 # the words
         unreadable "${how[@]}" target/bin/$program <"$file"
     done
     if command -v python3 >/dev/null; then
-        for file in examples/season.stick "$work/full" "$work/none" <(head -c 5000 examples/season.stick); do
+        for file in examples/season.stick "$work/full" "$work/none" "$work/begun"; do
             # shellcheck disable=SC2086 # the words
             unreadable c/tests/failing_input.py "$file" "${how[@]}" target/bin/$program
         done
