@@ -31,7 +31,3 @@ fits s chunk room n w h k =
     let fault = faultOf (keptIn s) chunk in
     let need = roomFor s chunk in
     within n w need room (eqb n 0) refl k (λ z. enough own fault need room (eqb own 0) (eqb fault 0) (ltb room need) refl refl refl (sym h ∙ z))
-
--- the end record has 7 bytes
-pub last : (n w : ℕ) → w ≡ cond (eqb n 0) 7 0 → w ≤ 7
-last n w h = within n w 7 7 (eqb n 0) refl h (λ _. omega arith)

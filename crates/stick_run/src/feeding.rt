@@ -91,7 +91,10 @@ fn turn(state: &mut [u8], room: &mut [u8], begun: bool) -> Read {
 fn buffers(state: &mut [u8], room: &mut [u8]) -> Read {
     let mut t = turn(state, room, false);
     let mut left = TURNS;
-    while on(t) && 0 < left {
+    while 0 < left {
+        if !on(t) {
+            return t;
+        }
         left -= 1;
         let w = t.went;
         t = turn(state, room, w.begun);
