@@ -18,7 +18,7 @@ use Rattle.members.specs.Ranges.{Fleet, withinRatings, requestsOk, someAbove, s
 use Rattle.members.specs.Sums.{sumOfAll}
 use Rattle.members.proofs.CallLaws.{watts-need, watts-band}
 use Rattle.controller.specs.Pass.{otherState, withSum, ownNeed, ownBand, needOf, passBy, passOf}
-use Rattle.controller.specs.OneNeed.{OneNeedLaw, InRanges, BoundsLaw}
+use Rattle.controller.specs.OneNeed.{OneNeedLaw, InRanges, BoundsLaw, BoundsTheorem}
 use Rattle.controller.proofs.SoundLaws.{settings-small, current-small}
 
 -- ---- modes 1 to 3
@@ -63,8 +63,11 @@ module _ (s : Settings) (m : ℤ) (f : Fleet) (rs : List ℤ) (r : InRanges s m 
       (λ t. le-trans (size-sum watts (sumOfAll rs)) (le-trans (add-le-add (watts-most i) sum-most) (lit≤ tt)))
       (λ t. le-trans (watts-most i) (lit≤ tt))
 
-  pub bounds-law : BoundsLaw s m f rs
-  bounds-law = record {
+  bounded : BoundsLaw s m f rs
+  bounded = record {
     need-most = need-most;
     product-most = λ i. lt-of-le-of-lt (mul-le-mul (mul-le-mul (need-most i) (r .weights i)) (settings-small s (r .settings) .1)) (lit< tt);
   }
+
+pub bounds-law : BoundsTheorem
+bounds-law = bounded

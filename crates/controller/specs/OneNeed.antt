@@ -32,3 +32,7 @@ pub record InRanges (s : Settings) (m : ℤ) (f : Fleet) (rs : List ℤ) : Type 
 pub record BoundsLaw (s : Settings) (m : ℤ) (f : Fleet) (rs : List ℤ) : Type 0 where
   pub need-most : (i : ℕ) → natAbs (ownNeed s m f rs i) ≤ 55000000000
   pub product-most : (i : ℕ) → natAbs (ownNeed s m f rs i) * getD (f .weight) i 0 * s .factor < 600000000000000000
+
+-- the theorem
+abbrev pub BoundsTheorem : Type 0
+BoundsTheorem = (s : Settings) (m : ℤ) (f : Fleet) (rs : List ℤ) → InRanges s m f rs → BoundsLaw s m f rs

@@ -22,7 +22,7 @@ use Rattle.unit.proofs.RangeLaws.{Bounds}
 use Rattle.energy.proofs.EnergyLaws.{removed-test, added-test, added-none, drawn-none, drawable-most}
 use Rattle.unit.specs.declared.Unit.{Unit}
 use Rattle.energy.specs.Limits.{limitedVars, heldSize, varsOf, removedBy, addedBy, deliverable, takeable}
-use Rattle.energy.specs.Editions.{varsWithin, AsBefore}
+use Rattle.energy.specs.Editions.{varsWithin, AsBefore, AsBeforeTheorem}
 
 -- ---- v, from what the code has: by the limit for the request's own direction
 module _ (u : Unit) (h : mag (u .«var_request») < 2 ^ 31) (size : ℕ) (es : size ≡ natAbs (toZ w32 (ofZ w32 (u .«var_request»))))
@@ -155,9 +155,12 @@ module _ (u : Unit) (provides : u .provide ≡ u .kva) (absorbs : u .absorb ≡ 
   same : limitedVars u ≡ varsWithin u
   same = ap (min (natAbs (u .«var_request»))) (either (negative (u .«var_request»)))
 
-  pub as-before : AsBefore u
+  both-limits : AsBefore u
   unfolding heldSize varsOf
-  as-before = record {
+  both-limits = record {
     held = λ (request : ℤ). ap (λ (v : ℕ). wattsIn (u .kva) (u .priority) v (natAbs request)) same;
     vars = λ (watts : ℤ). ap (λ (v : ℕ). varsIn (u .kva) (negative (u .«var_request»)) v (natAbs watts)) same;
   }
+
+pub as-before : AsBeforeTheorem
+as-before = both-limits

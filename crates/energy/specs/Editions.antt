@@ -14,3 +14,7 @@ varsWithin u = min (natAbs (u .«var_request»)) (u .kva)
 pub record AsBefore (u : Unit) : Type 0 where
   pub held : (request : ℤ) → heldSize u request ≡ wattsIn (u .kva) (u .priority) (varsWithin u) (natAbs request)
   pub vars : (watts : ℤ) → varsOf u watts ≡ varsIn (u .kva) (negative (u .«var_request»)) (varsWithin u) (natAbs watts)
+
+-- the theorem: of every unit whose limits are both S
+abbrev pub AsBeforeTheorem : Type 0
+AsBeforeTheorem = (u : Unit) → u .provide ≡ u .kva → u .absorb ≡ u .kva → AsBefore u

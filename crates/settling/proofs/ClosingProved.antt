@@ -24,7 +24,7 @@ use Rattle.rules.specs.declared.Settings.{Settings}
 use Rattle.members.specs.Ranges.{Fleet}
 use Rattle.controller.specs.Pass.{needOf}
 use Rattle.settling.specs.Settling.{Premises, requestsAt, measureAt, ratingOf, weightOf, requestAt, gapAt, changes}
-use Rattle.settling.specs.Closing.{ClosingLaw, EqualWeights, AllAbove, NoneAtRating, Outside, WideBand, evenShare, hasRoom, withRoom, leftOf, changingAfter, closed, closedBy}
+use Rattle.settling.specs.Closing.{ClosingLaw, ClosingTheorem, EqualWeights, AllAbove, NoneAtRating, Outside, WideBand, evenShare, hasRoom, withRoom, leftOf, changingAfter, closed, closedBy}
 
 -- a gap below n is within a band of 2n
 within-wide : (s : Settings) (load : ℤ) (f : Fleet) (n : ℕ) → WideBand s load f n → (gap : ℕ) → gap < n → 2 * gap ≤ s .band
@@ -189,8 +189,8 @@ module _ (s : Settings) (load : ℤ) (f : Fleet) (n : ℕ) (p : Premises s load 
               (subst⁻¹ (λ (x : ℕ). x < n) (closed-is 0 (leb-false (2 * gap 0) (s .band) t) (below-is 1 none))
               (subst⁻¹ (λ (x : ℕ). closed n x (gap 0) < n) e (remainder n (gap 0) (some s load f n p))))
 
-  pub closing-law : ClosingLaw s load f n
-  closing-law =
+  closing : ClosingLaw s load f n
+  closing =
       record {
         gapIsNeed = need-of;
         passCloses = pass-closes;
@@ -201,3 +201,6 @@ module _ (s : Settings) (load : ℤ) (f : Fleet) (n : ℕ) (p : Premises s load 
         changingWithinRoom = changing-room;
         stillInBand = in-band-after;
       }
+
+pub closing-law : ClosingTheorem
+closing-law = closing

@@ -12,7 +12,7 @@ use Rattle.members.specs.Ranges.{Fleet}
 use Rattle.members.specs.Sums.{total}
 use Rattle.controller.specs.Pass.{needOf}
 use Rattle.settling.specs.Study.{studyOf}
-use Rattle.settling.specs.Settling.{requestsAt, requestAt, measureAt, gapAt, changes, Above, ratingOf, ratingAbove, weightOf}
+use Rattle.settling.specs.Settling.{Premises, requestsAt, requestAt, measureAt, gapAt, changes, Above, ratingOf, ratingAbove, weightOf}
 
 module _ (s : Settings) (load : ℤ) (f : Fleet) (n : ℕ) where
   -- the weights of all units are equal
@@ -86,6 +86,10 @@ pub record ClosingLaw (s : Settings) (load : ℤ) (f : Fleet) (n : ℕ) : Type 0
   pub changingWithinRoom : (k m : ℕ) → changingAfter s load f n k m ≤ sumOf n (leftOf s load f n k)
   -- S23: where the gap is within half the band, no pass from there on changes a request
   pub stillInBand : (k m : ℕ) → 2 * gapAt s load f n k ≤ s .band → k ≤ m → changes s load f n m ≡ false
+
+-- the theorem, under the premises of the settling law
+abbrev pub ClosingTheorem : Type 0
+ClosingTheorem = (s : Settings) (load : ℤ) (f : Fleet) (n : ℕ) → Premises s load f n → ClosingLaw s load f n
 
 -- S20: what j-fold closing leaves, times the factor, is at most gap × factor × (1 - factor / 1,000)^j + n × 1,000, here without quotients
 abbrev pub ClosedLaw : Type 0
