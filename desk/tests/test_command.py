@@ -292,8 +292,10 @@ class Signals(Command):
         self.write('out.stick', b'old')
         for number in (signal.SIGTERM, signal.SIGINT, signal.SIGHUP):
             with self.subTest(number=number):
+                # Whoever runs the tests may have the signal ignored, as nohup does; the command is to have it as usual.
                 process = subprocess.Popen([COMMAND, 'log.csv', 'site.toml', 'out.stick'], cwd=self.folder,
-                                           stderr=subprocess.PIPE, env={**os.environ, 'YB_IMPORT': tool})
+                                           stderr=subprocess.PIPE, env={**os.environ, 'YB_IMPORT': tool},
+                                           preexec_fn=lambda: signal.signal(number, signal.SIG_DFL))
                 self.wait_for(lambda: os.path.exists(self.path('checking')))
                 self.assertEqual(len(glob.glob(self.path('.stick-from-csv-unfinished-*'))), 1)
                 process.send_signal(number)

@@ -255,8 +255,10 @@ class Output(Case):
                 temporary = self.path('temporary')
                 os.makedirs(temporary, exist_ok=True)
                 environ = {**os.environ, **self.environ, 'TMPDIR': temporary}
+                # Whoever runs the tests may have the signal ignored, as nohup does; the command is to have it as usual.
                 running = subprocess.Popen([COMMAND, name, self.path('page.html')], stdout=subprocess.PIPE,
-                                           stderr=subprocess.PIPE, env=environ)
+                                           stderr=subprocess.PIPE, env=environ,
+                                           preexec_fn=lambda: signal.signal(number_of, signal.SIG_DFL))
                 until = time.monotonic() + 60
                 # Its own folder, not the file by which Python tries whether it may write there.
                 while not any(one.startswith('season-page-') for one in os.listdir(temporary)) \
