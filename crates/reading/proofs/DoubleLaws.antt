@@ -50,7 +50,7 @@ none-watts : (s : Bool) (t : ℕ) → wattsOf (ofFields binary64 s 2047 t) ≡ R
 unfolding ofFields wattsOf
 none-watts s t = by-test (λ (v : Float). wattsOf v ≡ Refused) (eqb t 0) (inf s) nan (λ p. refl) (λ p. refl)
 
-too-much : (s : Bool) (size : ℕ) → mostWatts < size → within s size ≡ Refused
+pub too-much : (s : Bool) (size : ℕ) → mostWatts < size → within s size ≡ Refused
 unfolding within
 too-much s size h = ap (λ (b : Bool). cond b (Whole (signed s size)) Refused) (lt-leb size mostWatts h)
 
@@ -58,7 +58,7 @@ in-range : (s : Bool) (size : ℕ) → size ≤ mostWatts → within s size ≡ 
 unfolding within
 in-range s size h = ap (λ (b : Bool). cond b (Whole (signed s size)) Refused) (le-leb size mostWatts h)
 
-no-watts : (s : Bool) (size : ℕ) → size ≡ 0 → within s size ≡ Whole (pos 0)
+pub no-watts : (s : Bool) (size : ℕ) → size ≡ 0 → within s size ≡ Whole (pos 0)
 no-watts s size e = ap (within s) e ∙ in-range s 0 zero-le ∙ zero-of s
   where
     zero-of : (b : Bool) → Whole (signed b 0) ≡ Whole (pos 0)
@@ -116,7 +116,7 @@ pub low-bits : (b : ℕ) → fieldOf b < 1011 → Whole (pos 0) ≡ wattsOf (ofB
 low-bits b h = sym (ap wattsOf (parts b) ∙ low-field (minusOf b) (fieldOf b) (digitsOf b) h (mod-lt b (lit< tt)))
 
 module _ (b size : ℕ) (low : 1011 ≤ fieldOf b) (high : fieldOf b ≤ 1074) (is : size ≡ nearest (1000 * (4503599627370496 + digitsOf b)) (2 ^ (1074 - fieldOf b + 1))) where
-  middle : wattsOf (ofBits binary64 b) ≡ within (minusOf b) size
+  pub middle : wattsOf (ofBits binary64 b) ≡ within (minusOf b) size
   middle = ap wattsOf (parts b) ∙ middle-field (minusOf b) (fieldOf b) (digitsOf b) low high ∙ ap (within (minusOf b)) (sym is)
 
   pub over-bits : mostWatts < size → Refused ≡ wattsOf (ofBits binary64 b)

@@ -2,5 +2,6 @@
 pub mod NearestLaws
 pub mod NearestProved
 pub mod DoubleLaws
+pub mod PatternLaws
 pub mod ChoiceLaws
 pub mod MeasureLaws

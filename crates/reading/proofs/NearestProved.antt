@@ -13,7 +13,7 @@ use Rattle.reading.specs.Laws.{away, NearestTheorem}
 use Rattle.reading.proofs.NearestLaws.{ruled, ruled-less, ruled-tie, ruled-more}
 
 -- one of two orders
-order : (a b : ℕ) → (a ≤ b) ⊎ (b < a)
+pub order : (a b : ℕ) → (a ≤ b) ⊎ (b < a)
 order a b = go (leb a b) refl
   where
     go : (t : Bool) → leb a b ≡ t → (a ≤ b) ⊎ (b < a)

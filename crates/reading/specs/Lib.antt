@@ -3,3 +3,4 @@ pub mod Conversion
 pub mod Laws
 pub mod Choice
 pub mod Kilowatts
+pub mod Posts

@@ -3,7 +3,8 @@ ghost use Prim.Native.Nat.{_≤_};
 ghost use lib.Ieee.{binary64, ofBits};
 ghost use lib.IntN.{natAbs};
 ghost use Rattle.reading.specs.Conversion.{wattsOf, milliOf};
-ghost use Rattle.reading.specs.Choice.{largerOf, smallerOf, choiceOf, chosenOf, measureOf, currentOf, shownBy, meterOf, usableOf};
+ghost use Rattle.reading.specs.Choice.{largerOf, smallerOf, choiceOf, chosenOf, measureOf, currentOf, meterOf, usableOf};
+ghost use Rattle.reading.specs.Posts.{isWhole, shownOf};
 use super::Measure;
 use super::Meter;
 use super::Phases;
@@ -94,11 +95,14 @@ pub fn current(p: Phases, phase: u8) -> Measure
     )
 }
 
-// What the meter shows by a measure.
-fn shown(m: Measure) -> Meter
-    ensures { λ r. ⌜ r ≡ shownBy m ⌝ }
+// What the meter shows by three converted powers or currents.
+fn shown(phase: u8, a: Watts, b: Watts, c: Watts) -> Meter
+    ensures { λ r. ⌜ r ≡ shownOf phase a b c ⌝ }
 {
-    let Measure::Chosen(z) = m else {
+    if 5 < phase {
+        return Meter::Silent;
+    }
+    let Measure::Chosen(z) = chosen(phase, a, b, c) else {
         return Meter::Silent;
     };
     Meter::Shows(z)
@@ -110,45 +114,57 @@ pub fn metered(r: Reading, phase: u8) -> Meter
 {
     match r {
         Reading::Missing => Meter::Silent,
-        Reading::Power(p) => shown(regulated(p, phase)),
-        Reading::Current(p) => shown(current(p, phase)),
+        Reading::Power(p) => shown(
+            phase,
+            super::converted(p.first),
+            super::converted(p.second),
+            super::converted(p.third),
+        ),
+        Reading::Current(p) => shown(
+            phase,
+            super::milliamperes(p.first),
+            super::milliamperes(p.second),
+            super::milliamperes(p.third),
+        ),
     }
 }
 
-// Whether three converted powers or currents can be used: 0, or 6 where one was refused.
-fn usable(a: Watts, b: Watts, c: Watts) -> u8
-    ensures { λ n. ⌜ n ≡ usableOf a b c ⌝ }
+// Whether a power can be used, by its bit pattern: without its sign it is no larger than that of
+// the last double that becomes 10^8 W.
+pub fn power_fits(bits: u64) -> bool
+    ensures { λ r. ⌜ r ≡ isWhole (wattsOf (ofBits binary64 bits)) ⌝ }
 {
-    let Watts::Whole(_) = a else {
-        return 6;
-    };
-    let Watts::Whole(_) = b else {
-        return 6;
-    };
-    let Watts::Whole(_) = c else {
-        return 6;
-    };
-    0
+    bits % 9223372036854775808 <= 4681608360918534586
 }
 
-// Whether three powers can be used, by their bit patterns, with no double in between; and three
+// Whether a current can: the same, and below 0 only what is less than 0.0005, which becomes 0.
+pub fn current_fits(bits: u64) -> bool
+    ensures { λ r. ⌜ r ≡ isWhole (milliOf (ofBits binary64 bits)) ⌝ }
+{
+    if bits < 9223372036854775808 {
+        return bits <= 4681608360918534586;
+    }
+    bits < 13781122946144774652
+}
+
+// Whether three powers can be used, by their bit patterns: 0, or 6 where one cannot; and three
 // currents.
 pub fn powers_refusal(a: u64, b: u64, c: u64) -> u8
     ensures { λ n. ⌜ n ≡ usableOf (wattsOf (ofBits binary64 a)) (wattsOf (ofBits binary64 b)) (wattsOf (ofBits binary64 c)) ⌝ }
 {
-    usable(
-        super::watts_of_bits(a),
-        super::watts_of_bits(b),
-        super::watts_of_bits(c),
-    )
+    if power_fits(a) & power_fits(b) & power_fits(c) {
+        0
+    } else {
+        6
+    }
 }
 
 pub fn currents_refusal(a: u64, b: u64, c: u64) -> u8
     ensures { λ n. ⌜ n ≡ usableOf (milliOf (ofBits binary64 a)) (milliOf (ofBits binary64 b)) (milliOf (ofBits binary64 c)) ⌝ }
 {
-    usable(
-        super::milli_of_bits(a),
-        super::milli_of_bits(b),
-        super::milli_of_bits(c),
-    )
+    if current_fits(a) & current_fits(b) & current_fits(c) {
+        0
+    } else {
+        6
+    }
 }

@@ -5,8 +5,10 @@ mod convert;
 mod kilowatts;
 
 pub use choosing::current;
+pub use choosing::current_fits;
 pub use choosing::currents_refusal;
 pub use choosing::metered;
+pub use choosing::power_fits;
 pub use choosing::powers_refusal;
 pub use choosing::regulated;
 pub use convert::converted;

@@ -1,29 +1,32 @@
--- The test of all three says it, of each current as its bit pattern converts.
+-- Three currents can be used where each can.
 use borrow.Author.Needs.{needs}
+use mathlib.Core.Bool.{true, false}
+use lib.Ieee.{binary64, ofBits}
+use Rattle.reading.specs.Conversion.{milliOf}
+use Rattle.reading.proofs.PatternLaws.{usable-by}
 use Rattle.reading.proofs.choosing.currents_refusal.Statement.{statement}
 use Rattle.reading.proofs.choosing.currents_refusal.Tie as tie
 
-milli-of-bits-requires : tie.Need-milli-of-bits-requires
-milli-of-bits-requires c κs = search needs
+current-fits-requires : tie.Need-current-fits-requires
+current-fits-requires c κs = search needs
 
-milli-of-bits-requires-2 : tie.Need-milli-of-bits-requires-2
-milli-of-bits-requires-2 c κs = search needs
+current-fits-requires-2 : tie.Need-current-fits-requires-2
+current-fits-requires-2 c κs = search needs
 
-milli-of-bits-requires-3 : tie.Need-milli-of-bits-requires-3
-milli-of-bits-requires-3 c κs = search needs
-
-usable-requires : tie.Need-usable-requires
-usable-requires c κs = search needs
+current-fits-requires-3 : tie.Need-current-fits-requires-3
+current-fits-requires-3 c κs = search needs
 
 returns : tie.Need-returns
-returns c = cc
+returns c =
+    let s = c .before .before .before .before .args in
+    usable-by (milliOf (ofBits binary64 (s .a))) (milliOf (ofBits binary64 (s .b))) (milliOf (ofBits binary64 (s .c))) true (cc (c .if1 .taken))
+
+returns-2 : tie.Need-returns-2
+returns-2 c =
+    let s = c .before .before .before .before .args in
+    usable-by (milliOf (ofBits binary64 (s .a))) (milliOf (ofBits binary64 (s .b))) (milliOf (ofBits binary64 (s .c))) false (cc (c .if1 .left))
 
 pub currents-refusal-spec : {M : Type 1} → statement M
 currents-refusal-spec =
     tie.close
-    (tie.spec
-    milli-of-bits-requires
-    milli-of-bits-requires-2
-    milli-of-bits-requires-3
-    usable-requires
-    returns)
+    (tie.spec current-fits-requires current-fits-requires-2 current-fits-requires-3 returns returns-2)

@@ -2,7 +2,7 @@
 use mathlib.Core.Path.{sym, ap, _∙_}
 use borrow.Author.Needs.{needs}
 use Rattle.reading.specs.declared.Reading.{Reading}
-use Rattle.reading.specs.Choice.{shownBy, meterOf}
+use Rattle.reading.specs.Choice.{meterOf}
 use Rattle.reading.proofs.choosing.metered.Statement.{statement}
 use Rattle.reading.proofs.choosing.metered.Tie as tie
 
@@ -12,8 +12,14 @@ enum-told c = search needs
 enum-known-r : tie.Need-enum-known-r
 enum-known-r c = search needs
 
-regulated-requires : tie.Need-regulated-requires
-regulated-requires c κs = search needs
+converted-requires : tie.Need-converted-requires
+converted-requires c κs = search needs
+
+converted-requires-2 : tie.Need-converted-requires-2
+converted-requires-2 c κs = search needs
+
+converted-requires-3 : tie.Need-converted-requires-3
+converted-requires-3 c κs = search needs
 
 shown-requires : tie.Need-shown-requires
 shown-requires c κs = search needs
@@ -21,8 +27,14 @@ shown-requires c κs = search needs
 enum-known-r-2 : tie.Need-enum-known-r-2
 enum-known-r-2 c = search needs
 
-current-requires : tie.Need-current-requires
-current-requires c κs = search needs
+milliamperes-requires : tie.Need-milliamperes-requires
+milliamperes-requires c κs = search needs
+
+milliamperes-requires-2 : tie.Need-milliamperes-requires-2
+milliamperes-requires-2 c κs = search needs
+
+milliamperes-requires-3 : tie.Need-milliamperes-requires-3
+milliamperes-requires-3 c κs = search needs
 
 shown-requires-2 : tie.Need-shown-requires-2
 shown-requires-2 c κs = search needs
@@ -35,17 +47,19 @@ returns-2 : tie.Need-returns-2
 unfolding meterOf
 returns-2 c =
     let g = c .before in
-    let q = g .before .before in
+    let q = g .before .before .before .before in
     let s = q .before .before in
-    c .shown .ensures ∙ ap shownBy (g .regulated .ensures) ∙ sym (ap (λ (r : Reading). meterOf r (s .args .phase)) (q .r .given .1))
+    let is = sym (ap (λ (r : Reading). meterOf r (s .args .phase)) (q .r .given .1)) in
+    c .shown .ensures ∙ cc (g .converted3 .ensures, g .before .converted2 .ensures, g .before .before .converted .ensures) ∙ is
 
 returns-3 : tie.Need-returns-3
 unfolding meterOf
 returns-3 c =
     let g = c .before in
-    let q = g .before .before in
+    let q = g .before .before .before .before in
     let s = q .before .before in
-    c .shown2 .ensures ∙ ap shownBy (g .current .ensures) ∙ sym (ap (λ (r : Reading). meterOf r (s .args .phase)) (q .r2 .given .1))
+    let is = sym (ap (λ (r : Reading). meterOf r (s .args .phase)) (q .r2 .given .1)) in
+    c .shown2 .ensures ∙ cc (g .milliamperes3 .ensures, g .before .milliamperes2 .ensures, g .before .before .milliamperes .ensures) ∙ is
 
 pub metered-spec : {M : Type 1} → statement M
 metered-spec =
@@ -53,10 +67,14 @@ metered-spec =
     (tie.spec
     enum-told
     enum-known-r
-    regulated-requires
+    converted-requires
+    converted-requires-2
+    converted-requires-3
     shown-requires
     enum-known-r-2
-    current-requires
+    milliamperes-requires
+    milliamperes-requires-2
+    milliamperes-requires-3
     shown-requires-2
     returns
     returns-2
