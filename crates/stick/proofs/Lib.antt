@@ -1,5 +1,6 @@
 -- Laws about the run file's check, what an accepted file says and where, and rows of its units.
 pub mod WalkLaws
+pub mod PassedLaws
 pub mod MissingLaws
 pub mod ReachLaws
 pub mod PlaceLaws
