@@ -12,7 +12,7 @@ use settling::Trial;
 fn study_with(
     file: &[u8],
     q: Trial,
-    rows: &mut [[u64; 19]],
+    rows: &mut [[u64; 24]],
     stored: &mut [u64],
     requests: &mut [i32],
 ) -> Studied
@@ -33,7 +33,7 @@ fn study_over(file: &[u8], q: Trial, requests: &mut [i32]) -> Studied
     ensures { λ r. ⌜ Surveyed (now (file .entry)) q (now (requests .entry)) (now (requests .exit)) r ⌝ }
 {
     let n = requests.len();
-    let mut rows = [[0u64; 19]; 64];
+    let mut rows = [[0u64; 24]; 64];
     let mut stored = [0u64; 64];
     study_with(file, q, &mut rows[0..n], &mut stored[0..n], requests)
 }

@@ -14,7 +14,7 @@ use rules::Settings;
 use rules::Wanted;
 
 // P3: a fleet that is not in the mode's own state rests where no unit's own need calls.
-fn rests(charging: bool, w: Wanted, a: Asked, units: &[[u64; 19]], stored: &[u64]) -> bool
+fn rests(charging: bool, w: Wanted, a: Asked, units: &[[u64; 24]], stored: &[u64]) -> bool
     requires { ⌜ 1 ≤ length (now units) ⌝ }
     requires { ⌜ Linked w (fleetBy (now units) (now stored)) ⌝ }
     ensures { λ r. ⌜ r ≡ restsBy charging w a (fleetBy (now (units .entry)) (now (stored .entry))) (length (now (units .entry))) ⌝ }
@@ -30,7 +30,7 @@ pub fn pass_within(
     s: Settings,
     measure: i64,
     t: Totals,
-    units: &[[u64; 19]],
+    units: &[[u64; 24]],
     stored: &[u64],
     requests: &mut [i32],
 ) -> Passed
@@ -71,7 +71,7 @@ fn pass_with(
     rating: &[u32],
     weight: &[u16],
     links: &[u32],
-    units: &mut [[u64; 19]],
+    units: &mut [[u64; 24]],
     requests: &mut [i32],
 ) -> Passed
     requires { ⌜ Sound (aim .settings) (aim .measure) (fleetLinked (now rated) (now reserve) (now stored) (now rating) (now weight) (now links)) (length (now requests)) ⌝ }
@@ -103,7 +103,7 @@ pub fn pass_over(
         (now (requests .entry)) (now (requests .exit)) r ⌝ }
 {
     let n = requests.len();
-    let mut units = [[0u64; 19]; 64];
+    let mut units = [[0u64; 24]; 64];
     pass_with(
         aim,
         rated,

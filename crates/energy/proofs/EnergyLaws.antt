@@ -130,6 +130,16 @@ keepable-most r e s h k =
 pub removed-room : (d idle s : ℕ) → d ≤ 1000000000 → idle ≤ 10000000 → s ≤ 86400 → (d + idle) * s ≤ 87264000000000
 removed-room d idle s hd hi hs = le-trans (mul-le-mul {n₂ = 1010000000} (omega arith) hs) (omega arith)
 
+-- of x watts, with the idle loss beside what they draw, over s seconds, in parts
+pub drawn-room : (x i idle s : ℕ) → x ≤ 100000000 → 1000 ≤ i → idle ≤ 10000000 → s ≤ 86400
+    → ((x * 10000 + (i - 1)) / i ≤ 1000000000) × (((x * 10000 + (i - 1)) / i + idle) * (s * 10000) ≤ 872640000000000000)
+unfolding ceil
+drawn-room x i idle s hx hi hl hs =
+    let d : ceil (x * 10000) i ≤ x * 10 = drawn-most x i hi in
+    let r : (ceil (x * 10000) i + idle) * s ≤ 87264000000000 = removed-room (ceil (x * 10000) i) idle s (omega arith) hl hs in
+    let e : (ceil (x * 10000) i + idle) * s * 10000 ≡ (ceil (x * 10000) i + idle) * (s * 10000) = mul-assoc (ceil (x * 10000) i + idle) s 10000 in
+    (omega arith, omega arith)
+
 pub added-room : (x i idle s : ℕ) → x ≤ 100000000 → i ≤ 10000 → s ≤ 86400 → (x * i / 10000 - idle) * s ≤ 8640000000000
 added-room x i idle s hx hi hs =
     let d : x * i / 10000 ≤ x = passed-most x i hi in

@@ -4,17 +4,17 @@ ghost use Rattle.energy.specs.Limits.{removedBy, addedBy, deliverable, t
 ghost use Rattle.unit.specs.Ranges.{Ranged};
 use unit::Unit;
 
-// The joules that delivering p watts removes from the store.
+// The joules that delivering p watts removes from the store; both quotients are rounded up.
 pub fn removed(u: Unit, seconds: u32, p: u64) -> u64
     requires { ⌜ Ranged u seconds ⌝ }
     requires { ⌜ p ≤ 100000000 ⌝ }
     ensures { λ r. ⌜ r ≡ removedBy u seconds p ⌝ }
 {
-    let d = whole::ceil(p * 10000, u.inverter as u64);
-    whole::ceil(
-        (d + (u.dc_loss as u64)) * (seconds as u64) * 10000,
-        u.discharge as u64,
-    )
+    let inverter = u.inverter as u64;
+    let discharge = u.discharge as u64;
+    let d = (p * 10000 + (inverter - 1)) / inverter;
+    let drawn = (d + (u.dc_loss as u64)) * ((seconds as u64) * 10000);
+    (drawn + (discharge - 1)) / discharge
 }
 
 // The joules that taking p watts adds to the store.

@@ -9,5 +9,6 @@ pub use energy::deliver;
 pub use energy::removed;
 pub use energy::take_in;
 pub use limits::held;
+pub use limits::limited;
 pub use limits::most;
 pub use limits::vars;

@@ -5,7 +5,7 @@ ghost use Rattle.energy.specs.Limits.{limitedVars, heldSize, varsOf};
 use unit::Unit;
 
 // The size of the var request, at most the limit for its direction.
-fn limited(u: Unit) -> u32
+pub fn limited(u: Unit) -> u32
     ensures { λ r. ⌜ r ≡ limitedVars u ⌝ }
 {
     let size = whole::size32(u.var_request);

@@ -23,7 +23,7 @@ siteIn f rows = siteBy (f .head) rows
 pub record Ready (f : Frame) (rows : List (List ℕ)) : Type 0 where
   pub sited : Sited (siteIn f rows)
   pub totals : TotalsOf rows (f .totals)
-  pub rested : Rested rows
+  pub rested : Rested (f .head .seconds) rows
 
 -- no store above rated
 abbrev pub Stored : Site → List ℕ → Type 0

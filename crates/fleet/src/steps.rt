@@ -14,7 +14,7 @@ use reading::Reading;
 use records::RECORD_BYTES;
 
 // The requests after a reading, by watts: one pass, and none if the reading is missing.
-fn ask_by_watts(f: Frame, rows: &[[u64; 19]], r: Reading, stored: &[u64], requests: &mut [i32])
+fn ask_by_watts(f: Frame, rows: &[[u64; 24]], r: Reading, stored: &[u64], requests: &mut [i32])
     requires { ⌜ Ready f (now rows) ⌝ }
     requires { ⌜ length (now stored) ≡ count (siteIn f (now rows)) ⌝ }
     requires { ⌜ length (now requests) ≡ count (siteIn f (now rows)) ⌝ }
@@ -34,7 +34,7 @@ fn ask_by_watts(f: Frame, rows: &[[u64; 19]], r: Reading, stored: &[u64], reques
 }
 
 // The same by current.
-fn ask_by_current(f: Frame, rows: &[[u64; 19]], r: Reading, stored: &[u64], requests: &mut [i32])
+fn ask_by_current(f: Frame, rows: &[[u64; 24]], r: Reading, stored: &[u64], requests: &mut [i32])
     requires { ⌜ Ready f (now rows) ⌝ }
     requires { ⌜ length (now stored) ≡ count (siteIn f (now rows)) ⌝ }
     requires { ⌜ length (now requests) ≡ count (siteIn f (now rows)) ⌝ }
@@ -54,7 +54,7 @@ fn ask_by_current(f: Frame, rows: &[[u64; 19]], r: Reading, stored: &[u64], requ
 }
 
 // The requests after a reading, by the mode.
-pub fn ask(f: Frame, rows: &[[u64; 19]], r: Reading, stored: &[u64], requests: &mut [i32])
+pub fn ask(f: Frame, rows: &[[u64; 24]], r: Reading, stored: &[u64], requests: &mut [i32])
     requires { ⌜ Ready f (now rows) ⌝ }
     requires { ⌜ length (now stored) ≡ count (siteIn f (now rows)) ⌝ }
     requires { ⌜ length (now requests) ≡ count (siteIn f (now rows)) ⌝ }
@@ -73,7 +73,7 @@ pub fn ask(f: Frame, rows: &[[u64; 19]], r: Reading, stored: &[u64], requests: &
 // One step of every unit, and their records.
 fn give_all(
     f: Frame,
-    rows: &[[u64; 19]],
+    rows: &[[u64; 24]],
     m: Moment,
     requests: &[i32],
     stored: &mut [u64],
@@ -109,7 +109,7 @@ fn give_all(
 // One step of a site: what stands afterwards, and the step's records.
 pub fn step(
     f: Frame,
-    rows: &[[u64; 19]],
+    rows: &[[u64; 24]],
     m: Moment,
     stored: &mut [u64],
     requests: &mut [i32],

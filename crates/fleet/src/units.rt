@@ -16,9 +16,9 @@ use lead::Lead;
 use site::Head;
 
 // What no step changes, worked out once: the sums over the fleet, beside what the file says.
-pub fn framed(head: Head, units: &[[u64; 19]]) -> Frame
+pub fn framed(head: Head, units: &[[u64; 24]]) -> Frame
     requires { ⌜ Sited (siteBy head (now units)) ⌝ }
-    requires { ⌜ Rested (now units) ⌝ }
+    requires { ⌜ Rested (head .seconds) (now units) ⌝ }
     ensures { λ r. ⌜ r .head ≡ head ⌝ }
     ensures { λ r. ⌜ Ready r (now (units .entry)) ⌝ }
 {
@@ -29,7 +29,7 @@ pub fn framed(head: Head, units: &[[u64; 19]]) -> Frame
 }
 
 // Each unit's own var request.
-fn own_vars(units: &[[u64; 19]], vars: &mut [i32])
+fn own_vars(units: &[[u64; 24]], vars: &mut [i32])
     requires { ⌜ length (now vars) ≡ length (now units) ⌝ }
     ensures { λ _. ⌜ now (vars .exit) ≡ map (λ u. u .«var_request») (unitsBy (now (units .entry))) ⌝ }
 {
@@ -44,7 +44,7 @@ fn own_vars(units: &[[u64; 19]], vars: &mut [i32])
 
 // What stands at first: each unit holds what its row says, is asked nothing, and its own var request
 // counts as last requested.
-pub fn start(units: &[[u64; 19]], stored: &mut [u64], requests: &mut [i32], vars: &mut [i32])
+pub fn start(units: &[[u64; 24]], stored: &mut [u64], requests: &mut [i32], vars: &mut [i32])
     requires { ⌜ length (now stored) ≡ length (now units) ⌝ }
     requires { ⌜ length (now requests) ≡ length (now units) ⌝ }
     requires { ⌜ length (now vars) ≡ length (now units) ⌝ }
@@ -58,7 +58,7 @@ pub fn start(units: &[[u64; 19]], stored: &mut [u64], requests: &mut [i32], vars
 // One step of the unit of row i, which holds so much and is asked a request, by what leads it and the
 // vars last requested of it. That of one that nothing leads goes by what its row keeps.
 pub fn give(
-    units: &[[u64; 19]],
+    units: &[[u64; 24]],
     i: usize,
     seconds: u32,
     held: u64,
@@ -67,7 +67,7 @@ pub fn give(
     last: i32,
 ) -> Led
     requires { ⌜ i < length (now units) ⌝ }
-    requires { ⌜ Rested (now units) ⌝ }
+    requires { ⌜ Rested seconds (now units) ⌝ }
     requires { ⌜ Ranged (unitBy (getD (now units) i [])) seconds ⌝ }
     requires { ⌜ held ≤ unitBy (getD (now units) i []) .rated ⌝ }
     requires { ⌜ Guiding l last ⌝ }

@@ -27,7 +27,7 @@ use stretch::Way;
 // The steps of whole fields, over the site that lies in bytes; its units are in the rows.
 fn over(
     site: &[u8],
-    rows: &[[u64; 19]],
+    rows: &[[u64; 24]],
     bytes: &[u8],
     c: Course,
     stored: &mut [u64],
@@ -38,7 +38,7 @@ fn over(
 ) -> Way
     requires { ⌜ Accepted (now site) ⌝ }
     requires { ⌜ unitsBy (now rows) ≡ siteOf (now site) .units ⌝ }
-    requires { ⌜ Rested (now rows) ⌝ }
+    requires { ⌜ Rested (siteOf (now site) .head .seconds) (now rows) ⌝ }
     requires { ⌜ Holding (siteOf (now site)) (now stored) (now requests) (now vars) (now on) ⌝ }
     requires { ⌜ length (now on) ≡ length (roofsOf (now site)) ⌝ }
     requires { ⌜ c .head ≤ length (now bytes) ⌝ }
@@ -81,7 +81,7 @@ fn stand(
     s: &[u8],
     m: Mark,
     n: usize,
-    rows: &[[u64; 19]],
+    rows: &[[u64; 24]],
     stored: &mut [u64],
     requests: &mut [i32],
     vars: &mut [i32],
@@ -150,7 +150,7 @@ fn run_with(
     s: &mut [u8],
     c: Course,
     bytes: &[u8],
-    rows: &mut [[u64; 19]],
+    rows: &mut [[u64; 24]],
     stored: &mut [u64],
     requests: &mut [i32],
     vars: &mut [i32],
@@ -219,7 +219,7 @@ pub fn run(
     let units = stick::units(&s[SITE..SITE + n]);
     let roofs = stick::roofs(&s[SITE..SITE + n]);
     let size = bytes_of(&s[SITE..SITE + n], next.steps - m.state.steps);
-    let mut rows = [[0u64; 19]; 64];
+    let mut rows = [[0u64; 24]; 64];
     let mut stored = [0u64; 64];
     let mut requests = [0i32; 64];
     let mut vars = [0i32; 128];

@@ -14,6 +14,7 @@ use Rattle.whole.specs.Over.{sumOf, each}
 use Rattle.whole.proofs.OverLaws.{sum-next, sum-upto, each-length, each-at}
 use Rattle.unit.specs.declared.Unit.{Unit}
 use Rattle.unit.specs.Ranges.{linkOf}
+use Rattle.rows.specs.declared.Kept.{Kept}
 use Rattle.rows.specs.Rows.{rowOf, unitBy}
 use Rattle.rows.proofs.RowLaws.{column-at, column-count}
 use Rattle.rules.specs.declared.Wanted.{Wanted}
@@ -49,10 +50,10 @@ column-list value none rows l e h =
     (λ i k. column-is value none rows i ∙ h i (le-trans k (le-of-eq (column-count value rows))))
 
 -- the row of a member: each value fits its place
-pub member-row : (u : Unit) (draw : ℕ) (vars : ℤ) (most : ℕ) → u .rating < 4294967296 → u .weight < 65536 → u .link < 4294967296
-    → MemberRow (u .rated) (u .reserve) (u .rating) (u .weight) (u .link) (rowOf u draw vars most)
+pub member-row : (u : Unit) (k : Kept) → u .rating < 4294967296 → u .weight < 65536 → u .link < 4294967296
+    → MemberRow (u .rated) (u .reserve) (u .rating) (u .weight) (u .link) (rowOf u k)
 unfolding unitBy rowOf
-member-row u draw vars most hr hw hl = record { rated-is = refl; reserve-is = refl; rating-is = mod-eq-of-lt hr; weight-is = mod-eq-of-lt hw; link-is = mod-eq-of-lt hl }
+member-row u k hr hw hl = record { rated-is = refl; reserve-is = refl; rating-is = mod-eq-of-lt hr; weight-is = mod-eq-of-lt hw; link-is = mod-eq-of-lt hl }
 
 -- ---- rows, of which the first i are filled from a fleet's lists
 abbrev pub RowAt : Fleet → ℕ → List ℕ → Type 0

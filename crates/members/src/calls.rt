@@ -5,7 +5,7 @@ ghost use Rattle.members.specs.Posts.{Linked, fleetBy, noneCallsBy, allI
 use rules::Wanted;
 
 // P3 by current, over the units.
-fn no_unit_calls(charging: bool, w: Wanted, units: &[[u64; 19]], stored: &[u64]) -> bool
+fn no_unit_calls(charging: bool, w: Wanted, units: &[[u64; 24]], stored: &[u64]) -> bool
     requires { ⌜ Linked w (fleetBy (now units) (now stored)) ⌝ }
     ensures { λ r. ⌜ r ≡ noneCallsBy charging w (fleetBy (now (units .entry)) (now (stored .entry))) (length (now (units .entry))) ⌝ }
 {
@@ -21,7 +21,7 @@ fn no_unit_calls(charging: bool, w: Wanted, units: &[[u64; 19]], stored: &[u64])
 }
 
 // P3: no unit's own need calls. By watts all have one need.
-pub fn none_calls(charging: bool, w: Wanted, units: &[[u64; 19]], stored: &[u64]) -> bool
+pub fn none_calls(charging: bool, w: Wanted, units: &[[u64; 24]], stored: &[u64]) -> bool
     requires { ⌜ 1 ≤ length (now units) ⌝ }
     requires { ⌜ Linked w (fleetBy (now units) (now stored)) ⌝ }
     ensures { λ r. ⌜ r ≡ noneCallsBy charging w (fleetBy (now (units .entry)) (now (stored .entry))) (length (now (units .entry))) ⌝ }
@@ -33,7 +33,7 @@ pub fn none_calls(charging: bool, w: Wanted, units: &[[u64; 19]], stored: &[u64]
 }
 
 // P5 by current, over the units.
-fn units_in_band(band: u32, w: Wanted, units: &[[u64; 19]], stored: &[u64]) -> bool
+fn units_in_band(band: u32, w: Wanted, units: &[[u64; 24]], stored: &[u64]) -> bool
     requires { ⌜ Linked w (fleetBy (now units) (now stored)) ⌝ }
     ensures { λ r. ⌜ r ≡ allInBandBy band w (fleetBy (now (units .entry)) (now (stored .entry))) (length (now (units .entry))) ⌝ }
 {
@@ -50,7 +50,7 @@ fn units_in_band(band: u32, w: Wanted, units: &[[u64; 19]], stored: &[u64]) -> b
 }
 
 // P5: every unit is within its own band. By watts all have one band and one need.
-pub fn all_in_band(band: u32, w: Wanted, units: &[[u64; 19]], stored: &[u64]) -> bool
+pub fn all_in_band(band: u32, w: Wanted, units: &[[u64; 24]], stored: &[u64]) -> bool
     requires { ⌜ 1 ≤ length (now units) ⌝ }
     requires { ⌜ Linked w (fleetBy (now units) (now stored)) ⌝ }
     ensures { λ r. ⌜ r ≡ allInBandBy band w (fleetBy (now (units .entry)) (now (stored .entry))) (length (now (units .entry))) ⌝ }

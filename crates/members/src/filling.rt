@@ -2,10 +2,11 @@ ghost use mathlib.Core.Path.{_≡_};
 ghost use lib.ListN.{length};
 ghost use Rattle.members.specs.Ranges.{fleetLinked, linksOf};
 ghost use Rattle.members.specs.Posts.{SameLengths, MemberRow, fleetBy};
+use rows::Kept;
 use unit::Unit;
 
 // The row of a unit of which a pass knows these values alone.
-fn member_row(rated: u64, reserve: u64, rating: u32, weight: u16, link: u32) -> [u64; 19]
+fn member_row(rated: u64, reserve: u64, rating: u32, weight: u16, link: u32) -> [u64; 24]
     ensures { λ r. ⌜ MemberRow rated reserve rating weight link r ⌝ }
 {
     let u = Unit {
@@ -26,7 +27,17 @@ fn member_row(rated: u64, reserve: u64, rating: u32, weight: u16, link: u32) -> 
         grid_loss: 0,
         link,
     };
-    rows::row(u, 0, 0, 0)
+    let k = Kept {
+        draw: 0,
+        vars: 0,
+        most: 0,
+        floor: 0,
+        top: 0,
+        full: 0,
+        clear: 0,
+        rest: 0,
+    };
+    rows::row(u, k)
 }
 
 // Fills rows with the units of lent lists; what each holds stays in its list.
@@ -37,7 +48,7 @@ pub fn fill(
     rating: &[u32],
     weight: &[u16],
     links: &[u32],
-    rows: &mut [[u64; 19]],
+    rows: &mut [[u64; 24]],
 )
     requires { ⌜ SameLengths (fleetLinked (now rated) (now reserve) (now stored) (now rating) (now weight) (now links)) (length (now rows)) ⌝ }
     ensures { λ _. ⌜ fleetBy (now (rows .exit)) (now (stored .entry)) ≡

@@ -34,7 +34,7 @@ fn next_request(
     factor: u16,
     need: i64,
     weights: u64,
-    units: &[[u64; 19]],
+    units: &[[u64; 24]],
     i: usize,
     held: u64,
     request: i32,
@@ -61,7 +61,7 @@ fn share_linked(
     factor: u16,
     w: Wanted,
     weights: u64,
-    units: &[[u64; 19]],
+    units: &[[u64; 24]],
     stored: &[u64],
     requests: &mut [i32],
 ) -> bool
@@ -88,7 +88,7 @@ fn share_alike(
     factor: u16,
     w: Wanted,
     weights: u64,
-    units: &[[u64; 19]],
+    units: &[[u64; 24]],
     stored: &[u64],
     requests: &mut [i32],
 ) -> bool
@@ -116,7 +116,7 @@ pub fn share_all(
     factor: u16,
     w: Wanted,
     weights: u64,
-    units: &[[u64; 19]],
+    units: &[[u64; 24]],
     stored: &[u64],
     requests: &mut [i32],
 ) -> bool

@@ -32,7 +32,7 @@ pub fn is_spent(charging: bool, rated: u64, reserve: u64, stored: &[u64]) -> boo
 }
 
 // The sums over a fleet that no step changes.
-pub fn summed(units: &[[u64; 19]]) -> Totals
+pub fn summed(units: &[[u64; 24]]) -> Totals
     requires { ⌜ Addable (columnBy (λ (u : Unit). u .rated) (now units)) ⌝ }
     requires { ⌜ Addable (columnBy (λ (u : Unit). u .reserve) (now units)) ⌝ }
     ensures { λ r. ⌜ TotalsOf (now (units .entry)) r ⌝ }

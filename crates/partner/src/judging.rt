@@ -19,7 +19,7 @@ use stretch::Track;
 fn steps_judged(
     run: &[u8],
     t: Track,
-    rows: &[[u64; 19]],
+    rows: &[[u64; 24]],
     result: &[u8],
     stored: &mut [u64],
     requests: &mut [i32],
@@ -65,7 +65,7 @@ fn steps_judged(
 fn judged_with(
     run: &[u8],
     result: &[u8],
-    rows: &mut [[u64; 19]],
+    rows: &mut [[u64; 24]],
     stored: &mut [u64],
     requests: &mut [i32],
     vars: &mut [i32],
@@ -88,7 +88,7 @@ fn judged(run: &[u8], result: &[u8]) -> Verdict
 {
     let n = stick::units(run);
     let m = stick::roofs(run);
-    let mut rows = [[0u64; 19]; 64];
+    let mut rows = [[0u64; 24]; 64];
     let mut stored = [0u64; 64];
     let mut requests = [0i32; 64];
     let mut vars = [0i32; 128];

@@ -43,7 +43,7 @@ fn with_unit(n: usize, s: Sums, missed: bool, o: Outcome) -> Sums
 // One step of every unit: what each then holds, the vars then kept, and the sums over the fleet.
 fn give_all(
     f: Frame,
-    rows: &[[u64; 19]],
+    rows: &[[u64; 24]],
     l: Lead,
     requests: &[i32],
     stored: &mut [u64],
@@ -85,7 +85,7 @@ fn give_all(
 // One step of a fleet: the pass on its reading, none if that is missing, then one step of every unit.
 pub fn step(
     f: Frame,
-    rows: &[[u64; 19]],
+    rows: &[[u64; 24]],
     r: Reading,
     l: Lead,
     stored: &mut [u64],

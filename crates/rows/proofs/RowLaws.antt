@@ -1,4 +1,4 @@
--- A unit in its ranges comes back from its row, and so do what it draws while it idles, its vars then and the most watts that it is held at: each fits its column. Assumes nothing.
+-- A unit in its ranges comes back from its row, and so does what is kept beside it: each number fits its column. Assumes nothing.
 use mathlib.Core.Path.{_≡_, refl, sym, ap, _∙_}
 use mathlib.Core.Bool.{true}
 use mathlib.Core.List.{List, [], _∷_, map}
@@ -17,7 +17,8 @@ use Rattle.whole.proofs.OverLaws.{each-length, each-at, part, part-none, part-a
 use Rattle.whole.proofs.SignLaws.{size-fits}
 use Rattle.unit.specs.declared.Unit.{Unit}
 use Rattle.unit.specs.Ranges.{unitIn, holding}
-use Rattle.rows.specs.Rows.{rowOf, unitBy, drawBy, varsBy, mostBy, unitsBy}
+use Rattle.rows.specs.declared.Kept.{Kept}
+use Rattle.rows.specs.Rows.{rowOf, unitBy, drawBy, varsBy, mostBy, floorBy, topBy, fullBy, clearBy, restBy, unitsBy}
 use Rattle.unit.proofs.RangeLaws.{Bounds, bounds}
 
 -- bits that were cut to their own width are read back
@@ -27,13 +28,13 @@ bits-back z f = ap (toZ w32) (mod-eq-of-lt (ofZ-fits w32 z f .fits)) ∙ toZ-ofZ
 cut-back : (x : ℕ) (most : ℕ) (width : ℕ) → x ≤ most → most < width → x % width ≡ x
 cut-back x most width h k = mod-eq-of-lt (lt-of-le-of-lt h k)
 
-pub unit-back : (u : Unit) (draw : ℕ) (vars : ℤ) (most : ℕ) → unitIn u ≡ true → u .link < 4294967296 → unitBy (rowOf u draw vars most) ≡ u
+pub unit-back : (u : Unit) (k : Kept) → unitIn u ≡ true → u .link < 4294967296 → unitBy (rowOf u k) ≡ u
 unfolding unitBy rowOf
-unit-back u draw vars most e h =
+unit-back u k e h =
     let b : Bounds u 1 = bounds {u = u} {seconds = 1} (record { unit = e; seconds-in = refl }) in
     let asked = bits-back (u .«var_request») (size-fits w32 (u .«var_request») (lt-of-le-of-lt (b .vars-most) (lit< tt))) in
     -- all fields, one by one
-    let same : unitBy (rowOf u draw vars most) ≡ holding u (u .stored) =
+    let same : unitBy (rowOf u k) ≡ holding u (u .stored) =
     cc (
       cut-back (u .rating) 100000000 4294967296 (b .rating-most) (lit< tt),
       cut-back (u .kva) 100000000 4294967296 (b .kva-most) (lit< tt),
@@ -51,17 +52,37 @@ unit-back u draw vars most e h =
     ) in
     same
 
-pub draw-back : (u : Unit) (draw : ℕ) (vars : ℤ) (most : ℕ) → draw < 4294967296 → drawBy (rowOf u draw vars most) ≡ draw
+pub draw-back : (u : Unit) (k : Kept) → k .draw < 4294967296 → drawBy (rowOf u k) ≡ k .draw
 unfolding drawBy rowOf
-draw-back u draw vars most h = mod-eq-of-lt h
+draw-back u k h = mod-eq-of-lt h
 
-pub vars-back : (u : Unit) (draw : ℕ) (vars : ℤ) (most : ℕ) → SFits w32 vars → varsBy (rowOf u draw vars most) ≡ vars
+pub vars-back : (u : Unit) (k : Kept) → SFits w32 (k .vars) → varsBy (rowOf u k) ≡ k .vars
 unfolding varsBy rowOf
-vars-back u draw vars most f = bits-back vars f
+vars-back u k f = bits-back (k .vars) f
 
-pub most-back : (u : Unit) (draw : ℕ) (vars : ℤ) (most : ℕ) → most < 4294967296 → mostBy (rowOf u draw vars most) ≡ most
+pub most-back : (u : Unit) (k : Kept) → k .most < 4294967296 → mostBy (rowOf u k) ≡ k .most
 unfolding mostBy rowOf
-most-back u draw vars most h = mod-eq-of-lt h
+most-back u k h = mod-eq-of-lt h
+
+pub floor-back : (u : Unit) (k : Kept) → floorBy (rowOf u k) ≡ k .floor
+unfolding floorBy rowOf
+floor-back u k = refl
+
+pub top-back : (u : Unit) (k : Kept) → topBy (rowOf u k) ≡ k .top
+unfolding topBy rowOf
+top-back u k = refl
+
+pub full-back : (u : Unit) (k : Kept) → SFits w32 (k .full) → fullBy (rowOf u k) ≡ k .full
+unfolding fullBy rowOf
+full-back u k f = bits-back (k .full) f
+
+pub clear-back : (u : Unit) (k : Kept) → k .clear < 4294967296 → clearBy (rowOf u k) ≡ k .clear
+unfolding clearBy rowOf
+clear-back u k h = mod-eq-of-lt h
+
+pub rest-back : (u : Unit) (k : Kept) → k .rest < 4294967296 → restBy (rowOf u k) ≡ k .rest
+unfolding restBy rowOf
+rest-back u k h = mod-eq-of-lt h
 
 -- ---- rows and their units, one by one
 at-map {ℓ} : {A B : Type ℓ} (f : A → B) (l : List A) (i : ℕ) (a : A) → getD (map f l) i (f a) ≡ f (getD l i a)

@@ -1,5 +1,5 @@
--- Nobody has to believe this file: it is how the code carries units. A row has a unit's values in the file's order, then what the unit draws while it
--- idles and its vars then, what an ampere is in watts, and the most watts that a request can be held at; a signed number stands by its 32 bits.
+-- Nobody has to believe this file: it is how the code carries units. A row has a unit's values in the file's order, among them what an ampere is in watts,
+-- and what the code keeps beside them; a signed number stands by its 32 bits.
 use Prim.Native.Nat.{ℕ, _%_}
 use mathlib.Core.List.{List, [], _∷_, map}
 use lib.IntN.{ℤ}
@@ -7,12 +7,13 @@ use lib.ListN.{getD}
 use mir.Syntax.{w32}
 use mir.Val.{toZ, ofZ}
 use Rattle.unit.specs.declared.Unit.{Unit}
+use Rattle.rows.specs.declared.Kept.{Kept}
 
-unfoldable pub rowOf : Unit → ℕ → ℤ → ℕ → List ℕ
-rowOf u draw vars most =
+unfoldable pub rowOf : Unit → Kept → List ℕ
+rowOf u k =
     u .rated ∷ u .reserve ∷ u .stored ∷ u .rating ∷ u .kva ∷ u .«dc_loss» ∷ ofZ w32 (u .«var_request») ∷ u .weight
     ∷ u .inverter ∷ u .charge ∷ u .discharge ∷ u .priority ∷ u .provide ∷ u .absorb ∷ u .«grid_loss»
-    ∷ draw ∷ ofZ w32 vars ∷ u .link ∷ most ∷ []
+    ∷ k .draw ∷ ofZ w32 (k .vars) ∷ u .link ∷ k .most ∷ k .floor ∷ k .top ∷ ofZ w32 (k .full) ∷ k .clear ∷ k .rest ∷ []
 
 -- the unit of a row, whatever the row holds, with its var request
 abbrev pub unitWith : List ℕ → ℤ → Unit
@@ -46,6 +47,21 @@ varsBy row = toZ w32 (getD row 16 0 % 4294967296)
 
 unfoldable pub mostBy : List ℕ → ℕ
 mostBy row = getD row 18 0 % 4294967296
+
+unfoldable pub floorBy : List ℕ → ℕ
+floorBy row = getD row 19 0
+
+unfoldable pub topBy : List ℕ → ℕ
+topBy row = getD row 20 0
+
+unfoldable pub fullBy : List ℕ → ℤ
+fullBy row = toZ w32 (getD row 21 0 % 4294967296)
+
+unfoldable pub clearBy : List ℕ → ℕ
+clearBy row = getD row 22 0 % 4294967296
+
+unfoldable pub restBy : List ℕ → ℕ
+restBy row = getD row 23 0 % 4294967296
 
 -- the units of rows
 unfoldable pub unitsBy : List (List ℕ) → List Unit

@@ -3,16 +3,17 @@ ghost use mathlib.Core.List.{[]};
 ghost use Prim.Native.Nat.{_<_};
 ghost use lib.ListN.{length, getD};
 ghost use Rattle.unit.specs.Ranges.{holding};
-ghost use Rattle.rows.specs.Rows.{rowOf, unitBy, drawBy, varsBy, mostBy, storesBy};
+ghost use Rattle.rows.specs.Rows.{rowOf, unitBy, drawBy, varsBy, mostBy, floorBy, topBy, fullBy, clearBy, restBy, storesBy};
+use super::Kept;
 use unit::Unit;
 
-// The row of a unit, with what it draws while it idles, its vars then, and the most watts that a
-// request can be held at.
-pub fn row(u: Unit, draw: u32, vars: i32, most: u32) -> [u64; 19]
-    ensures { λ r. ⌜ r ≡ rowOf u draw vars most ⌝ }
+// The row of a unit, with what is kept beside its values.
+pub fn row(u: Unit, k: Kept) -> [u64; 24]
+    ensures { λ r. ⌜ r ≡ rowOf u k ⌝ }
 {
     let asked = octets::pattern_of(u.var_request);
-    let still = octets::pattern_of(vars);
+    let still = octets::pattern_of(k.vars);
+    let full = octets::pattern_of(k.full);
     [
         u.rated,
         u.reserve,
@@ -29,15 +30,20 @@ pub fn row(u: Unit, draw: u32, vars: i32, most: u32) -> [u64; 19]
         u.provide as u64,
         u.absorb as u64,
         u.grid_loss as u64,
-        draw as u64,
+        k.draw as u64,
         still as u64,
         u.link as u64,
-        most as u64,
+        k.most as u64,
+        k.floor,
+        k.top,
+        full as u64,
+        k.clear as u64,
+        k.rest as u64,
     ]
 }
 
 // The unit of row i.
-pub fn unit_of(units: &[[u64; 19]], i: usize) -> Unit
+pub fn unit_of(units: &[[u64; 24]], i: usize) -> Unit
     requires { ⌜ i < length (now units) ⌝ }
     ensures { λ r. ⌜ r ≡ unitBy (getD (now (units .entry)) i []) ⌝ }
 {
@@ -62,7 +68,7 @@ pub fn unit_of(units: &[[u64; 19]], i: usize) -> Unit
 }
 
 // The unit of row i, which holds so much.
-pub fn unit_holding(units: &[[u64; 19]], i: usize, held: u64) -> Unit
+pub fn unit_holding(units: &[[u64; 24]], i: usize, held: u64) -> Unit
     requires { ⌜ i < length (now units) ⌝ }
     ensures { λ r. ⌜ r ≡ holding (unitBy (getD (now (units .entry)) i [])) held ⌝ }
 {
@@ -72,42 +78,42 @@ pub fn unit_holding(units: &[[u64; 19]], i: usize, held: u64) -> Unit
 }
 
 // Single values of the unit of row i.
-pub fn rated_of(units: &[[u64; 19]], i: usize) -> u64
+pub fn rated_of(units: &[[u64; 24]], i: usize) -> u64
     requires { ⌜ i < length (now units) ⌝ }
     ensures { λ r. ⌜ r ≡ unitBy (getD (now (units .entry)) i []) .rated ⌝ }
 {
     units[i][0]
 }
 
-pub fn reserve_of(units: &[[u64; 19]], i: usize) -> u64
+pub fn reserve_of(units: &[[u64; 24]], i: usize) -> u64
     requires { ⌜ i < length (now units) ⌝ }
     ensures { λ r. ⌜ r ≡ unitBy (getD (now (units .entry)) i []) .reserve ⌝ }
 {
     units[i][1]
 }
 
-pub fn stored_of(units: &[[u64; 19]], i: usize) -> u64
+pub fn stored_of(units: &[[u64; 24]], i: usize) -> u64
     requires { ⌜ i < length (now units) ⌝ }
     ensures { λ r. ⌜ r ≡ unitBy (getD (now (units .entry)) i []) .stored ⌝ }
 {
     units[i][2]
 }
 
-pub fn rating_of(units: &[[u64; 19]], i: usize) -> u32
+pub fn rating_of(units: &[[u64; 24]], i: usize) -> u32
     requires { ⌜ i < length (now units) ⌝ }
     ensures { λ r. ⌜ r ≡ unitBy (getD (now (units .entry)) i []) .rating ⌝ }
 {
     (units[i][3] % 4294967296) as u32
 }
 
-pub fn weight_of(units: &[[u64; 19]], i: usize) -> u16
+pub fn weight_of(units: &[[u64; 24]], i: usize) -> u16
     requires { ⌜ i < length (now units) ⌝ }
     ensures { λ r. ⌜ r ≡ unitBy (getD (now (units .entry)) i []) .weight ⌝ }
 {
     (units[i][7] % 65536) as u16
 }
 
-pub fn link_of(units: &[[u64; 19]], i: usize) -> u32
+pub fn link_of(units: &[[u64; 24]], i: usize) -> u32
     requires { ⌜ i < length (now units) ⌝ }
     ensures { λ r. ⌜ r ≡ unitBy (getD (now (units .entry)) i []) .link ⌝ }
 {
@@ -115,7 +121,7 @@ pub fn link_of(units: &[[u64; 19]], i: usize) -> u32
 }
 
 // What the unit of row i draws while it idles.
-pub fn draw_of(units: &[[u64; 19]], i: usize) -> u32
+pub fn draw_of(units: &[[u64; 24]], i: usize) -> u32
     requires { ⌜ i < length (now units) ⌝ }
     ensures { λ r. ⌜ r ≡ drawBy (getD (now (units .entry)) i []) ⌝ }
 {
@@ -123,7 +129,7 @@ pub fn draw_of(units: &[[u64; 19]], i: usize) -> u32
 }
 
 // Its vars then.
-pub fn vars_of(units: &[[u64; 19]], i: usize) -> i32
+pub fn vars_of(units: &[[u64; 24]], i: usize) -> i32
     requires { ⌜ i < length (now units) ⌝ }
     ensures { λ r. ⌜ r ≡ varsBy (getD (now (units .entry)) i []) ⌝ }
 {
@@ -131,15 +137,55 @@ pub fn vars_of(units: &[[u64; 19]], i: usize) -> i32
 }
 
 // The most watts that a request of it can be held at.
-pub fn most_of(units: &[[u64; 19]], i: usize) -> u32
+pub fn most_of(units: &[[u64; 24]], i: usize) -> u32
     requires { ⌜ i < length (now units) ⌝ }
     ensures { λ r. ⌜ r ≡ mostBy (getD (now (units .entry)) i []) ⌝ }
 {
     (units[i][18] % 4294967296) as u32
 }
 
+// The store from which on it can give a watt.
+pub fn floor_of(units: &[[u64; 24]], i: usize) -> u64
+    requires { ⌜ i < length (now units) ⌝ }
+    ensures { λ r. ⌜ r ≡ floorBy (getD (now (units .entry)) i []) ⌝ }
+{
+    units[i][19]
+}
+
+// The store up to which it may have room for what a watt adds.
+pub fn top_of(units: &[[u64; 24]], i: usize) -> u64
+    requires { ⌜ i < length (now units) ⌝ }
+    ensures { λ r. ⌜ r ≡ topBy (getD (now (units .entry)) i []) ⌝ }
+{
+    units[i][20]
+}
+
+// Its var request, limited.
+pub fn full_of(units: &[[u64; 24]], i: usize) -> i32
+    requires { ⌜ i < length (now units) ⌝ }
+    ensures { λ r. ⌜ r ≡ fullBy (getD (now (units .entry)) i []) ⌝ }
+{
+    octets::signed_of((units[i][21] % 4294967296) as u32)
+}
+
+// The most watts that leave room for these.
+pub fn clear_of(units: &[[u64; 24]], i: usize) -> u32
+    requires { ⌜ i < length (now units) ⌝ }
+    ensures { λ r. ⌜ r ≡ clearBy (getD (now (units .entry)) i []) ⌝ }
+{
+    (units[i][22] % 4294967296) as u32
+}
+
+// What its circle leaves beside the idle draw.
+pub fn rest_of(units: &[[u64; 24]], i: usize) -> u32
+    requires { ⌜ i < length (now units) ⌝ }
+    ensures { λ r. ⌜ r ≡ restBy (getD (now (units .entry)) i []) ⌝ }
+{
+    (units[i][23] % 4294967296) as u32
+}
+
 // Fills a list with what the units of rows hold.
-pub fn stores(units: &[[u64; 19]], stored: &mut [u64])
+pub fn stores(units: &[[u64; 24]], stored: &mut [u64])
     requires { ⌜ length (now stored) ≡ length (now units) ⌝ }
     ensures { λ _. ⌜ now (stored .exit) ≡ storesBy (now (units .entry)) ⌝ }
 {

@@ -52,7 +52,7 @@ fn measure(load: i64, requests: &[i32]) -> i64
 pub fn settle_within(
     q: Trial,
     t: Totals,
-    units: &[[u64; 19]],
+    units: &[[u64; 24]],
     stored: &[u64],
     requests: &mut [i32],
 ) -> Studied
@@ -91,7 +91,7 @@ fn settle_with(
     stored: &[u64],
     rating: &[u32],
     weight: &[u16],
-    units: &mut [[u64; 19]],
+    units: &mut [[u64; 24]],
     requests: &mut [i32],
 ) -> Studied
     requires { ⌜ Trying q (fleetOf (now rated) (now reserve) (now stored) (now rating) (now weight)) (length (now requests)) ⌝ }
@@ -119,7 +119,7 @@ fn settle_over(
     ensures { λ r. ⌜ DoneTrial q (fleetOf (now (rated .entry)) (now (reserve .entry)) (now (stored .entry)) (now (rating .entry)) (now (weight .entry))) (length (now (requests .entry))) (now (requests .exit)) r ⌝ }
 {
     let n = requests.len();
-    let mut units = [[0u64; 19]; 64];
+    let mut units = [[0u64; 24]; 64];
     settle_with(
         q,
         rated,

@@ -29,7 +29,7 @@ use Rattle.storage.proofs.GridLaws.{draw-more}
 use Rattle.storage.specs.declared.Outcome.{Outcome}
 use Rattle.storage.specs.declared.Stepped.the-variants.{Done, RefusedBy}
 use Rattle.storage.specs.Ranges.{stepRefusal}
-use Rattle.storage.specs.Posts.{idleVars, restDraw, restOf}
+use Rattle.storage.specs.Posts.{idleVars, restDraw, restOf, outcomeWith}
 use Rattle.storage.specs.Step.{gridWatts, outcomeOf, stepOf, steppedOf, steppedAs}
 
 -- ---- a step from what flows
@@ -38,14 +38,25 @@ grid-fits u s r = lt-of-le-of-lt (mul-le-mul (bounds r .grid-most) (bounds r .se
 
 -- the outcome of a flow, each number as the code has it
 module _ (u : Unit) (s : ℕ) (f : Flow) where
+  -- with vars as they are
+  pub outcome-with : (carried watts vars : ℤ) → mag carried < 2 ^ 31 → mag watts < 2 ^ 31 → mag vars < 2 ^ 31 → (stored loss : ℕ)
+      → carried ≡ inverterWatts u f → watts ≡ toZ w32 (ofZ w32 carried) -ℤ pos (gridLoss u) → stored ≡ storedOf u s f → loss ≡ lossOf u s f
+      → _≡_ {A = Outcome} (record { watts = toZ w32 (ofZ w32 watts); vars = toZ w32 (ofZ w32 vars); stored = stored; loss = loss + gridLoss u * s }) (outcomeWith u s f vars)
+  unfolding outcomeWith gridWatts
+  outcome-with carried watts vars hc hw hv stored loss ec ew es el =
+      let k : toZ w32 (ofZ w32 carried) ≡ inverterWatts u f = read w32 carried hc ∙ ec in
+      cc (read w32 watts hw, read w32 vars hv)
+
+  pub outcome-is : outcomeWith u s f (varsOf u (inverterWatts u f)) ≡ outcomeOf u s f
+  unfolding outcomeOf outcomeWith
+  outcome-is = refl
+
   pub outcome-by : (carried watts vars : ℤ) → mag carried < 2 ^ 31 → mag watts < 2 ^ 31 → mag vars < 2 ^ 31 → (stored loss : ℕ)
       → carried ≡ inverterWatts u f → watts ≡ toZ w32 (ofZ w32 carried) -ℤ pos (gridLoss u) → vars ≡ varsOf u (toZ w32 (ofZ w32 carried))
       → stored ≡ storedOf u s f → loss ≡ lossOf u s f
       → _≡_ {A = Outcome} (record { watts = toZ w32 (ofZ w32 watts); vars = toZ w32 (ofZ w32 vars); stored = stored; loss = loss + gridLoss u * s }) (outcomeOf u s f)
-  unfolding outcomeOf gridWatts
   outcome-by carried watts vars hc hw hv stored loss ec ew ev es el =
-      let k : toZ w32 (ofZ w32 carried) ≡ inverterWatts u f = read w32 carried hc ∙ ec in
-      cc (read w32 watts hw, read w32 vars hv)
+      outcome-with carried watts vars hc hw hv stored loss ec ew es el ∙ ap (outcomeWith u s f) (ev ∙ ap (varsOf u) (read w32 carried hc ∙ ec)) ∙ outcome-is
 
   module _ (moved : ℕ) (m : Moving u s f moved) where
     -- the loss is at most what the store holds, or what is taken from the grid, and that at the grid comes to it
@@ -83,15 +94,15 @@ module _ (u : Unit) (s : ℕ) where
       let m = held-most u (pos 0) .0 in
       sym (discharged-nothing u s (heldSize u (pos 0)) (omega arith) ∙ flow-out u s (pos 0) refl)
 
-  pub idle-outcome : outcomeOf u s Idle ≡ restOf (restDraw u) (idleVars u) (u .stored) s
-  unfolding outcomeOf inverterWatts gridWatts storedOf lossOf
-  idle-outcome =
-      ap₂ (λ (w : ℤ) (l : ℕ). record { watts = w; vars = idleVars u; stored = u .stored; loss = l }) (draw-more (idleDraw u) (gridLoss u))
+  pub idle-with : (vars : ℤ) → outcomeWith u s Idle vars ≡ restOf (restDraw u) vars (u .stored) s
+  unfolding outcomeWith inverterWatts gridWatts storedOf lossOf
+  idle-with vars =
+      ap₂ (λ (w : ℤ) (l : ℕ). record { watts = w; vars = vars; stored = u .stored; loss = l }) (draw-more (idleDraw u) (gridLoss u))
       (sym (add-mul (idleDraw u) (gridLoss u) s))
 
   pub idle-step : stepOf u s (pos 0) ≡ restOf (restDraw u) (idleVars u) (u .stored) s
   unfolding stepOf
-  idle-step = ap (outcomeOf u s) idle-flows ∙ idle-outcome
+  idle-step = ap (outcomeOf u s) idle-flows ∙ sym (outcome-is u s Idle) ∙ idle-with (idleVars u)
 
 -- what an idle unit draws, and its vars then, as the code has them
 pub idle-draw-small : (u : Unit) → unitIn u ≡ true → (n : ℕ) → n ≡ idleDraw u → n ≤ 100000000

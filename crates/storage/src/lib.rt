@@ -4,6 +4,8 @@ mod giving;
 mod resting;
 mod steps;
 
+pub use giving::done;
+pub use giving::kind_of;
 pub use giving::step_of;
 pub use resting::row_of;
 pub use steps::idle_vars;
@@ -13,6 +15,16 @@ pub use steps::step_within;
 pub use unit::idle_draw;
 pub use unit::unit_in;
 use whole::Refusal;
+
+// What becomes of a request, as far as a row tells: the unit idles, gives all of it, takes all of it,
+// or the row alone does not tell.
+pub const IDLES: u8 = 0;
+
+pub const GIVES: u8 = 1;
+
+pub const TAKES: u8 = 2;
+
+pub const OPEN: u8 = 3;
 
 // What a step gives: watts at the grid, vars, the store after it, and the loss in joules.
 pub struct Outcome {

@@ -19,7 +19,7 @@ use solar::Sun;
 // of every unit changes the first part,
 pub fn step_units(
     f: Frame,
-    rows: &[[u64; 19]],
+    rows: &[[u64; 24]],
     m: Moment,
     stored: &mut [u64],
     requests: &mut [i32],
@@ -87,7 +87,7 @@ pub fn step_roofs(
 pub fn begin(
     site: &[u8],
     first: usize,
-    rows: &[[u64; 19]],
+    rows: &[[u64; 24]],
     stored: &mut [u64],
     requests: &mut [i32],
     vars: &mut [i32],

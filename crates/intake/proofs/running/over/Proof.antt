@@ -1,8 +1,10 @@
 -- The rows and the site's head are the site that its bytes say, and its inverters and its function lie where the code finds them, so that the stretch is run
 -- over that plant.
-use mathlib.Core.Path.{_≡_, ap, _∙_}
+use mathlib.Core.Path.{_≡_, ap, _∙_, subst⁻¹}
 use lib.ListN.{length}
 use Rattle.octets.specs.BigEndian.{laid}
+use Rattle.storage.specs.Posts.{Rested}
+use Rattle.site.specs.declared.Head.{Head}
 use Rattle.site.specs.Site.{Plant}
 use Rattle.stick.specs.Site.{siteOf, plantOf, stepsFrom}
 use Rattle.fleet.specs.Posts.{siteIn}
@@ -58,8 +60,10 @@ same-plant g =
 framed-requires : tie.Need-framed-requires
 framed-requires c κs =
     let s = start c in
-    let (ok, (eu, (rests, more))) = s .pre in
-    (loaded-sited (s .args .site .now) (s .args .rows .now) eu (c .head .result) (c .head .ensures) ok, rests)
+    let (ok, (eu, (rests, more))) = s .pre in (
+      loaded-sited (s .args .site .now) (s .args .rows .now) eu (c .head .result) (c .head .ensures) ok,
+      subst⁻¹ (λ (h : Head). Rested (h .seconds) (s .args .rows .now)) (c .head .ensures) rests,
+    )
 
 roofs-place-requires : tie.Need-roofs-place-requires
 roofs-place-requires c κs = search needs

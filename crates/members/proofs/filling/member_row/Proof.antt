@@ -14,7 +14,7 @@ returns : tie.Need-returns
 returns c =
     let s = c .before in
     subst⁻¹ (MemberRow (s .args .rated) (s .args .reserve) (s .args .rating) (s .args .weight) (s .args .link)) (c .row .ensures)
-    (member-row _ _ _ _ (omega (arith, s .fits .rating)) (omega (arith, s .fits .weight)) (omega (arith, s .fits .link)))
+    (member-row _ _ (omega (arith, s .fits .rating)) (omega (arith, s .fits .weight)) (omega (arith, s .fits .link)))
 
 pub member-row-spec : {M : Type 1} → statement M
 member-row-spec = tie.close (tie.spec row-requires returns)

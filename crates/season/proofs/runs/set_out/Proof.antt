@@ -1,7 +1,9 @@
 -- The rows hold what the file says of its units, the frame its head, what stands is what its plant has at first, and every place is where the file has it: so a run sets out from there.
-use mathlib.Core.Path.{sym, ap₂, _∙_}
+use mathlib.Core.Path.{sym, ap₂, _∙_, subst⁻¹}
 use Prim.Native.Nat.{_+_}
 use lib.ListN.{length}
+use Rattle.storage.specs.Posts.{Rested}
+use Rattle.site.specs.declared.Head.{Head}
 use Rattle.stick.specs.Check.{Accepted}
 use Rattle.stretch.proofs.RoofLaws.{roofs-there}
 use Rattle.stretch.proofs.SiteLaws.{rows-there, loaded-sited}
@@ -37,8 +39,10 @@ framed-requires c κs =
     let h = c .before in
     let o = h .before .before in
     let (z, ls) = start o .pre in
-    let (eu, rs) = o .load .ensures in
-    (loaded-sited (start o .args .file .now) (o .load .last .1 .0) eu (h .head .result) (h .head .ensures) z, rs)
+    let (eu, rs) = o .load .ensures in (
+      loaded-sited (start o .args .file .now) (o .load .last .1 .0) eu (h .head .result) (h .head .ensures) z,
+      subst⁻¹ (λ (x : Head). Rested (x .seconds) (o .load .last .1 .0)) (h .head .ensures) rs,
+    )
 
 roofs-place-requires : tie.Need-roofs-place-requires
 roofs-place-requires c κs = search needs

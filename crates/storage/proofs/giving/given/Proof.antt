@@ -1,78 +1,81 @@
--- The outcome of watts that flow out, each number by its definition; all fit, since the unit can carry what flows.
+-- The outcome of watts that flow out, each number by its definition, with the vars as they are; all fit, since the unit can carry what flows.
 use borrow.Author.Needs.{needs}
 use mathlib.Core.Path.{refl, _∙_}
 use mathlib.Core.Bool.{false}
+use native.Mathlib.Nat.{le-trans}
 use native.Mathlib.Omega.{arith}
 use mir.Syntax.{w32}
 use Rattle.whole.proofs.SignLaws.{signed-fits}
 use Rattle.unit.proofs.RangeLaws.{bounds}
 use Rattle.flows.specs.declared.Flow.the-variants.{Out}
+use Rattle.flows.specs.Posts.{Moving}
 use Rattle.flows.proofs.FlowLaws.{out-small, out-held, out-covers, out-fits, out-watts, out-stored, out-loss}
-use Rattle.storage.proofs.StepLaws.{grid-fits, outcome-by, flow-carried-small, flow-loss-fits}
+use Rattle.storage.proofs.StepLaws.{grid-fits, outcome-with, flow-carried-small, flow-loss-fits}
+use Rattle.storage.proofs.GivingLaws.{gives-moving}
 use Rattle.storage.proofs.giving.given.Statement.{statement}
 use Rattle.storage.proofs.giving.given.Tie as tie
 
-cast-signed32 : tie.Need-cast-signed32
-cast-signed32 c = omega (arith, out-small (c .pre) refl)
+-- what flows, with what it moves
+moving : (r : tie.After-removed) → Moving (r .before .args .u) (r .before .args .seconds) (Out (r .before .args .x)) (r .removed .result)
+moving r = let s = r .before in gives-moving (s .args .u) (s .args .seconds) (s .args .x) (s .pre .0) (s .pre .1) (r .removed .result) (r .removed .ensures)
 
-signed32-requires : tie.Need-signed32-requires
-signed32-requires c κs = signed-fits w32 false (c .args .x) (omega (arith, out-small (c .pre) refl))
+removed-requires : tie.Need-removed-requires
+removed-requires c κs = (c .pre .0, le-trans (c .pre .1 .0) (bounds (c .pre .0) .kva-most))
 
 cast-lost : tie.Need-cast-lost
 cast-lost c = search needs
 
 mul-lost : tie.Need-mul-lost
-mul-lost c = let s = c .before .before in record { fits = grid-fits (s .args .u) (s .args .seconds) (s .pre .ranged) }
+mul-lost c = let s = c .before .before in record { fits = grid-fits (s .args .u) (s .args .seconds) (s .pre .0) }
+
+signed32-requires : tie.Need-signed32-requires
+signed32-requires c κs = signed-fits w32 false (c .before .before .args .x) (omega (arith, out-small (moving (c .before)) refl))
 
 at-grid-requires : tie.Need-at-grid-requires
 at-grid-requires c κs =
-    let w = c .before .signed32 in
-    let s = c .before .before in
+    let w = c .signed32 in
+    let r = c .before .before in
+    let s = r .before in
     let a = s .args in (
-      flow-carried-small (a .u) (a .seconds) (Out (a .x)) (a .moved) (s .pre) (w .result) (w .ensures ∙ out-watts (s .pre) refl) (w .ok),
-      bounds (s .pre .ranged) .grid-most,
+      flow-carried-small (a .u) (a .seconds) (Out (a .x)) (r .removed .result) (moving r) (w .result) (w .ensures ∙ out-watts (moving r) refl) (w .ok),
+      bounds (s .pre .0) .grid-most,
     )
 
-vars-requires : tie.Need-vars-requires
-vars-requires c κs = bounds (c .before .before .before .pre .ranged) .vars-most
-
-sub-t8 : tie.Need-sub-t8
-sub-t8 c = let s = c .before .before .before .before .before in out-held (s .pre) refl
+sub-t7 : tie.Need-sub-t7
+sub-t7 c = out-held (moving (c .before .before .before .before)) refl
 
 mul-t12 : tie.Need-mul-t12
-mul-t12 c = let s = c .before .before .before .before .before in record { fits = out-fits (s .pre) refl }
+mul-t12 c = record { fits = out-fits (moving (c .before .before .before .before)) refl }
 
 sub-t13 : tie.Need-sub-t13
-sub-t13 c = let s = c .before .before .before .before .before in out-covers (s .pre) refl
+sub-t13 c = out-covers (moving (c .before .before .before .before)) refl
 
 add-t14 : tie.Need-add-t14
 add-t14 c =
-    let s = c .before .before .before .before .before in
-    let a = s .args in
-    record { fits = flow-loss-fits (a .u) (a .seconds) (Out (a .x)) (a .moved) (s .pre) _ (out-loss (s .pre) refl) }
+    let r = c .before .before .before .before in
+    let a = r .before .args in
+    record { fits = flow-loss-fits (a .u) (a .seconds) (Out (a .x)) (r .removed .result) (moving r) _ (out-loss (moving r) refl) }
 
 returns : tie.Need-returns
 returns c =
-    let v = c .before in
-    let g = v .before in
-    let w = g .before .before in
-    let s = w .before in
+    let g = c .before in
+    let w = g .before in
+    let r = w .before .before in
+    let s = r .before in
     let a = s .args in
-    outcome-by (a .u) (a .seconds) (Out (a .x)) (w .signed32 .result) (g .at-grid .result) (v .vars .result)
-    (w .signed32 .ok) (g .at-grid .ok) (v .vars .ok) _ _
-    (w .signed32 .ensures ∙ out-watts (s .pre) refl) (g .at-grid .ensures) (v .vars .ensures) (out-stored (s .pre) refl) (out-loss (s .pre) refl)
+    outcome-with (a .u) (a .seconds) (Out (a .x)) (w .signed32 .result) (g .at-grid .result) (a .vars) (w .signed32 .ok) (g .at-grid .ok) (s .fits .vars .sfits) _ _
+    (w .signed32 .ensures ∙ out-watts (moving r) refl) (g .at-grid .ensures) (out-stored (moving r) refl) (out-loss (moving r) refl)
 
 pub given-spec : {M : Type 1} → statement M
 given-spec =
     tie.close
     (tie.spec
-    cast-signed32
-    signed32-requires
+    removed-requires
     cast-lost
     mul-lost
+    signed32-requires
     at-grid-requires
-    vars-requires
-    sub-t8
+    sub-t7
     mul-t12
     sub-t13
     add-t14

@@ -1,23 +1,30 @@
--- The row keeps the most that a request is held at, so the smaller of that and the size of this one is what it is held at; the rest is what flows.
+-- The row keeps the most that a request is held at, so the smaller of that and the size of this one is what it is held at. Where its kind is told, that is what
+-- flows, with the vars that the row keeps; else the step is worked out.
 use borrow.Author.Needs.{needs}
-use mathlib.Core.Path.{_≡_, sym, _∙_}
+use mathlib.Core.Path.{_≡_, sym, ap, ap₂, _∙_, subst⁻¹}
 use mathlib.Core.List.{[]}
-use Prim.Native.Nat.{ℕ}
-use native.Mathlib.Omega.{arith}
+use mathlib.Core.Logic.{⊎-elim}
+use lib.IntN.{ℤ}
 use lib.ListN.{getD}
 use mir.Syntax.{w32}
-use Rattle.whole.proofs.SignLaws.{sign-is}
+use mir.Val.{toZ}
+use Rattle.whole.proofs.SignLaws.{read}
 use Rattle.unit.specs.declared.Unit.{Unit}
-use Rattle.unit.specs.Ranges.{holding}
+use Rattle.unit.specs.Ranges.{Ranged}
 use Rattle.rows.specs.Rows.{unitBy}
-use Rattle.energy.specs.Limits.{heldSize}
-use Rattle.storage.proofs.GivingLaws.{holds, stands, within, step-in, step-out, step-rests}
+use Rattle.energy.specs.Limits.{heldSize, varsOf}
+use Rattle.flows.specs.Flows.{inverterWatts}
+use Rattle.storage.specs.Posts.{Told, rowUnit, clearWatts, kindOf, flowBy}
+use Rattle.storage.specs.Step.{stepOf}
+use Rattle.storage.proofs.GivingLaws.{holding-vars, holds, held-few, step-carried, step-is, vars-idle, vars-full}
 use Rattle.storage.proofs.giving.step_of.Statement.{statement}
 use Rattle.storage.proofs.giving.step_of.Tie as tie
 
--- the row's unit, with what it holds
 abbrev unit : tie.Start → Unit
-unit s = holding (unitBy (getD (s .args .units .now) (s .args .i) [])) (s .args .held)
+unit s = rowUnit (s .args .units .now) (s .args .i) (s .args .held)
+
+told : (s : tie.Start) → Told (s .args .seconds) (getD (s .args .units .now) (s .args .i) [])
+told s = s .pre .1 .0 .told (s .args .i) (s .pre .0)
 
 -- what the request is held at
 held : (l : tie.After-least32) → l .least32 .result ≡ heldSize (unit (l .before .before .before)) (l .before .before .before .args .request)
@@ -26,9 +33,43 @@ held l =
     let z = m .before in
     let s = z .before in
     let a = s .args in
-    let (b, (rs, r)) = s .pre in
     holds (unitBy (getD (a .units .now) (a .i) [])) (a .held) (a .request) (s .fits .request .sfits) (z .size32 .result) (m .most-of .result) (l .least32 .result)
-    (z .size32 .ensures) (m .most-of .ensures ∙ rs .most (a .i) b) (l .least32 .ensures)
+    (z .size32 .ensures) (m .most-of .ensures ∙ told s .most-is) (l .least32 .ensures)
+
+clear : (v : tie.After-clear-of) → v .clear-of .result ≡ clearWatts (unit (v .before .before .before .before))
+clear v = v .clear-of .ensures ∙ told (v .before .before .before .before) .clear-is
+
+-- its kind
+kind : (k : tie.After-kind-of) → k .kind-of .result
+    ≡ kindOf (unit (k .before .before .before .before .before)) (k .before .before .before .before .before .args .seconds) (k .before .before .before .before .before .args .request)
+    (k .before .before .least32 .result) (k .before .clear-of .result)
+kind k =
+    let v = k .before in
+    let l = v .before in
+    let s = l .before .before .before in
+    let a = s .args in
+    k .kind-of .ensures
+    ∙ ap (λ (z : ℤ). kindOf (unit s) (a .seconds) z (l .least32 .result) (v .clear-of .result)) (read w32 (a .request) (s .fits .request .sfits))
+
+-- the vars that the row keeps are those of what flows
+vars : (j : tie.Joined2) → toZ w32 (j .if2 .vars)
+    ≡ varsOf (unit (j .before .before .before .before .before .before .before))
+    (inverterWatts (unit (j .before .before .before .before .before .before .before)) (flowBy (j .before .before .kind-of .result) (j .before .before .before .before .least32 .result)))
+vars j =
+    let e = j .before in
+    let k = e .before in
+    let v = k .before in
+    let l = v .before in
+    let s = l .before .before .before in
+    let a = s .args in
+    let u = unitBy (getD (a .units .now) (a .i) []) in
+    let r = s .pre .1 .1 in
+    ⊎-elim
+    (λ w. ap (toZ w32) (w .2) ∙ read w32 (w .1 .result) (w .1 .ok) ∙ w .1 .ensures ∙ told s .vars-is ∙ sym (holding-vars u (a .held))
+    ∙ vars-idle (unit s) (a .seconds) (a .request) r (l .least32 .result) (held l) (v .clear-of .result) (clear v) (k .kind-of .result) (kind k) (e .if1 .left) (w .0 .taken))
+    (λ w. ap (toZ w32) (w .2) ∙ read w32 (w .1 .result) (w .1 .ok) ∙ w .1 .ensures ∙ told s .full-is
+    ∙ vars-full (unit s) (a .seconds) (a .request) r (l .least32 .result) (held l) (v .clear-of .result) (clear v) (k .kind-of .result) (kind k) (e .if1 .left) (w .0 .left))
+    (j .if2 .came)
 
 size32-requires : tie.Need-size32-requires
 size32-requires c κs = search needs
@@ -39,70 +80,61 @@ most-of-requires c κs = search needs
 least32-requires : tie.Need-least32-requires
 least32-requires c κs = search needs
 
-cast-p : tie.Need-cast-p
-cast-p c = search needs
+clear-of-requires : tie.Need-clear-of-requires
+clear-of-requires c κs = search needs
+
+kind-of-requires : tie.Need-kind-of-requires
+kind-of-requires c κs =
+    let l = c .before in
+    let s = l .before .before .before in
+    let a = s .args in
+    let r = s .pre .1 .1 in
+    (s .pre .0, (s .pre .1 .0, (r, held-few (unit s) (a .seconds) (a .request) r (l .least32 .result) (held l))))
 
 unit-holding-requires : tie.Need-unit-holding-requires
 unit-holding-requires c κs = search needs
 
-take-requires : tie.Need-take-requires
-take-requires c κs =
-    let l = c .before .before in
-    let s = l .before .before .before in
-    let a = s .args in
-    let (b, (rs, r)) = s .pre in
-    let v = c .unit-holding in
-    (stands (a .units .now) (a .i) (a .held) (a .seconds) b rs r (v .result) (v .ensures), within (a .units .now) (a .i) (a .held) (a .seconds) b rs r (v .result) (v .ensures) (a .request) (l .least32 .result) (held l))
+step-within-requires : tie.Need-step-within-requires
+step-within-requires c κs =
+    let s = c .before .before .before .before .before .before .before in
+    subst⁻¹ (λ (u : Unit). Ranged u (s .args .seconds)) (c .unit-holding .ensures) (s .pre .1 .1)
 
 returns : tie.Need-returns
 returns c =
     let v = c .before in
-    let t = v .before in
-    let l = t .before in
+    let s = v .before .before .before .before .before .before .before in
+    let a = s .args in
+    c .step-within .ensures ∙ ap₂ (λ (u : Unit) (z : ℤ). stepOf u (a .seconds) z) (v .unit-holding .ensures) (read w32 (a .request) (s .fits .request .sfits))
+
+vars-of-requires : tie.Need-vars-of-requires
+vars-of-requires c κs = search needs
+
+full-of-requires : tie.Need-full-of-requires
+full-of-requires c κs = search needs
+
+done-requires : tie.Need-done-requires
+done-requires c κs =
+    let e = c .before in
+    let k = e .before in
+    let v = k .before in
+    let l = v .before in
     let s = l .before .before .before in
     let a = s .args in
-    let (b, (rs, r)) = s .pre in
-    let below = sym (sign-is w32 (a .request) (s .fits .request)) ∙ t .if1 .taken in
-    step-in (a .units .now) (a .i) (a .held) (a .seconds) b rs r (v .unit-holding .result) (v .unit-holding .ensures) (a .request) (l .least32 .result) (held l) below (c .take .result) (c .take .ensures)
-
-idle-of-requires : tie.Need-idle-of-requires
-idle-of-requires c κs = search needs
+    let r = s .pre .1 .1 in
+    let carried = step-carried (unit s) (a .seconds) (a .request) r (l .least32 .result) (held l) (v .clear-of .result) (clear v) (k .kind-of .result) (kind k) (e .if1 .left) in
+    (s .pre .0, (s .pre .1 .0, (r, carried)))
 
 returns-2 : tie.Need-returns-2
 returns-2 c =
-    let t = c .before in
-    let e = t .before in
-    let l = e .before in
+    let j = c .before in
+    let e = j .before in
+    let k = e .before in
+    let v = k .before in
+    let l = v .before in
     let s = l .before .before .before in
     let a = s .args in
-    let above = sym (sign-is w32 (a .request) (s .fits .request)) ∙ e .if1 .left in
-    step-rests (unit s) (a .seconds) (a .request) above (l .least32 .result) (held l) (t .if2 .taken) (c .idle-of .result) (c .idle-of .ensures)
-
-unit-holding-requires-2 : tie.Need-unit-holding-requires-2
-unit-holding-requires-2 c κs = search needs
-
-give-requires : tie.Need-give-requires
-give-requires c κs =
-    let e = c .before in
-    let l = e .before .before in
-    let s = l .before .before .before in
-    let a = s .args in
-    let (b, (rs, r)) = s .pre in
-    let v = c .unit-holding2 in (
-      stands (a .units .now) (a .i) (a .held) (a .seconds) b rs r (v .result) (v .ensures),
-      (within (a .units .now) (a .i) (a .held) (a .seconds) b rs r (v .result) (v .ensures) (a .request) (l .least32 .result) (held l), omega (arith, e .if2 .left)),
-    )
-
-returns-3 : tie.Need-returns-3
-returns-3 c =
-    let v = c .before in
-    let e = v .before .before in
-    let l = e .before in
-    let s = l .before .before .before in
-    let a = s .args in
-    let (b, (rs, r)) = s .pre in
-    let above = sym (sign-is w32 (a .request) (s .fits .request)) ∙ e .if1 .left in
-    step-out (a .units .now) (a .i) (a .held) (a .seconds) b rs r (v .unit-holding2 .result) (v .unit-holding2 .ensures) (a .request) (l .least32 .result) (held l) above (c .give .result) (c .give .ensures)
+    step-is (unit s) (a .seconds) (a .request) (s .pre .1 .1) (l .least32 .result) (held l) (v .clear-of .result) (clear v) (k .kind-of .result) (kind k) (e .if1 .left)
+    (toZ w32 (j .if2 .vars)) (vars j) (c .done .result) (c .done .ensures)
 
 pub step-of-spec : {M : Type 1} → statement M
 step-of-spec =
@@ -111,12 +143,12 @@ step-of-spec =
     size32-requires
     most-of-requires
     least32-requires
-    cast-p
+    clear-of-requires
+    kind-of-requires
     unit-holding-requires
-    take-requires
+    step-within-requires
     returns
-    idle-of-requires
-    returns-2
-    unit-holding-requires-2
-    give-requires
-    returns-3)
+    vars-of-requires
+    full-of-requires
+    done-requires
+    returns-2)
