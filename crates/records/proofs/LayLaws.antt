@@ -1,13 +1,18 @@
--- Bytes laid one piece behind the other are laid whole, and how long the pieces are. Assumes nothing.
+-- Bytes laid one piece behind the other are laid whole, two numbers as one too, and how long the pieces are. Assumes nothing.
 use mathlib.Core.Path.{_≡_, refl, sym, ap, ap₂, _∙_}
 use mathlib.Core.Bool.{Bool}
 use mathlib.Core.List.{List, [], _++_, append-nil}
-use Prim.Native.Nat.{ℕ, _+_, _≤_}
+use Prim.Native.Nat.{ℕ, zero, suc, _+_, _*_, _/_, _%_, _^_, _≤_, _<_}
+use native.Mathlib.Omega.{arith}
+use lib.Arith.{digits-div}
+use lib.Dec.{lit<}
 use lib.IntN.{ℤ}
-use native.Mathlib.Nat.{add-zero}
+use mir.Syntax.{w32}
+use mir.Val.{ofZ}
+use native.Mathlib.Nat.{add-zero, mul-assoc, pow-suc}
 use lib.ListN.{length, take, drop, length-append, take-append-drop}
 use Rattle.octets.specs.BigEndian.{bytesOf, laid}
-use Rattle.octets.proofs.ByteLaws.{bytes-length}
+use Rattle.octets.proofs.ByteLaws.{bytes-length, bytes-split}
 use Rattle.octets.proofs.LaidLaws.{laid-laid}
 use Rattle.solar.specs.declared.Given.{Given}
 use Rattle.storage.specs.declared.Outcome.{Outcome}
@@ -29,6 +34,34 @@ both a b n m p q = length-append a b ∙ ap₂ _+_ p q
 -- a number more
 pub longer : (a : List ℕ) (n m v : ℕ) → length a ≡ n → length (a ++ bytesOf m v) ≡ n + m
 longer a n m v l = both a (bytesOf m v) n m l (bytes-length m v)
+
+-- ---- the bytes of two numbers, one behind the other, are those of one number
+above : (m a b : ℕ) → bytesOf m (a * 256 ^ m + b) ≡ bytesOf m b
+unfolding bytesOf
+above zero a b = refl
+above (suc m) a b =
+    let p : a * 256 ^ m * 256 ≡ a * (256 ^ m * 256) = mul-assoc a (256 ^ m) 256 in
+    let high : (a * (256 ^ m * 256) + b) / 256 ≡ a * 256 ^ m + b / 256 = omega arith in
+    let low : (a * (256 ^ m * 256) + b) % 256 ≡ b % 256 = omega arith in
+    rw (pow-suc 256 m, high, low, above m a (b / 256))
+
+joined : (n m a b : ℕ) → b < 256 ^ m → bytesOf (n + m) (a * 256 ^ m + b) ≡ bytesOf n a ++ bytesOf m b
+joined n m a b h = rw (bytes-split n m (a * 256 ^ m + b), digits-div a h, above m a b)
+
+-- so are tag, length, step and unit of a unit's record
+abbrev pub asked-number : ℕ → ℕ → ℕ
+asked-number step unit = 1225019780575002624 + step * 256 + unit
+
+asked-head : (step unit : ℕ) → unit < 256 → step < 2 ^ 32 → bytesOf 8 (asked-number step unit) ≡ bytesOf 1 0x11 ++ bytesOf 2 37 ++ bytesOf 4 step ++ bytesOf 1 unit
+asked-head step unit h k =
+    let e : asked-number step unit ≡ ((0x11 * 256 ^ 2 + 37) * 256 ^ 4 + step) * 256 ^ 1 + unit = omega arith in
+    ap (bytesOf 8) e
+    ∙ joined 7 1 ((0x11 * 256 ^ 2 + 37) * 256 ^ 4 + step) unit h
+    ∙ ap (λ (b : List ℕ). b ++ bytesOf 1 unit) (joined 3 4 (0x11 * 256 ^ 2 + 37) step k ∙ ap (λ (b : List ℕ). b ++ bytesOf 4 step) (joined 1 2 0x11 37 (lit< tt)))
+
+pub asked-whole : (step unit : ℕ) (request : ℤ) → unit < 256 → step < 2 ^ 32 → bytesOf 8 (asked-number step unit) ++ bytesOf 4 (ofZ w32 request) ≡ askedPart step unit request
+unfolding askedPart
+asked-whole step unit request h k = ap (λ (b : List ℕ). b ++ bytesOf 4 (ofZ w32 request)) (asked-head step unit h k)
 
 -- ---- the lengths of the records
 pub asked-length : (step unit : ℕ) (request : ℤ) → length (askedPart step unit request) ≡ 12

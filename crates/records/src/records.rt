@@ -5,15 +5,17 @@ ghost use Rattle.octets.specs.BigEndian.{laid};
 ghost use Rattle.records.specs.Records.{askedPart, givenPart, recordOf, endOf, recordBytes, endBytes};
 use storage::Outcome;
 
-// Lays the first part of a unit's record: tag, length, step, unit and request.
+// Lays the first part of a unit's record: tag, length, step, unit and request. All but the request
+// are eight bytes, laid as one number: 0x1100250000000000 with the step and the unit in its low ones.
 fn put_asked(room: &mut [u8], at: usize, step: u32, unit: u8, request: i32)
     requires { ⌜ at + 12 ≤ length (now room) ⌝ }
     ensures { λ _. ⌜ now (room .exit) ≡ laid (now (room .entry)) at (askedPart step unit request) ⌝ }
 {
-    octets::put_u8(room, at, 0x11);
-    octets::put_u16(room, at + 1, 37);
-    octets::put_u32(room, at + 3, step);
-    octets::put_u8(room, at + 7, unit);
+    octets::put_u64(
+        room,
+        at,
+        1225019780575002624 + (step as u64) * 256 + (unit as u64),
+    );
     octets::put_i32(room, at + 8, request);
 }
 

@@ -1,10 +1,9 @@
--- Each number is laid right behind the ones before it, so that all of them are laid whole.
+-- The eight bytes of the first number are tag, length, step and unit by `asked-head`, and the request is laid right behind them.
 use borrow.Author.Needs.{needs}
 use native.Mathlib.Omega.{arith}
 use Prim.Native.Nat.{_+_, _≤_}
 use lib.ListN.{length}
 use mathlib.Core.Path.{ap, _∙_}
-use mathlib.Core.List.{_++_}
 use lib.IntN.{ℤ}
 use mir.Syntax.{w32}
 use mir.Val.{ofZ}
@@ -12,30 +11,21 @@ use Rattle.whole.proofs.SignLaws.{read}
 use Rattle.octets.specs.BigEndian.{bytesOf, laid}
 use Rattle.octets.proofs.ByteLaws.{bytes-length}
 use Rattle.records.specs.Records.{askedPart}
-use Rattle.records.proofs.LayLaws.{behind, longer}
+use Rattle.records.proofs.LayLaws.{behind, asked-number, asked-whole}
 use Rattle.records.proofs.records.put_asked.Statement.{statement}
 use Rattle.records.proofs.records.put_asked.Tie as tie
 
-put-u8-requires : tie.Need-put-u8-requires
-put-u8-requires c κs = search needs
+mul-put-u64 : tie.Need-mul-put-u64
+mul-put-u64 c = search needs
 
-add-put-u16 : tie.Need-add-put-u16
-add-put-u16 c = search needs
+add-put-u64 : tie.Need-add-put-u64
+add-put-u64 c = search needs
 
-put-u16-requires : tie.Need-put-u16-requires
-put-u16-requires c κs = search needs
+add-put-u64-2 : tie.Need-add-put-u64-2
+add-put-u64-2 c = search needs
 
-add-put-u32 : tie.Need-add-put-u32
-add-put-u32 c = search needs
-
-put-u32-requires : tie.Need-put-u32-requires
-put-u32-requires c κs = search needs
-
-add-put-u8 : tie.Need-add-put-u8
-add-put-u8 c = search needs
-
-put-u8-requires-2 : tie.Need-put-u8-requires-2
-put-u8-requires-2 c κs = search needs
+put-u64-requires : tie.Need-put-u64-requires
+put-u64-requires c κs = search needs
 
 add-put-i32 : tie.Need-add-put-i32
 add-put-i32 c = search needs
@@ -47,47 +37,28 @@ same-length : tie.Need-same-length
 same-length c = search needs
 
 returns : tie.Need-returns
-unfolding askedPart
 returns c =
-    let fifth = c .before .before in
-    let fourth = fifth .before .before .before .before in
-    let third = fourth .before .before .before .before in
-    let second = third .before .before .before .before in
+    let second = c .before .before in
     let first = second .before .before .before .before in
     let start = first .before .before .before in
     let s = start .args .room .now in
     let at = start .args .at in
     let h : at ≤ length s = omega arith in
-    let a = bytesOf 1 17 in
-    let b = a ++ bytesOf 2 37 in
-    let d = b ++ bytesOf 4 (start .args .step) in
-    let e = d ++ bytesOf 1 (start .args .unit) in
-    let t₁ = first .put-u8 .last .0 in
-    let t₂ = second .put-u16 .last .0 in
-    let t₃ = third .put-u32 .last .0 in
-    let t₄ = fourth .put-u82 .last .0 in
-    let t₅ = fifth .put-i32 .last .0 in
-    let la = bytes-length 1 17 in
-    let lb = longer a 1 2 37 la in
-    let ld = longer b 3 4 (start .args .step) lb in
-    let le = longer d 7 1 (start .args .unit) ld in
-    let two = behind s at h a (bytesOf 2 37) 1 la t₁ t₂ (first .put-u8 .ensures) (second .put-u16 .ensures) in
-    let three = behind s at h b (bytesOf 4 (start .args .step)) 3 lb t₂ t₃ two (third .put-u32 .ensures) in
-    let four = behind s at h d (bytesOf 1 (start .args .unit)) 7 ld t₃ t₄ three (fourth .put-u82 .ensures) in
-    let five = fifth .put-i32 .ensures ∙ ap (λ (z : ℤ). laid t₄ (at + 8) (bytesOf 4 (ofZ w32 z))) (read w32 (start .args .request) (start .fits .request .sfits)) in
-    behind s at h e (bytesOf 4 (ofZ w32 (start .args .request))) 8 le t₄ t₅ four five
+    let n = asked-number (start .args .step) (start .args .unit) in
+    let bits = ofZ w32 (start .args .request) in
+    let t = first .put-u64 .last .0 in
+    let two = second .put-i32 .ensures ∙ ap (λ (z : ℤ). laid t (at + 8) (bytesOf 4 (ofZ w32 z))) (read w32 (start .args .request) (start .fits .request .sfits)) in
+    behind s at h (bytesOf 8 n) (bytesOf 4 bits) 8 (bytes-length 8 n) t (second .put-i32 .last .0) (first .put-u64 .ensures) two
+    ∙ ap (laid s at) (asked-whole (start .args .step) (start .args .unit) (start .args .request) (start .fits .unit .fits) (start .fits .step .fits))
 
 pub put-asked-spec : {M : Type 1} → statement M
 put-asked-spec =
     tie.close
     (tie.spec
-    put-u8-requires
-    add-put-u16
-    put-u16-requires
-    add-put-u32
-    put-u32-requires
-    add-put-u8
-    put-u8-requires-2
+    mul-put-u64
+    add-put-u64
+    add-put-u64-2
+    put-u64-requires
     add-put-i32
     put-i32-requires
     same-length
