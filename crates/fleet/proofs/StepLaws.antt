@@ -1,22 +1,26 @@
 -- One step of a site: a pass keeps the number of requests; a loop over the units that replaces each store and the vars last requested of each, and lays each
--- record behind the one before, has laid all of them; no store rises above rated, and the vars kept stay in their bounds. Assumes nothing.
+-- record behind the one before, has laid all of them, and where nothing leads they are the same for any vars; no store rises above rated, and the vars kept stay in their bounds.
+-- Assumes nothing.
 use mathlib.Core.Path.{_≡_, refl, sym, ap, ap₂, _∙_, subst, subst⁻¹}
-use mathlib.Core.Bool.{Bool, true, false, cond}
-use mathlib.Core.List.{List, []}
+use mathlib.Core.Bool.{Bool, true, false, not, cond, _||_}
+use mathlib.Core.List.{List, [], _++_}
 use mathlib.Core.Logic.{_⊎_, inl, inr}
-use Prim.Native.Nat.{ℕ, zero, suc, _+_, _*_, _^_, _≤_, _<_}
+use Prim.Native.Nat.{ℕ, zero, suc, _+_, _*_, _^_, _≤_, _<_, zero-le}
 use native.Mathlib.Nat.{le-trans, le-of-eq}
 use native.Mathlib.Numerals.{add-one}
 use native.Mathlib.Omega.{arith}
+use lib.Dec.{lit<}
 use lib.IntN.{ℤ, pos, natAbs}
 use lib.Signed.{mag}
-use lib.ListN.{length, getD, set}
+use lib.ListN.{length, getD, set, replicate, length-replicate, getD-replicate}
+use lib.Seq.{ext-getD, set-getD}
 use mir.Syntax.{w32, w64}
 use mir.Val.{toZ, ofZ}
 use denote.Enum.Declared.{tagOf}
 use Rattle.whole.specs.declared.Refusal.{Refusal}
 use Rattle.whole.proofs.Choice.{by-test}
 use Rattle.whole.proofs.SignLaws.{read}
+use Rattle.whole.specs.Over.{each}
 use Rattle.whole.proofs.OverLaws.{each-length, each-at, part, part-none, part-all, part-length, part-next, part-more}
 use Rattle.octets.specs.BigEndian.{laid}
 use Rattle.octets.proofs.LaidLaws.{laid-length}
@@ -38,12 +42,14 @@ use Rattle.controller.specs.Posts.{Sound}
 use Rattle.controller.proofs.SoundLaws.{rows-sound}
 use Rattle.controller.proofs.StandsLaws.{pass-length}
 use Rattle.storage.specs.declared.Outcome.{Outcome}
+use Rattle.storage.specs.Step.{stepOf}
 use Rattle.lead.specs.declared.Lead.{Lead}
 use Rattle.lead.specs.Lead.{Modest}
 use Rattle.guided.specs.Units.{ledStep, varsKept, LedLaw}
 use Rattle.guided.specs.Units.{Guiding}
 use Rattle.guided.proofs.LedProved.{led-law}
-use Rattle.guided.proofs.SharedLaws.{back, small-same}
+use Rattle.guided.proofs.SharedLaws.{back, small-same, none-leads}
+use Rattle.guided.proofs.UnitLaws.{unled-is, stands-is}
 use Rattle.site.specs.declared.Head.{Head}
 use Rattle.site.specs.Site.{Site, count, unitOf}
 use Rattle.site.specs.Ranges.{Sited}
@@ -51,7 +57,7 @@ use Rattle.records.specs.Records.{recordOf}
 use Rattle.records.proofs.LayLaws.{behind, both, nothing, record-length}
 use Rattle.fleet.specs.declared.Moment.{Moment}
 use Rattle.fleet.specs.Step.{standing, passedOn, askedByWatts, askedByCurrent, askedBy, given, keptVars, storedAfter, varsAfter, recordsOf, after, recordsBy}
-use Rattle.fleet.specs.Posts.{Stored, Held, siteBy}
+use Rattle.fleet.specs.Posts.{Stored, Held, Unled, siteBy}
 use Rattle.fleet.proofs.SiteLaws.{held-ranged, rows-count, row-unit, rows-below, rows-in, rows-some, rows-few}
 
 -- ---- the pass, or none
@@ -191,7 +197,7 @@ module _ (site : Site) (m : Moment) (stored : List ℕ) (rs vs : List ℤ) (room
     room-is = nothing room (m .at);
   }
 
-  module _ (st : Held site stored rs vs) (y : Modest (m .lead)) (fits : m .at + 40 * count site ≤ length room) (i : ℕ) (now-stored : List ℕ) (now-vars : List ℤ) (now-room : List ℕ)
+  module _ (st : Held site stored rs vs) (fits : m .at + 40 * count site ≤ length room) (i : ℕ) (now-stored : List ℕ) (now-vars : List ℤ) (now-room : List ℕ)
       (g : Giving i now-stored now-vars now-room) where
     upto-stored : i ≤ length stored
     upto-stored = le-trans (g .upto) (le-of-eq (sym (st .stores)))
@@ -230,8 +236,8 @@ module _ (site : Site) (m : Moment) (stored : List ℕ) (rs vs : List ℤ) (room
       pub next-within : getD now-stored i 0 ≤ unitOf site i .rated
       next-within = le-trans (le-of-eq next-holds) (st .within i h)
 
-      pub next-guiding : Guiding (m .lead) (back (getD now-vars i (pos 0)))
-      next-guiding = subst⁻¹ (Guiding (m .lead)) next-vars (record { modest = y; last-small = st .small i h })
+      pub next-guiding : Modest (m .lead) → Guiding (m .lead) (back (getD now-vars i (pos 0)))
+      next-guiding y = subst⁻¹ (Guiding (m .lead)) next-vars (record { modest = y; last-small = st .small i h })
 
       -- one unit more, by what the code reads of the lists
       pub one-more : mag (getD rs i (pos 0)) < 2 ^ 31
@@ -271,6 +277,80 @@ module _ (site : Site) (m : Moment) (stored : List ℕ) (rs vs : List ℤ) (room
         g .room-is ∙ ap (λ (n : ℕ). laid room (m .at) (records n)) e,
       ),
     )
+
+-- ---- where nothing leads, a step is the unit's own, whatever vars were last requested, and these stay
+pub unled : (l : Lead) → (l .leads || l .after || l .fresh) ≡ false → Unled l
+unled l t = let n = none-leads l (ap not t) in record { no-function = n .0; no-base = n .1 .0; no-voltage = n .1 .1 }
+
+module _ (site : Site) (l : Lead) (n : Unled l) where
+  unled-given : (i s : ℕ) (r v : ℤ) → given site l i s r v ≡ stepOf (holding (unitOf site i) s) (site .head .seconds) r
+  unfolding given
+  unled-given i s r v = unled-is l (holding (unitOf site i) s) v (site .head .seconds) r (n .no-function) (n .no-base) (n .no-voltage)
+
+  unled-kept : (i s : ℕ) (r v : ℤ) → keptVars site l i s r v ≡ v
+  unfolding keptVars
+  unled-kept i s r v = stands-is l (holding (unitOf site i) s) v (site .head .seconds) r (n .no-function)
+
+  module _ (stored : List ℕ) (rs vs : List ℤ) where
+    pub vars-stay : varsAfter site l stored rs vs ≡ vs
+    unfolding varsAfter
+    vars-stay =
+        let kept : ℕ → ℤ → ℤ = λ i v. keptVars site l i (getD stored i 0) (getD rs i (pos 0)) v in
+        let long : length (each kept vs) ≡ length vs = each-length kept vs in
+        ext-getD (pos 0) (each kept vs) vs long
+        (λ i b. each-at kept vs i (pos 0) (le-trans b (le-of-eq long)) ∙ unled-kept i (getD stored i 0) (getD rs i (pos 0)) (getD vs i (pos 0)))
+
+    -- so any vars do as well
+    module _ (ws : List ℤ) where
+      given-same : (i s : ℕ) → given site l i s (getD rs i (pos 0)) (getD vs i (pos 0)) ≡ given site l i s (getD rs i (pos 0)) (getD ws i (pos 0))
+      given-same i s = unled-given i s (getD rs i (pos 0)) (getD vs i (pos 0)) ∙ sym (unled-given i s (getD rs i (pos 0)) (getD ws i (pos 0)))
+
+      stored-same : storedAfter site l stored rs vs ≡ storedAfter site l stored rs ws
+      unfolding storedAfter
+      stored-same = ap (λ (f : ℕ → ℕ → ℕ). each f stored) (λ t. λ i s. given-same i s t .stored)
+
+      records-same : (step k : ℕ) → recordsOf k site l step stored rs vs ≡ recordsOf k site l step stored rs ws
+      unfolding recordsOf
+      records-same step zero = refl
+      records-same step (suc k) = ap₂ _++_ (records-same step k) (ap (recordOf step k (getD rs k (pos 0))) (given-same k (getD stored k 0)))
+
+-- ---- the loop over the units that nothing leads: the same loop, with vars that are all zero
+abbrev pub noVars : Site → List ℤ
+noVars site = replicate (count site) (pos 0)
+
+pub no-vars-held : (site : Site) (stored : List ℕ) (rs : List ℤ) → length stored ≡ count site → length rs ≡ count site → Stored site stored → Held site stored rs (noVars site)
+no-vars-held site stored rs stores asks within = record {
+  stores = stores;
+  asks = asks;
+  leads = length-replicate (count site) (pos 0);
+  within = within;
+  small = λ i b. le-trans (le-of-eq (ap natAbs (getD-replicate (count site) i (pos 0) (pos 0) b))) zero-le;
+}
+
+module _ (site : Site) (m : Moment) (n : Unled (m .lead)) (stored : List ℕ) (rs : List ℤ) (room : List ℕ) (st : Held site stored rs (noVars site)) (fits : m .at + 40 * count site ≤ length room)
+    (i : ℕ) (now-stored now-room : List ℕ) (g : Giving site m stored rs (noVars site) room i now-stored (noVars site) now-room) where
+  pub one-unled : i < count site → mag (getD rs i (pos 0)) < 2 ^ 31
+      → (o : Outcome) → o ≡ stepOf (holding (unitOf site i) (getD now-stored i 0)) (site .head .seconds) (back (getD rs i (pos 0)))
+      → (then-room : List ℕ) → then-room ≡ laid now-room (m .at + 40 * i) (recordOf (m .step) i (back (getD rs i (pos 0))) o)
+      → Giving site m stored rs (noVars site) room (i + 1) (set now-stored i (o .stored)) (noVars site) then-room
+  one-unled h hr o eo then-room em =
+      let vs = noVars site in
+      let r = back (getD rs i (pos 0)) in
+      let v = back (getD vs i (pos 0)) in
+      let none : getD vs i (pos 0) ≡ pos 0 = getD-replicate (count site) i (pos 0) (pos 0) h in
+      let stay : set vs i (pos 0) ≡ vs = ap (set vs i) (sym none) ∙ set-getD vs i (pos 0) in
+      subst (λ (t : List ℤ). Giving site m stored rs vs room (i + 1) (set now-stored i (o .stored)) t then-room) stay
+      (one-more site m stored rs vs room st fits i now-stored vs now-room g h hr
+      o (eo ∙ sym (unled-given site (m .lead) n i (getD now-stored i 0) r v))
+      (pos 0) (lit< tt) (sym (unled-kept site (m .lead) n i (getD now-stored i 0) r v ∙ ap back none)) then-room em)
+
+  pub all-unled : i ≡ count site → ((vs : List ℤ) → now-stored ≡ storedAfter site (m .lead) stored rs vs)
+      × ((vs : List ℤ) → now-room ≡ laid room (m .at) (recordsOf (count site) site (m .lead) (m .step) stored rs vs))
+  all-unled e =
+      let (es, (ev, er)) = all-given site m stored rs (noVars site) room st fits i now-stored (noVars site) now-room g e in (
+        λ vs. es ∙ stored-same site (m .lead) n stored rs (noVars site) vs,
+        λ vs. er ∙ ap (laid room (m .at)) (records-same site (m .lead) n stored rs (noVars site) vs (m .step) (count site)),
+      )
 
 -- ---- what stands after a step is still a store, a request and vars for each unit, none above rated, none beyond their bounds
 module _ (site : Site) (l : Lead) (stored : List ℕ) (rs vs rs′ : List ℤ) (h : Sited site) (y : Modest l) (st : Held site stored rs vs) (e : length rs′ ≡ length rs) where

@@ -1,5 +1,6 @@
 -- Nobody has to believe this file: the parts of contracts by name, and what a step may count on.
 use Prim.Native.Nat.{ℕ, _≤_, _<_}
+use mathlib.Core.Bool.{false}
 use mathlib.Core.List.{List}
 use mathlib.Core.Path.{_≡_}
 use lib.IntN.{ℤ, pos, natAbs}
@@ -7,6 +8,7 @@ use lib.ListN.{length, getD}
 use Rattle.rows.specs.Rows.{unitsBy}
 use Rattle.members.specs.Posts.{TotalsOf}
 use Rattle.storage.specs.Posts.{Rested}
+use Rattle.lead.specs.declared.Lead.{Lead}
 use Rattle.site.specs.declared.Head.{Head}
 use Rattle.site.specs.Site.{Site, count, unitOf}
 use Rattle.site.specs.Ranges.{Sited}
@@ -36,3 +38,9 @@ pub record Held (site : Site) (stored : List ℕ) (requests vars : List ℤ) : T
   pub leads : length vars ≡ count site
   pub within : Stored site stored
   pub small : (i : ℕ) → i < count site → natAbs (getD vars i (pos 0)) ≤ 100000000
+
+-- nothing leads: no function, no base after the watts, no voltage of this step
+pub record Unled (l : Lead) : Type 0 where
+  pub no-function : l .leads ≡ false
+  pub no-base : l .after ≡ false
+  pub no-voltage : l .fresh ≡ false
