@@ -8,7 +8,6 @@ use lead::Lead;
 use members::Totals;
 use reading::Reading;
 use site::Head;
-pub use steps::ask;
 pub use steps::step;
 pub use units::framed;
 pub use units::give;

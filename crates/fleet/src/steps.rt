@@ -62,7 +62,7 @@ fn ask_by_current(f: Frame, rows: &[[u64; 24]], r: Reading, stored: &[u64], requ
 }
 
 // The requests after a reading, by the mode.
-pub fn ask(f: Frame, rows: &[[u64; 24]], r: Reading, stored: &[u64], requests: &mut [i32])
+fn ask(f: Frame, rows: &[[u64; 24]], r: Reading, stored: &[u64], requests: &mut [i32])
     requires { ⌜ Ready f (now rows) ⌝ }
     requires { ⌜ length (now stored) ≡ count (siteIn f (now rows)) ⌝ }
     requires { ⌜ length (now requests) ≡ count (siteIn f (now rows)) ⌝ }

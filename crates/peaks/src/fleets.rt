@@ -2,15 +2,17 @@ ghost use mathlib.Core.Path.{_≡_};
 ghost use Prim.Native.Nat.{_+_, _≤_, _<_};
 ghost use lib.IntN.{pos, _+ℤ_};
 ghost use lib.ListN.{length};
+ghost use Rattle.reading.specs.Choice.{meterOf};
 ghost use Rattle.site.specs.Site.{count};
 ghost use Rattle.lead.specs.Lead.{Modest};
-ghost use Rattle.fleet.specs.Step.{standing, storedAfter, varsAfter, after};
-ghost use Rattle.fleet.specs.Posts.{Ready, Held, siteIn};
+ghost use Rattle.fleet.specs.Step.{standing, askedBy, storedAfter, varsAfter, after};
+ghost use Rattle.fleet.specs.Posts.{Ready, Stored, Held, siteIn};
 ghost use Rattle.tally.specs.Posts.{Within};
 ghost use Rattle.peaks.specs.Figures.{notMet, sumsOf, sumsBy};
-ghost use Rattle.peaks.specs.Posts.{withUnit};
+ghost use Rattle.peaks.specs.Posts.{withUnit, ofKind};
 use fleet::Frame;
 use lead::Lead;
+use reading::Meter;
 use reading::Reading;
 use storage::Outcome;
 use tally::Sums;
@@ -82,11 +84,45 @@ fn give_all(
     sums
 }
 
+// Whether a reading is of the kind that the mode goes by.
+fn fits(r: Reading, mode: u8) -> bool
+    ensures { λ k. ⌜ k ≡ ofKind r mode ⌝ }
+{
+    match r {
+        Reading::Missing => false,
+        Reading::Power(_) => mode < 4,
+        Reading::Current(_) => 4 <= mode,
+    }
+}
+
+// The requests after a reading, by what the meter shows of it: one pass on that measure, none where
+// it is silent or the reading is of the other kind.
+fn ask(f: Frame, rows: &[[u64; 24]], r: Reading, m: Meter, stored: &[u64], requests: &mut [i32])
+    requires { ⌜ Ready f (now rows) ⌝ }
+    requires { ⌜ length (now stored) ≡ count (siteIn f (now rows)) ⌝ }
+    requires { ⌜ length (now requests) ≡ count (siteIn f (now rows)) ⌝ }
+    requires { ⌜ Stored (siteIn f (now rows)) (now stored) ⌝ }
+    requires { ⌜ m ≡ meterOf r (f .head .phase) ⌝ }
+    ensures { λ _. ⌜ now (requests .exit) ≡ askedBy (siteIn f (now (rows .entry))) (now (stored .entry)) (now (requests .entry)) r ⌝ }
+{
+    let Meter::Shows(z) = m else {
+        return;
+    };
+    let head = f.head;
+    let s = head.settings;
+    if !fits(r, s.mode) {
+        return;
+    }
+    let t = f.totals;
+    controller::pass_within(s, z, t, rows, stored, requests);
+}
+
 // One step of a fleet: the pass on its reading, none if that is missing, then one step of every unit.
 pub fn step(
     f: Frame,
     rows: &[[u64; 24]],
     r: Reading,
+    m: Meter,
     l: Lead,
     stored: &mut [u64],
     requests: &mut [i32],
@@ -95,12 +131,13 @@ pub fn step(
     requires { ⌜ Ready f (now rows) ⌝ }
     requires { ⌜ Held (siteIn f (now rows)) (now stored) (now requests) (now vars) ⌝ }
     requires { ⌜ Modest l ⌝ }
+    requires { ⌜ m ≡ meterOf r (f .head .phase) ⌝ }
     ensures { λ _. ⌜ standing (now (stored .exit)) (now (requests .exit)) (now (vars .exit)) ≡
         after (siteIn f (now (rows .entry))) l (standing (now (stored .entry)) (now (requests .entry)) (now (vars .entry))) r ⌝ }
     ensures { λ s. ⌜ s ≡ sumsBy (siteIn f (now (rows .entry))) l (standing (now (stored .entry)) (now (requests .entry)) (now (vars .entry))) r ⌝ }
     ensures { λ s. ⌜ Within 64 s ⌝ }
     ensures { λ _. ⌜ Held (siteIn f (now (rows .entry))) (now (stored .exit)) (now (requests .exit)) (now (vars .exit)) ⌝ }
 {
-    fleet::ask(f, rows, r, stored, requests);
+    ask(f, rows, r, m, stored, requests);
     give_all(f, rows, l, requests, stored, vars)
 }

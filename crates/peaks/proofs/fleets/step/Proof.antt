@@ -7,7 +7,7 @@ use Rattle.peaks.proofs.fleets.step.Statement.{statement}
 use Rattle.peaks.proofs.fleets.step.Tie as tie
 
 ask-requires : tie.Need-ask-requires
-ask-requires c κs = search needs
+ask-requires c κs = let (rd, (st, (y, em))) = c .before .before .before .pre in (rd, (st .stores, (st .asks, (st .within, em))))
 
 -- the pass, and where the function starts
 abbrev asked : tie.After-give-all-arg3 → tie.After-ask
@@ -21,8 +21,8 @@ give-all-requires c κs =
     let k = asked c in
     let s = start k in
     let a = s .args in
-    let (rd, (st, y)) = s .pre in
-    (rd, (asked-held (siteIn (a .f) (a .rows .now)) (momentOf (a .l) (a .r)) (a .stored .now) (a .requests .now) (a .vars .now) (k .ask .last .1 .1 .1 .1 .0) (k .ask .ensures) st, y))
+    let (rd, (st, (y, em))) = s .pre in
+    (rd, (asked-held (siteIn (a .f) (a .rows .now)) (momentOf (a .l) (a .r)) (a .stored .now) (a .requests .now) (a .vars .now) (k .ask .last .1 .1 .1 .1 .1 .0) (k .ask .ensures) st, y))
 
 same-length : tie.Need-same-length
 same-length c = search needs
@@ -39,10 +39,10 @@ returns c =
     let k = asked (g .before) in
     let s = start k in
     let a = s .args in
-    let (rd, (st, y)) = s .pre in
+    let (rd, (st, (y, em))) = s .pre in
     let site = siteIn (a .f) (a .rows .now) in
     let m = momentOf (a .l) (a .r) in
-    let rs = k .ask .last .1 .1 .1 .1 .0 in
+    let rs = k .ask .last .1 .1 .1 .1 .1 .0 in
     let left = g .give-all .last .1 .1 .1 .1 in
     let (es, (ev, (eu, w))) = g .give-all .ensures in (
       step-standing site m (a .stored .now) (a .requests .now) (a .vars .now) rs (k .ask .ensures) (left .0) es (left .1 .0) ev,
