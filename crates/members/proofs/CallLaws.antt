@@ -1,4 +1,4 @@
--- Rules 3 and 5 over the units: one unit that fails decides; by watts all have one need and one band, so that one test stands for all.
+-- Rules 3 and 5 over the units: one unit that fails decides; a plain need that does not call decides for all; by watts all have one need and one band, so that one test stands for all.
 -- Assumes nothing.
 use mathlib.Core.Path.{_≡_, refl, sym, ap, ap₂, _∙_}
 use mathlib.Core.Bool.{Bool, true, false, cond, _&&_}
@@ -12,6 +12,7 @@ use Rattle.whole.proofs.OverLaws.{all-at}
 use Rattle.rules.specs.declared.Wanted.{Wanted}
 use Rattle.rules.specs.Rules.{inWatts, bandInWatts, noCall, inBand}
 use Rattle.rules.specs.Posts.{needBy}
+use Rattle.rules.proofs.RuleLaws.{watts-no-call, plain-own}
 use Rattle.members.specs.Ranges.{Fleet}
 use Rattle.members.specs.Posts.{ownBy, noneCallsBy, allInBandBy}
 
@@ -32,6 +33,15 @@ unfolding allOf
 all-alike zero b h = absurd (omega arith)
 all-alike (suc zero) b h = refl
 all-alike (suc (suc n)) b h = ap (λ (x : Bool). x && b) (all-alike (suc n) b (omega arith)) ∙ and-self b
+
+-- a plain need that does not call, to which nothing is added
+pub plain-rests : (charging : Bool) (w : Wanted) (f : Fleet) (n : ℕ) → w .current ≡ true → w .other ≡ false → noCall charging (w .plain) ≡ true → 1 ≤ n
+    → true ≡ noneCallsBy charging w f n
+unfolding noneCallsBy ownBy
+plain-rests charging w f n current other e some = sym (ap (allOf n) (λ j i. each i j) ∙ all-alike n true some)
+  where
+    each : (i : ℕ) → noCall charging (ownBy w f i) ≡ true
+    each i = let link = getD (f .link) i 0 in ap (noCall charging) (plain-own w link current other) ∙ watts-no-call charging link (w .plain) e
 
 -- a need and a band that are in watts already
 pub watts-need : (current : Bool) → current ≡ false → (link : ℕ) (z : ℤ) → inWatts current link z ≡ z

@@ -20,13 +20,17 @@ fn no_unit_calls(charging: bool, w: Wanted, units: &[[u64; 24]], stored: &[u64])
     true
 }
 
-// P3: no unit's own need calls. By watts all have one need.
+// P3: no unit's own need calls. By watts all have one need; by current none calls where the plain need
+// does not and F is not added.
 pub fn none_calls(charging: bool, w: Wanted, units: &[[u64; 24]], stored: &[u64]) -> bool
     requires { ⌜ 1 ≤ length (now units) ⌝ }
     requires { ⌜ Linked w (fleetBy (now units) (now stored)) ⌝ }
     ensures { λ r. ⌜ r ≡ noneCallsBy charging w (fleetBy (now (units .entry)) (now (stored .entry))) (length (now (units .entry))) ⌝ }
 {
     if w.current {
+        if !w.other & rules::no_call(charging, w.plain) {
+            return true;
+        }
         return no_unit_calls(charging, w, units, stored);
     }
     rules::no_call(charging, rules::own_need(w, 0))

@@ -4,7 +4,7 @@ use mathlib.Core.Bool.{Bool, true, false, not, cond, _&&_, Bool·beq}
 use Prim.Native.Nat.{ℕ, zero, suc, _+_, _*_, _/_, _^_, _≤_, _<_, min}
 use native.Mathlib.Nat.{zero-mul, zero-div, div-le-self, lt-of-le-of-lt, le-trans, add-le-add, mul-le-mul, min-eq-left, min-eq-right, le-of-lt, le-of-eq}
 use native.Mathlib.Omega.{arith}
-use lib.Dec.{leb, eqb, lit<, lit≤, leb·suc-zero}
+use lib.Dec.{leb, eqb, lit<, lit≤, leb·zero, leb·suc-zero}
 use lib.IntN.{ℤ, pos, negsuc, negℤ, natAbs, _+ℤ_, _-ℤ_, _*ℤ_}
 use lib.Signed.{mag, ltZ, leZ}
 use borrow.Author.Tests.{eq-eqb, ne-eqb, lt-ltb, not-true, not-false}
@@ -19,7 +19,7 @@ use Rattle.whole.proofs.SignLaws.{read, size-neg, size-sum, size-product, size-
 use Rattle.rules.specs.declared.Settings.{Settings}
 use Rattle.rules.specs.declared.Asked.{Asked}
 use Rattle.rules.specs.declared.Wanted.{Wanted}
-use Rattle.rules.specs.Rules.{byCurrent, plainNeed, inWatts, bandInWatts, unable, shareOf, limited, withMode, unitAfter}
+use Rattle.rules.specs.Rules.{byCurrent, plainNeed, inWatts, bandInWatts, noCall, unable, shareOf, limited, withMode, unitAfter}
 use Rattle.rules.specs.Posts.{wantedBy, needBy, reportedBy, Modest}
 
 abbrev pub back32 : ℤ → ℤ
@@ -220,6 +220,24 @@ cut-neg : (k b : ℕ) → cut (negℤ (pos k)) b ≡ negℤ (pos (k / b))
 unfolding cut
 cut-neg zero b = ap pos (zero-div b) ∙ sym (ap (λ (n : ℕ). negℤ (pos n)) (zero-div b))
 cut-neg (suc k) b = refl
+
+-- a need that does not call does not call at a unit either: what it is there has its sign, or is 0
+pub watts-no-call : (charging : Bool) (link : ℕ) (z : ℤ) → noCall charging z ≡ true → noCall charging (inWatts true link z) ≡ true
+unfolding inWatts cut
+watts-no-call true link (pos a) e = leb·zero (a * link / 1000)
+watts-no-call true link (negsuc a) e = absurd (passed-failed e refl)
+watts-no-call false link (pos zero) e = ap (λ (n : ℕ). leb (n / 1000) 0) (zero-mul link)
+watts-no-call false link (pos (suc a)) e = absurd (passed-failed e (leb·suc-zero a))
+watts-no-call false link (negsuc a) e = ap (λ (z : ℤ). leZ z (pos 0)) (cut-neg (suc a * link) 1000) ∙ by-size (suc a * link / 1000)
+  where
+    by-size : (k : ℕ) → leZ (negℤ (pos k)) (pos 0) ≡ true
+    by-size zero = refl
+    by-size (suc k) = refl
+
+-- by current, where the fleet is not in the other state, a unit's own need is the plain need's watts
+pub plain-own : (w : Wanted) (link : ℕ) → w .current ≡ true → w .other ≡ false → needBy w link ≡ inWatts true link (w .plain)
+unfolding needBy
+plain-own w link current other = cc
 
 cut-by : (z : ℤ) (n m b : ℕ) → cut (z *ℤ pos n *ℤ pos m) b ≡ signed (negative z) (natAbs z * n * m / b)
 unfolding cut
