@@ -1,19 +1,20 @@
 -- Nobody has to believe this file: the parts of contracts by name, what a fleet's requests say, and what sums and shares may count on.
 use Prim.Native.Nat.{ℕ, _≤_}
-use mathlib.Core.Bool.{Bool, cond, _||_}
+use mathlib.Core.Bool.{Bool, true, cond, _||_}
 use mathlib.Core.List.{List, map}
 use mathlib.Core.Path.{_≡_}
 use lib.IntN.{ℤ, pos, natAbs, _+ℤ_}
 use lib.ListN.{length, getD}
 use lib.Signed.{ltZ}
 use Rattle.whole.specs.Over.{sumOf, allOf}
+use Rattle.whole.specs.Signed.{signed}
 use Rattle.unit.specs.declared.Unit.{Unit}
 use Rattle.rows.specs.Rows.{unitBy, unitsBy}
 use Rattle.rules.specs.declared.Asked.{Asked}
 use Rattle.rules.specs.declared.Wanted.{Wanted}
 use Rattle.members.specs.declared.Totals.{Totals}
 use Rattle.members.specs.Ranges.{Fleet, fleetFor, someAbove, someBelow}
-use Rattle.rules.specs.Rules.{unable, unitAfter, noCall, inBand, bandInWatts}
+use Rattle.rules.specs.Rules.{inWatts, unable, unitAfter, noCall, inBand, bandInWatts}
 use Rattle.rules.specs.Posts.{needBy, Modest}
 use Rattle.members.specs.Sums.{total, sumOfAll, unableAt}
 
@@ -82,6 +83,11 @@ unfolding unable unitAfter
 nextBy charging factor need weights u held r =
     cond (unable charging (u .rated) (u .reserve) held) (pos 0) (unitAfter charging factor need weights (u .rating) (u .weight) r)
 
+-- by current, with the sign and the size of the plain need
+unfoldable pub sizedBy : Bool → Bool → ℕ → ℕ → ℕ → Unit → ℕ → ℤ → ℤ
+unfolding inWatts nextBy
+sizedBy charging below factor size weights u held r = nextBy charging factor (inWatts true (u .link) (signed below size)) weights u held r
+
 -- at unit i of a fleet, by its own need
 unfoldable pub ownBy : Wanted → Fleet → ℕ → ℤ
 unfolding needBy
@@ -123,3 +129,10 @@ pub record Sharable (factor : ℕ) (need : ℤ) (weights : ℕ) (u : Unit) : Typ
   pub weights-small : weights ≤ 640000
   pub rating-small : u .rating ≤ 100000000
   pub weight-small : u .weight ≤ 10000
+
+-- and by current, with the size of the plain need and some weight in all
+pub record SharableBySize (factor size weights : ℕ) (u : Unit) : Type 0 where
+  pub size-small : size ≤ 400000000
+  pub link-small : u .link ≤ 120000
+  pub weights-some : 1 ≤ weights
+  pub unit : Sharable factor (pos size) weights u

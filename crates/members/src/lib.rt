@@ -4,6 +4,7 @@ mod calls;
 mod filling;
 mod ranges;
 mod shares;
+mod sized;
 mod sums;
 
 pub use calls::all_in_band;

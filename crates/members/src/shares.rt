@@ -1,5 +1,5 @@
 ghost use mathlib.Core.Path.{_≡_};
-ghost use mathlib.Core.Bool.{false};
+ghost use mathlib.Core.Bool.{true, false};
 ghost use Prim.Native.Nat.{ℕ};
 ghost use lib.IntN.{ℤ, pos};
 ghost use lib.ListN.{length};
@@ -10,6 +10,7 @@ ghost use Prim.Native.Nat.{_<_};
 ghost use lib.ListN.{getD};
 ghost use Rattle.rows.specs.Rows.{unitBy};
 ghost use Rattle.members.specs.Posts.{Sharing, Sharable, fleetBy, nextBy, sharedBy};
+use super::sized;
 use rules::Wanted;
 
 // P4: every request becomes 0. Whether one changed.
@@ -110,6 +111,30 @@ fn share_alike(
     changed
 }
 
+// P6 by current: from the size of the plain need, where F is not added and there is some weight.
+fn share_current(
+    charging: bool,
+    factor: u16,
+    w: Wanted,
+    weights: u64,
+    units: &[[u64; 24]],
+    stored: &[u64],
+    requests: &mut [i32],
+) -> bool
+    requires { ⌜ w .current ≡ true ⌝ }
+    requires { ⌜ Sharing factor w weights (fleetBy (now units) (now stored)) (length (now requests)) ⌝ }
+    ensures { λ _. ⌜ now (requests .exit) ≡ each (sharedBy charging factor w weights (fleetBy (now (units .entry)) (now (stored .entry)))) (now (requests .entry)) ⌝ }
+    ensures { λ r. ⌜ r ≡ changedOf (now (requests .entry)) (now (requests .exit)) ⌝ }
+{
+    if !w.other & (0 < weights) {
+        if charging {
+            return sized::share_sized(true, factor, w, weights, units, stored, requests);
+        }
+        return sized::share_sized(false, factor, w, weights, units, stored, requests);
+    }
+    share_linked(charging, factor, w, weights, units, stored, requests)
+}
+
 // P6: each unit's request, by its own need. Whether one changed.
 pub fn share_all(
     charging: bool,
@@ -125,7 +150,7 @@ pub fn share_all(
     ensures { λ r. ⌜ r ≡ changedOf (now (requests .entry)) (now (requests .exit)) ⌝ }
 {
     if w.current {
-        return share_linked(charging, factor, w, weights, units, stored, requests);
+        return share_current(charging, factor, w, weights, units, stored, requests);
     }
     share_alike(charging, factor, w, weights, units, stored, requests)
 }

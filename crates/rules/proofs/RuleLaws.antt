@@ -15,7 +15,7 @@ use Rattle.whole.proofs.Choice.{passed-failed}
 use Rattle.whole.specs.Signed.{negative, signed}
 use Rattle.whole.specs.Quotient.{cut}
 use Rattle.whole.proofs.QuotientLaws.{cut-size, cut-none, floor-upto}
-use Rattle.whole.proofs.SignLaws.{read, size-neg, size-sum, size-product, size-fits, signed-fits, wide-is, wide-size, plus-fits, plus-is, minus-fits, minus-is, times-fits, times-is}
+use Rattle.whole.proofs.SignLaws.{sign-size, read, size-neg, size-sum, size-product, size-fits, signed-fits, wide-is, wide-size, plus-fits, plus-is, minus-fits, minus-is, times-fits, times-is}
 use Rattle.rules.specs.declared.Settings.{Settings}
 use Rattle.rules.specs.declared.Asked.{Asked}
 use Rattle.rules.specs.declared.Wanted.{Wanted}
@@ -123,11 +123,14 @@ cut-sized (pos a) b = refl
 cut-sized (negsuc a) b = size-neg (pos (suc a / b))
 
 -- a meter's need is at most 4.8 × 10^10 W at a unit
+pub watts-most : (size link : ℕ) → size ≤ 400000000 → link ≤ 120000 → size * link / 1000 ≤ 48000000000
+watts-most size link hs hl = floor-upto (size * link) 1000 48000000000 (lit< tt) .1 (le-trans (mul-le-mul hs hl) (lit≤ tt))
+
 pub linked-size : (link : ℕ) (need : ℤ) → link ≤ 120000 → natAbs need ≤ 400000000 → natAbs (inWatts true link need) ≤ 48000000000
 unfolding inWatts
 linked-size link need hl hn =
     le-trans (le-of-eq (cut-sized (need *ℤ pos link) 1000 ∙ ap (λ (n : ℕ). n / 1000) (size-product need (pos link))))
-    (floor-upto (natAbs need * link) 1000 48000000000 (lit< tt) .1 (le-trans (mul-le-mul hn hl) (lit≤ tt)))
+    (watts-most (natAbs need) link hn hl)
 
 -- what a measure, a target and requests in their ranges give
 pub modest : (s : Settings) (m : ℤ) (a : Asked) → natAbs m ≤ 200000000000 → natAbs (s .target) ≤ 100000000
@@ -211,7 +214,7 @@ module _ (charging : Bool) (need : ℤ) (h : mag need < 2 ^ 63) where
 
 -- ---- rule 6: the share
 
--- the sign of a product is the first factor's, where the other two are not below 0; where it is 0 the quotient has none
+-- the sign of a product is the first factor's, where the other is not below 0; where it is 0 the quotient has none
 neg-times : (k m : ℕ) → negℤ (pos k) *ℤ pos m ≡ negℤ (pos (k * m))
 neg-times zero m = ap pos (zero-mul m) ∙ sym (ap (λ (n : ℕ). negℤ (pos n)) (zero-mul m))
 neg-times (suc k) m = refl
@@ -239,20 +242,49 @@ pub plain-own : (w : Wanted) (link : ℕ) → w .current ≡ true → w .other �
 unfolding needBy
 plain-own w link current other = cc
 
-cut-by : (z : ℤ) (n m b : ℕ) → cut (z *ℤ pos n *ℤ pos m) b ≡ signed (negative z) (natAbs z * n * m / b)
+-- a sign goes through a product and a quotient
+signed-times : (below : Bool) (k n : ℕ) → signed below k *ℤ pos n ≡ signed below (k * n)
+signed-times false k n = refl
+signed-times true k n = neg-times k n
+
+cut-signed : (below : Bool) (k b : ℕ) → cut (signed below k) b ≡ signed below (k / b)
 unfolding cut
-cut-by (pos a) n m b = refl
-cut-by (negsuc a) n m b = ap (λ (z : ℤ). cut z b) (neg-times (suc a * n) m) ∙ cut-neg (suc a * n * m) b
+cut-signed false k b = refl
+cut-signed true k b = cut-neg k b
+
+-- so the watts of a need, and the share of one, come from its size
+pub sized-watts : (below : Bool) (size link : ℕ) → inWatts true link (signed below size) ≡ signed below (size * link / 1000)
+unfolding inWatts
+sized-watts below size link = ap (λ (z : ℤ). cut z 1000) (signed-times below size link) ∙ cut-signed below (size * link) 1000
+
+pub sized-share : (below : Bool) (factor size weight weights : ℕ) → shareOf factor (signed below size) weight weights ≡ signed below (size * weight * factor / (weights * 1000))
+unfolding shareOf
+sized-share below factor size weight weights =
+    ap (λ (z : ℤ). cut (z *ℤ pos factor) (weights * 1000)) (signed-times below size weight)
+    ∙ ap (λ (z : ℤ). cut z (weights * 1000)) (signed-times below (size * weight) factor)
+    ∙ cut-signed below (size * weight * factor) (weights * 1000)
+
+module _ (factor size weight weights : ℕ) (hs : size ≤ 400000000000) (hf : factor ≤ 1000) (hw : weight ≤ 10000) where
+  first-size : size * weight ≤ 400000000000 * 10000
+  first-size = mul-le-mul hs hw
+
+  pub product-size : size * weight * factor ≤ 4000000000000000 * 1000
+  product-size = mul-le-mul first-size hf
+
+  pub weighted-fits : size * weight < 2 ^ 64
+  weighted-fits = lt-of-le-of-lt first-size (lit< tt)
+
+  pub factored-fits : size * weight * factor < 2 ^ 64
+  factored-fits = lt-of-le-of-lt product-size (lit< tt)
+
+  pub share-fits : (below : Bool) (part : ℕ) → part ≡ size * weight * factor / (weights * 1000) → SFits w64 (signed below part)
+  share-fits below part e =
+      signed-fits w64 below part
+      (lt-of-le-of-lt (le-trans (le-of-eq e) (le-trans (div-le-self (size * weight * factor) (weights * 1000)) product-size)) (lit< tt))
 
 module _ (factor : ℕ) (need : ℤ) (weight weights : ℕ) (hn : natAbs need ≤ 400000000000) (hf : factor ≤ 1000) (hw : weight ≤ 10000) where
   en : back64 need ≡ need
   en = read-sized need (lt-of-le-of-lt hn (lit< tt))
-
-  first-size : natAbs need * weight ≤ 400000000000 * 10000
-  first-size = mul-le-mul hn hw
-
-  product-size : natAbs need * weight * factor ≤ 4000000000000000 * 1000
-  product-size = mul-le-mul first-size hf
 
   pub share-none : weights ≡ 0 → pos 0 ≡ shareOf factor need weight weights
   unfolding shareOf
@@ -263,32 +295,23 @@ module _ (factor : ℕ) (need : ℤ) (weight weights : ℕ) (hn : natAbs need �
     same : size ≡ natAbs need
     same = es ∙ ap natAbs en
 
-    pub weighted-fits : size * weight < 2 ^ 64
-    weighted-fits = lt-of-le-of-lt (subst⁻¹ (λ (n : ℕ). n * weight ≤ 4000000000000000) same first-size) (lit< tt)
+    pub size-upto : size ≤ 400000000000
+    size-upto = le-trans (le-of-eq same) hn
 
-    factored-size : size * weight * factor ≤ 4000000000000000000
-    factored-size = subst⁻¹ (λ (n : ℕ). n * weight * factor ≤ 4000000000000000000) same product-size
-
-    pub factored-fits : size * weight * factor < 2 ^ 64
-    factored-fits = lt-of-le-of-lt factored-size (lit< tt)
-
-    pub share-fits : (below : Bool) → SFits w64 (signed below (size * weight * factor / (weights * 1000)))
-    share-fits below = signed-fits w64 below (size * weight * factor / (weights * 1000)) (lt-of-le-of-lt (le-trans (div-le-self (size * weight * factor) (weights * 1000)) factored-size) (lit< tt))
-
-    pub share-is : (below : Bool) → below ≡ negative (back64 need) → (r : ℤ) → mag r < 2 ^ 63 → r ≡ signed below (size * weight * factor / (weights * 1000))
+    pub share-is : (below : Bool) → below ≡ negative (back64 need) → (part : ℕ) → part ≡ size * weight * factor / (weights * 1000) → (r : ℤ) → mag r < 2 ^ 63 → r ≡ signed below part
         → back64 r ≡ shareOf factor need weight weights
-    unfolding shareOf
-    share-is below eb r hr e =
-        read w64 r hr ∙ e
-        ∙ ap₂ (λ (t : Bool) (n : ℕ). signed t (n * weight * factor / (weights * 1000))) (eb ∙ ap negative en) same
-        ∙ sym (cut-by need weight factor (weights * 1000))
+    share-is below eb part ep r hr e =
+        read w64 r hr ∙ e ∙ ap (signed below) ep
+        ∙ sym (sized-share below factor size weight weights)
+        ∙ ap (λ (z : ℤ). shareOf factor z weight weights) (ap₂ signed (eb ∙ ap negative en) same ∙ sign-size need)
 
   -- a share is no larger than 10^18
   pub share-size : natAbs (shareOf factor need weight weights) ≤ 4000000000000000000
   unfolding shareOf
   share-size =
       le-trans (cut-size (need *ℤ pos weight *ℤ pos factor) (weights * 1000))
-      (le-trans (le-of-eq (size-product (need *ℤ pos weight) (pos factor) ∙ ap (λ (n : ℕ). n * factor) (size-product need (pos weight)))) product-size)
+      (le-trans (le-of-eq (size-product (need *ℤ pos weight) (pos factor) ∙ ap (λ (n : ℕ). n * factor) (size-product need (pos weight))))
+      (product-size factor (natAbs need) weight weights hn hf hw))
 
 -- ---- rule 6: what a request becomes
 

@@ -16,6 +16,7 @@ pub use rules::plain_need;
 pub use rules::reported;
 pub use rules::request_after;
 pub use rules::share;
+pub use rules::share_size;
 pub use rules::unable;
 pub use rules::wanted_by;
 

@@ -1,5 +1,5 @@
 ghost use mathlib.Core.Path.{_≡_};
-ghost use Prim.Native.Nat.{_≤_};
+ghost use Prim.Native.Nat.{_*_, _/_, _≤_};
 ghost use mathlib.Core.Bool.{cond};
 ghost use lib.IntN.{natAbs, _+ℤ_};
 ghost use Rattle.rules.specs.Rules.{charges, plainNeed, inWatts, bandInWatts, noCall, unable, inBand, shareOf, limited, withMode};
@@ -131,6 +131,18 @@ pub fn in_band(band: u64, need: i64) -> bool
     2 * whole::size64(need) <= band
 }
 
+// P6: the size of a unit's share, from the size of its own need.
+pub fn share_size(factor: u16, size: u64, weight: u16, weights: u64) -> u64
+    requires { ⌜ size ≤ 400000000000 ⌝ }
+    requires { ⌜ factor ≤ 1000 ⌝ }
+    requires { ⌜ weight ≤ 10000 ⌝ }
+    requires { ⌜ 1 ≤ weights ⌝ }
+    requires { ⌜ weights ≤ 640000 ⌝ }
+    ensures { λ r. ⌜ r ≡ size * weight * factor / (weights * 1000) ⌝ }
+{
+    size * (weight as u64) * (factor as u64) / (weights * 1000)
+}
+
 // P6: a unit's share of the need.
 pub fn share(factor: u16, need: i64, weight: u16, weights: u64) -> i64
     requires { ⌜ natAbs need ≤ 400000000000 ⌝ }
@@ -142,8 +154,8 @@ pub fn share(factor: u16, need: i64, weight: u16, weights: u64) -> i64
     if weights == 0 {
         return 0;
     }
-    let size = whole::size64(need) * (weight as u64) * (factor as u64);
-    whole::signed64(whole::below_zero64(need), size / (weights * 1000))
+    let size = share_size(factor, whole::size64(need), weight, weights);
+    whole::signed64(whole::below_zero64(need), size)
 }
 
 // P6: z limited to the rating in size, and 0 where that is against the mode.

@@ -1,6 +1,7 @@
--- Size, weight and factor are multiplied in 64 bits, which never wraps at these sizes; the quotient is cut toward zero, and its sign is that of the need.
+-- The share has the size that the need's gives, and the need's sign; a quotient that is cut toward zero has just these.
 use borrow.Author.Needs.{needs}
-use Rattle.rules.proofs.RuleLaws.{share-none, weighted-fits, factored-fits, share-fits, share-is}
+use native.Mathlib.Omega.{arith}
+use Rattle.rules.proofs.RuleLaws.{share-none, size-upto, share-fits, share-is}
 use Rattle.rules.proofs.rules.share.Statement.{statement}
 use Rattle.rules.proofs.rules.share.Tie as tie
 
@@ -10,36 +11,38 @@ returns c = let a = c .before .args in let p = c .before .pre in share-none (a .
 size64-requires : tie.Need-size64-requires
 size64-requires c κs = search needs
 
-mul-size : tie.Need-mul-size
-mul-size c = let s = c .before .before in let a = s .args in record { fits = weighted-fits (a .factor) (a .need) (a .weight) (a .weights) (s .pre .0) (s .pre .1 .0) (s .pre .1 .1 .0) (c .size64 .result) (c .size64 .ensures) }
-
-mul-size-2 : tie.Need-mul-size-2
-mul-size-2 c = let s = c .before .before in let a = s .args in record { fits = factored-fits (a .factor) (a .need) (a .weight) (a .weights) (s .pre .0) (s .pre .1 .0) (s .pre .1 .1 .0) (c .size64 .result) (c .size64 .ensures) }
+share-size-requires : tie.Need-share-size-requires
+share-size-requires c κs =
+    let i = c .before in
+    let s = i .before in
+    let a = s .args in
+    let p = s .pre in
+    (size-upto (a .factor) (a .need) (a .weight) (a .weights) (p .0) (p .1 .0) (p .1 .1 .0) (c .size64 .result) (c .size64 .ensures), (p .1 .0, (p .1 .1 .0, (omega (arith, i .if1 .left), p .1 .1 .1))))
 
 below-zero64-requires : tie.Need-below-zero64-requires
 below-zero64-requires c κs = search needs
 
-mul-signed64 : tie.Need-mul-signed64
-mul-signed64 c = search needs
-
-div-signed64 : tie.Need-div-signed64
-div-signed64 c = search needs
-
 signed64-requires : tie.Need-signed64-requires
 signed64-requires c κs =
     let z = c .before in
-    let s = z .before .before in
+    let y = z .before in
+    let s = y .before .before in
     let a = s .args in
-    share-fits (a .factor) (a .need) (a .weight) (a .weights) (s .pre .0) (s .pre .1 .0) (s .pre .1 .1 .0) (z .size64 .result) (z .size64 .ensures) (c .below-zero64 .result)
+    let p = s .pre in
+    share-fits (a .factor) (y .size64 .result) (a .weight) (a .weights)
+    (size-upto (a .factor) (a .need) (a .weight) (a .weights) (p .0) (p .1 .0) (p .1 .1 .0) (y .size64 .result) (y .size64 .ensures)) (p .1 .0) (p .1 .1 .0)
+    (c .below-zero64 .result) (z .share-size .result) (z .share-size .ensures)
 
 returns-2 : tie.Need-returns-2
 returns-2 c =
     let b = c .before in
     let z = b .before in
-    let s = z .before .before in
+    let y = z .before in
+    let s = y .before .before in
     let a = s .args in
-    share-is (a .factor) (a .need) (a .weight) (a .weights) (s .pre .0) (s .pre .1 .0) (s .pre .1 .1 .0) (z .size64 .result) (z .size64 .ensures) (b .below-zero64 .result) (b .below-zero64 .ensures)
-    (c .signed64 .result) (c .signed64 .ok) (c .signed64 .ensures)
+    let p = s .pre in
+    share-is (a .factor) (a .need) (a .weight) (a .weights) (p .0) (p .1 .0) (p .1 .1 .0) (y .size64 .result) (y .size64 .ensures) (b .below-zero64 .result) (b .below-zero64 .ensures)
+    (z .share-size .result) (z .share-size .ensures) (c .signed64 .result) (c .signed64 .ok) (c .signed64 .ensures)
 
 pub share-spec : {M : Type 1} → statement M
 share-spec =
@@ -47,10 +50,7 @@ share-spec =
     (tie.spec
     returns
     size64-requires
-    mul-size
-    mul-size-2
+    share-size-requires
     below-zero64-requires
-    mul-signed64
-    div-signed64
     signed64-requires
     returns-2)
