@@ -1,5 +1,5 @@
 -- A pass as the code goes through it: each way out leaves what the definition says. Assumes nothing.
-use mathlib.Core.Path.{_≡_, refl, sym, ap, _∙_, subst⁻¹, subst₂}
+use mathlib.Core.Path.{_≡_, refl, sym, ap, ap₂, _∙_, subst, subst⁻¹, subst₂}
 use mathlib.Core.Bool.{Bool, true, false, not, cond, _&&_}
 use mathlib.Core.List.{List}
 use Prim.Native.Nat.{ℕ, _*_, _^_, _≤_, _<_}
@@ -10,7 +10,7 @@ use lib.IntN.{ℤ, pos, _+ℤ_}
 use lib.ListN.{length, getD}
 use lib.Signed.{mag}
 use mir.Syntax.{w64}
-use Rattle.whole.specs.Over.{each}
+use Rattle.whole.specs.Over.{allOf, each}
 use Rattle.whole.proofs.OverLaws.{sum-upto, none-of}
 use Rattle.whole.proofs.SignLaws.{read}
 use Rattle.unit.specs.declared.Unit.{Unit}
@@ -20,13 +20,13 @@ use Rattle.rules.specs.declared.Asked.{Asked}
 use Rattle.rules.specs.declared.Wanted.{Wanted}
 use Rattle.controller.specs.declared.Passed.{Passed}
 use Rattle.members.specs.declared.Totals.{Totals}
-use Rattle.members.specs.Ranges.{Fleet, someAbove, someBelow}
-use Rattle.rules.specs.Rules.{charges, byCurrent, plainNeed, unable}
-use Rattle.members.specs.Sums.{total, sumOfAll, differ, changedOf}
+use Rattle.members.specs.Ranges.{Fleet}
+use Rattle.rules.specs.Rules.{charges, byCurrent, plainNeed, inWatts, bandInWatts, noCall, unable, inBand, unitAfter}
+use Rattle.members.specs.Sums.{total, sumOfAll, unableAt, differ, changedOf}
 use Rattle.controller.specs.Pass.{otherState, withSum, ownNeed, ownBand, needOf, rests, spent, allInBand, requestAfter, passBy, passOf}
 use Rattle.rules.specs.Posts.{wantedBy, needBy, reportedBy, Modest}
-use Rattle.members.specs.Posts.{AskedOf, SameLengths, TotalsOf, Linked, Sharing, fleetBy, columnBy, spentBy, ownBy, sharedBy, noneCallsBy, allInBandBy}
-use Rattle.controller.specs.Posts.{Sound, DonePass, restsBy}
+use Rattle.members.specs.Posts.{SameLengths, TotalsOf, Linked, Sharing, fleetBy, columnBy, spentBy, ownBy, sharedBy, noneCallsBy, allInBandBy}
+use Rattle.controller.specs.Posts.{AskedFor, Sound, DonePass, restsBy}
 use Rattle.members.proofs.DifferLaws.{same-same}
 use Rattle.rules.proofs.RuleLaws.{back64, read-sized, modest}
 
@@ -60,34 +60,42 @@ pub no-change : (rs : List ℤ) → changedOf rs rs ≡ false
 unfolding changedOf
 no-change rs = none-of (length rs) (λ (i : ℕ). differ (getD rs i (pos 0)) (getD rs i (pos 0))) (λ i h. same-same (getD rs i (pos 0)))
 
--- ---- what the code works out first: where each unit's need comes from, the direction, and the need that is reported
-abbrev askedBy : List ℤ → Asked
-askedBy rs = record { sum = sumOfAll rs; above = someAbove rs; below = someBelow rs }
-
-asked-is : (rs : List ℤ) (a : Asked) → AskedOf rs a → a ≡ askedBy rs
-asked-is rs a e = λ j. record { sum = e .sum j; above = e .above j; below = e .below j }
-
+-- ---- what the code works out first: each unit's own need, the direction, and the need that is reported
 pub record Worked (s : Settings) (m : ℤ) (f : Fleet) (rs : List ℤ) (w : Wanted) (charging : Bool) (need : ℤ) : Type 0 where
-  pub wanted : w ≡ wantedBy s m (askedBy rs)
+  pub own : ownBy w f ≡ ownNeed s m f rs
+  pub current : w .current ≡ byCurrent (s .mode)
   pub mode : charging ≡ charges (s .mode)
   pub reported : back64 need ≡ needOf s m rs
 
--- they are the definition's
-own-is : (s : Settings) (m : ℤ) (f : Fleet) (rs : List ℤ) (i : ℕ) → ownBy (wantedBy s m (askedBy rs)) f i ≡ ownNeed s m f rs i
-unfolding ownBy needBy wantedBy ownNeed withSum
-own-is s m f rs i = refl
+-- the requests' signs say the state, and F is as it must be where it is looked at
+module _ (s : Settings) (m : ℤ) (rs : List ℤ) (a : Asked) (ea : AskedFor (charges (s .mode)) rs a) where
+  state-is : cond (charges (s .mode)) (a .above) (a .below) ≡ otherState (charges (s .mode)) rs
+  state-is = ap₂ (cond (charges (s .mode))) (ea .above) (ea .below)
 
-reported-is : (s : Settings) (m : ℤ) (rs : List ℤ) → reportedBy (wantedBy s m (askedBy rs)) ≡ needOf s m rs
-unfolding reportedBy wantedBy needOf withSum
-reported-is s m rs = go (byCurrent (s .mode)) (otherState (charges (s .mode)) rs) (plainNeed s m +ℤ sumOfAll rs) (plainNeed s m)
-  where
-    go : (c o : Bool) (x y : ℤ) → cond (o && not c) x y ≡ cond c y (cond o x y)
-    go true true x y = refl
-    go true false x y = refl
-    go false true x y = refl
-    go false false x y = refl
+  own-is : (f : Fleet) (i : ℕ) → ownBy (wantedBy s m a) f i ≡ ownNeed s m f rs i
+  unfolding ownBy needBy wantedBy ownNeed withSum
+  own-is f i =
+      let watts = inWatts (byCurrent (s .mode)) (getD (f .link) i 0) (plainNeed s m) in
+      ap (λ (o : Bool). cond o (watts +ℤ a .sum) watts) state-is ∙ go (otherState (charges (s .mode)) rs) watts (ea .sum)
+    where
+      go : (o : Bool) (x : ℤ) → (o ≡ true → a .sum ≡ sumOfAll rs) → cond o (x +ℤ a .sum) x ≡ cond o (x +ℤ sumOfAll rs) x
+      go true x h = ap (λ (z : ℤ). x +ℤ z) (h refl)
+      go false x h = refl
 
-module _ (s : Settings) (m : ℤ) (f : Fleet) (rs : List ℤ) (sound : Sound s m f (length rs)) (a : Asked) (ea : AskedOf rs a) (w : Wanted) (ew : w ≡ wantedBy s (back64 m) a) where
+  reported-is : reportedBy (wantedBy s m a) ≡ needOf s m rs
+  unfolding reportedBy wantedBy needOf withSum
+  reported-is =
+      ap (λ (o : Bool). cond (o && not (byCurrent (s .mode))) (plainNeed s m +ℤ a .sum) (plainNeed s m)) state-is
+      ∙ go (byCurrent (s .mode)) (otherState (charges (s .mode)) rs) (plainNeed s m) (ea .sum)
+    where
+      go : (c o : Bool) (x : ℤ) → (o ≡ true → a .sum ≡ sumOfAll rs) → cond (o && not c) (x +ℤ a .sum) x ≡ cond c x (cond o (x +ℤ sumOfAll rs) x)
+      go true true x h = refl
+      go true false x h = refl
+      go false true x h = ap (λ (z : ℤ). x +ℤ z) (h refl)
+      go false false x h = refl
+
+module _ (s : Settings) (m : ℤ) (f : Fleet) (rs : List ℤ) (sound : Sound s m f (length rs)) (charging : Bool) (eg : charging ≡ charges (s .mode))
+    (a : Asked) (ea : AskedFor charging rs a) (w : Wanted) (ew : w ≡ wantedBy s (back64 m) a) where
   here : w ≡ wantedBy s m a
   here = ew ∙ ap (λ (z : ℤ). wantedBy s z a) (measure-read s m f (length rs) sound)
 
@@ -97,28 +105,36 @@ module _ (s : Settings) (m : ℤ) (f : Fleet) (rs : List ℤ) (sound : Sound s m
     link-small = sound .link-small;
   }
 
-  pub worked : (charging : Bool) → charging ≡ charges (s .mode) → (need : ℤ) → mag need < 2 ^ 63 → need ≡ reportedBy w → Worked s m f rs w charging need
-  worked charging eg need hn en =
-      let is = here ∙ ap (wantedBy s m) (asked-is rs a ea) in
-      record { wanted = is; mode = eg; reported = read w64 need hn ∙ en ∙ ap reportedBy is ∙ reported-is s m rs }
+  pub worked : (need : ℤ) → mag need < 2 ^ 63 → need ≡ reportedBy w → Worked s m f rs w charging need
+  unfolding wantedBy
+  worked need hn en =
+      let ea₂ = subst (λ (b : Bool). AskedFor b rs a) eg ea in record {
+        own = ap (λ (v : Wanted). ownBy v f) here ∙ (λ j i. own-is s m rs a ea₂ f i j);
+        current = ap (λ (v : Wanted). v .current) here;
+        mode = eg;
+        reported = read w64 need hn ∙ en ∙ ap reportedBy here ∙ reported-is s m rs a ea₂;
+      }
 
 module _ {s : Settings} {m : ℤ} {f : Fleet} {rs : List ℤ} {w : Wanted} {charging : Bool} {need : ℤ} (k : Worked s m f rs w charging need) where
   -- ---- the code's rules are the definition's
-  pub rests-is : (a : Asked) → AskedOf rs a → (n : ℕ) → n ≡ length rs → restsBy charging w a f n ≡ rests s (ownNeed s m f rs) rs
-  unfolding restsBy noneCallsBy ownBy needBy wantedBy rests ownNeed withSum
-  rests-is a ea n e = λ j. restsBy (k .mode j) (k .wanted j) (asked-is rs a ea j) f (e j)
+  pub rests-is : (a : Asked) → AskedFor charging rs a → (n : ℕ) → n ≡ length rs → restsBy charging w a f n ≡ rests s (ownNeed s m f rs) rs
+  unfolding restsBy noneCallsBy rests
+  rests-is a ea n e = λ j. not (cond (k .mode j) (ea .below j) (ea .above j)) && allOf (e j) (λ (i : ℕ). noCall (k .mode j) (k .own j i))
 
   pub spent-is : (t : Totals) → TotalsFor f (length rs) t → length (f .stored) ≡ length rs → spentBy charging (t .rated) (t .reserve) (f .stored) ≡ spent (charges (s .mode)) (length rs) f
   unfolding spentBy spent
   spent-is t et e = λ j. unable (k .mode j) (et .rated j) (et .reserve j) (total (e j) (f .stored))
 
   pub band-is : (n : ℕ) → n ≡ length rs → allInBandBy (s .band) w f n ≡ allInBand (length rs) (ownBand s f) (ownNeed s m f rs)
-  unfolding allInBandBy ownBy needBy wantedBy allInBand ownBand ownNeed withSum
-  band-is n e = λ j. allInBandBy (s .band) (k .wanted j) f (e j)
+  unfolding allInBandBy allInBand ownBand
+  band-is n e = λ j. allOf (e j) (λ (i : ℕ). inBand (bandInWatts (k .current j) (getD (f .link) i 0) (s .band)) (k .own j i))
 
   shared-is : (t : Totals) → TotalsFor f (length rs) t → each (sharedBy charging (s .factor) w (t .weight) f) rs ≡ each (requestAfter s (length rs) f (ownNeed s m f rs)) rs
-  unfolding sharedBy ownBy needBy wantedBy requestAfter ownNeed withSum
-  shared-is t et = λ j. each (sharedBy (k .mode j) (s .factor) (k .wanted j) (et .weight j) f) rs
+  unfolding sharedBy requestAfter
+  shared-is t et =
+      λ j.
+      each
+      (λ (i : ℕ) (r : ℤ). cond (unableAt (k .mode j) f i) (pos 0) (unitAfter (k .mode j) (s .factor) (k .own j i) (et .weight j) (getD (f .rating) i 0) (getD (f .weight) i 0) r)) rs
 
   -- ---- rules 3 to 6, each with what it leaves
   goes : passOf s m f rs

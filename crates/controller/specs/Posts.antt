@@ -9,11 +9,11 @@ use Rattle.rules.specs.declared.Asked.{Asked}
 use Rattle.rules.specs.declared.Settings.{Settings}
 use Rattle.rules.specs.declared.Wanted.{Wanted}
 use Rattle.rules.specs.Rules.{byCurrent}
-use Rattle.members.specs.Ranges.{Fleet}
-use Rattle.members.specs.Sums.{changedOf}
+use Rattle.members.specs.Ranges.{Fleet, someAbove, someBelow}
+use Rattle.members.specs.Sums.{sumOfAll, changedOf}
 use Rattle.members.specs.Posts.{SameLengths, Addable, noneCallsBy}
 use Rattle.controller.specs.declared.Passed.{Passed}
-use Rattle.controller.specs.Pass.{needOf, passOf}
+use Rattle.controller.specs.Pass.{otherState, needOf, passOf}
 
 pub record Energies (a b c : List ℕ) : Type 0 where
   pub rated : Addable a
@@ -35,6 +35,13 @@ pub record Sound (s : Settings) (measure : ℤ) (f : Fleet) (n : ℕ) : Type 0 w
   -- by current a measure is a meter's
   pub current-small : byCurrent (s .mode) ≡ true → natAbs measure ≤ 300000000
   pub link-small : (i : ℕ) → getD (f .link) i 0 ≤ 120000
+
+-- a is what the requests ask, its sum where the fleet is in the state that is not the mode's own
+pub record AskedFor (charging : Bool) (rs : List ℤ) (a : Asked) : Type 0 where
+  pub sum : otherState charging rs ≡ true → a .sum ≡ sumOfAll rs
+  pub above : a .above ≡ someAbove rs
+  pub below : a .below ≡ someBelow rs
+  pub bounded : natAbs (a .sum) ≤ 137438953472
 
 -- P3, as the code has it
 unfoldable pub restsBy : Bool → Wanted → Asked → Fleet → ℕ → Bool

@@ -3,7 +3,7 @@ ghost use Prim.Native.Nat.{_≤_};
 ghost use lib.ListN.{length};
 ghost use Rattle.members.specs.Ranges.{fleetOf, fleetLinked};
 ghost use Rattle.members.specs.Posts.{TotalsOf, Linked, fleetBy};
-ghost use Rattle.controller.specs.Posts.{Sound, DonePass, restsBy};
+ghost use Rattle.controller.specs.Posts.{AskedFor, Sound, DonePass, restsBy};
 ghost use Rattle.controller.specs.Answers.{passAnswer, passLeaves};
 use super::Aim;
 use super::PassAnswer;
@@ -12,6 +12,18 @@ use members::Totals;
 use rules::Asked;
 use rules::Settings;
 use rules::Wanted;
+
+// What the requests ask. F is looked at in the state that is not the mode's own alone, and is 0 in others.
+fn asked_for(charging: bool, requests: &[i32]) -> Asked
+    requires { ⌜ length (now requests) ≤ 64 ⌝ }
+    ensures { λ r. ⌜ AskedFor charging (now (requests .entry)) r ⌝ }
+{
+    let signs = members::signs(requests);
+    if rules::in_other_state(charging, signs) {
+        return members::asked_of(requests);
+    }
+    signs
+}
 
 // P3: a fleet that is not in the mode's own state rests where no unit's own need calls.
 fn rests(charging: bool, w: Wanted, a: Asked, units: &[[u64; 24]], stored: &[u64]) -> bool
@@ -38,8 +50,8 @@ pub fn pass_within(
     requires { ⌜ TotalsOf (now units) t ⌝ }
     ensures { λ r. ⌜ DonePass s measure (fleetBy (now (units .entry)) (now (stored .entry))) (now (requests .entry)) (now (requests .exit)) r ⌝ }
 {
-    let a = members::asked_of(requests);
     let charging = rules::charges(s.mode);
+    let a = asked_for(charging, requests);
     let w = rules::wanted_by(s, measure, a);
     let need = rules::reported(w);
     if rests(charging, w, a, units, stored) {

@@ -1,5 +1,5 @@
 -- Requests in code: what is read back, added and compared. Assumes nothing.
-use mathlib.Core.Path.{_≡_, refl, sym, ap, ap₂, _∙_}
+use mathlib.Core.Path.{_≡_, refl, sym, ap, ap₂, _∙_, subst₂}
 use mathlib.Core.Bool.{Bool, false, _||_}
 use mathlib.Core.List.{List}
 use Prim.Native.Nat.{ℕ, _+_, _*_, _^_, _≤_, _<_}
@@ -17,7 +17,7 @@ use Rattle.whole.proofs.SignLaws.{read, size-sum, size-fits, wide-is, wide-size
 use Rattle.rules.specs.declared.Asked.{Asked}
 use Rattle.members.specs.Ranges.{someAbove, someBelow}
 use Rattle.members.specs.Sums.{sumOfAll}
-use Rattle.members.specs.Posts.{WithRequest, AskedOf}
+use Rattle.members.specs.Posts.{WithRequest, AskedOf, SignsOf}
 use Rattle.rules.proofs.RuleLaws.{back32, back64}
 
 -- a sum so far, and a request
@@ -42,22 +42,44 @@ with-is a r ha hr = record {
   below = ap (λ (z : ℤ). a .below || ltZ z (pos 0)) (read w32 r hr);
 }
 
+-- the signs of the first i requests
+pub record SignsSo (rs : List ℤ) (i : ℕ) (above below : Bool) : Type 0 where
+  pub above-is : above ≡ someOf i (λ (k : ℕ). ltZ (pos 0) (getD rs k (pos 0)))
+  pub below-is : below ≡ someOf i (λ (k : ℕ). ltZ (getD rs k (pos 0)) (pos 0))
+
+pub no-signs : (rs : List ℤ) → SignsSo rs 0 false false
+unfolding someOf
+no-signs rs = record { above-is = refl; below-is = refl }
+
+module _ (rs : List ℤ) (i : ℕ) (above below : Bool) (s : SignsSo rs i above below) where
+  pub sign-more : (r : ℤ) → r ≡ getD rs i (pos 0) → SignsSo rs (i + 1) (above || ltZ (pos 0) r) (below || ltZ r (pos 0))
+  sign-more r e = record {
+    above-is = ap₂ (λ (t : Bool) (z : ℤ). t || ltZ (pos 0) z) (s .above-is) e ∙ sym (some-next i (λ (k : ℕ). ltZ (pos 0) (getD rs k (pos 0))));
+    below-is = ap₂ (λ (t : Bool) (z : ℤ). t || ltZ z (pos 0)) (s .below-is) e ∙ sym (some-next i (λ (k : ℕ). ltZ (getD rs k (pos 0)) (pos 0)));
+  }
+
+  pub all-signs : i ≡ length rs → SignsOf rs (record { sum = pos 0; above = above; below = below })
+  unfolding someAbove someBelow
+  all-signs e = record {
+    sum = refl;
+    above = s .above-is ∙ ap (λ (n : ℕ). someOf n (λ (k : ℕ). ltZ (pos 0) (getD rs k (pos 0)))) e;
+    below = s .below-is ∙ ap (λ (n : ℕ). someOf n (λ (k : ℕ). ltZ (getD rs k (pos 0)) (pos 0))) e;
+  }
+
 -- what the first i requests ask, with a bound on its sum
 pub record SoFar (rs : List ℤ) (i : ℕ) (a : Asked) : Type 0 where
   pub sum : a .sum ≡ sumOfℤ i (λ (k : ℕ). getD rs k (pos 0))
-  pub above : a .above ≡ someOf i (λ (k : ℕ). ltZ (pos 0) (getD rs k (pos 0)))
-  pub below : a .below ≡ someOf i (λ (k : ℕ). ltZ (getD rs k (pos 0)) (pos 0))
+  pub signs : SignsSo rs i (a .above) (a .below)
   pub bounded : natAbs (a .sum) ≤ i * 2147483648
 
 pub none-yet : (rs : List ℤ) → SoFar rs 0 (record { sum = pos 0; above = false; below = false })
-unfolding sumOfℤ someOf
-none-yet rs = record { sum = refl; above = refl; below = refl; bounded = omega arith }
+unfolding sumOfℤ
+none-yet rs = record { sum = refl; signs = no-signs rs; bounded = omega arith }
 
 pub one-more : (rs : List ℤ) (i : ℕ) (a b : Asked) → SoFar rs i a → mag (getD rs i (pos 0)) < 2 ^ 31 → WithRequest a (getD rs i (pos 0)) b → SoFar rs (i + 1) b
 one-more rs i a b s h w = record {
   sum = w .sum ∙ ap (λ (z : ℤ). z +ℤ getD rs i (pos 0)) (s .sum) ∙ sym (sumℤ-next i (λ (k : ℕ). getD rs k (pos 0)));
-  above = w .above ∙ ap (λ (t : Bool). t || ltZ (pos 0) (getD rs i (pos 0))) (s .above) ∙ sym (some-next i (λ (k : ℕ). ltZ (pos 0) (getD rs k (pos 0))));
-  below = w .below ∙ ap (λ (t : Bool). t || ltZ (getD rs i (pos 0)) (pos 0)) (s .below) ∙ sym (some-next i (λ (k : ℕ). ltZ (getD rs k (pos 0)) (pos 0)));
+  signs = subst₂ (SignsSo rs (i + 1)) (sym (w .above)) (sym (w .below)) (sign-more rs i (a .above) (a .below) (s .signs) (getD rs i (pos 0)) refl);
   bounded =
       let r = getD rs i (pos 0) in
       let p : natAbs (a .sum +ℤ r) ≤ natAbs (a .sum) + natAbs r = size-sum (a .sum) r in
@@ -68,10 +90,11 @@ one-more rs i a b s h w = record {
 }
 
 pub all-asked : (rs : List ℤ) (i : ℕ) (a : Asked) → i ≡ length rs → length rs ≤ 64 → SoFar rs i a → AskedOf rs a
-unfolding sumOfAll someAbove someBelow
-all-asked rs i a e h s = record {
-  sum = s .sum ∙ ap (λ (n : ℕ). sumOfℤ n (λ (k : ℕ). getD rs k (pos 0))) e;
-  above = s .above ∙ ap (λ (n : ℕ). someOf n (λ (k : ℕ). ltZ (pos 0) (getD rs k (pos 0)))) e;
-  below = s .below ∙ ap (λ (n : ℕ). someOf n (λ (k : ℕ). ltZ (getD rs k (pos 0)) (pos 0))) e;
-  bounded = omega (arith, s .bounded);
-}
+unfolding sumOfAll
+all-asked rs i a e h s =
+    let signs = all-signs rs i (a .above) (a .below) (s .signs) e in record {
+      sum = s .sum ∙ ap (λ (n : ℕ). sumOfℤ n (λ (k : ℕ). getD rs k (pos 0))) e;
+      above = signs .above;
+      below = signs .below;
+      bounded = omega (arith, s .bounded);
+    }

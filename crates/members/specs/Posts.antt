@@ -48,6 +48,12 @@ pub record AskedOf (rs : List ℤ) (a : Asked) : Type 0 where
   -- 64 numbers of 32 bits
   pub bounded : natAbs (a .sum) ≤ 137438953472
 
+-- a says the requests' signs, and nothing of what they come to
+pub record SignsOf (rs : List ℤ) (a : Asked) : Type 0 where
+  pub sum : a .sum ≡ pos 0
+  pub above : a .above ≡ someAbove rs
+  pub below : a .below ≡ someBelow rs
+
 -- the lists of a fleet have one length
 pub record SameLengths (f : Fleet) (n : ℕ) : Type 0 where
   pub rated : length (f .rated) ≡ n

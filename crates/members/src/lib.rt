@@ -19,6 +19,7 @@ pub use shares::clear;
 pub use shares::share_all;
 pub use sums::asked as asked_of;
 pub use sums::is_spent;
+pub use sums::signs;
 pub use sums::summed;
 
 // The sums over a fleet that no step changes.

@@ -4,7 +4,7 @@ ghost use lib.ListN.{length};
 ghost use lib.IntN.{natAbs};
 ghost use Rattle.members.specs.Sums.{total};
 ghost use Rattle.unit.specs.declared.Unit.{Unit};
-ghost use Rattle.members.specs.Posts.{WithRequest, AskedOf, Addable, TotalsOf, columnBy, spentBy};
+ghost use Rattle.members.specs.Posts.{WithRequest, AskedOf, SignsOf, Addable, TotalsOf, columnBy, spentBy};
 use super::Totals;
 use rules::Asked;
 
@@ -63,6 +63,26 @@ fn with_request(a: Asked, r: i32) -> Asked
         sum: a.sum + (r as i64),
         above: a.above | (0 < r),
         below: a.below | (r < 0),
+    }
+}
+
+// Whether some request is above 0 and some below, with 0 for F.
+pub fn signs(requests: &[i32]) -> Asked
+    ensures { λ r. ⌜ SignsOf (now (requests .entry)) r ⌝ }
+{
+    let mut above = false;
+    let mut below = false;
+    let mut i = 0;
+    while i < requests.len() {
+        let r = requests[i];
+        above = above | (0 < r);
+        below = below | (r < 0);
+        i += 1;
+    }
+    Asked {
+        sum: 0,
+        above,
+        below,
     }
 }
 

@@ -8,6 +8,7 @@ pub use ranges::measure_in;
 pub use ranges::settings_in;
 pub use rules::charges;
 pub use rules::in_band;
+pub use rules::in_other_state;
 pub use rules::in_own_state;
 pub use rules::no_call;
 pub use rules::own_band;

@@ -29,7 +29,7 @@ pub fn plain_need(s: Settings, measure: i64) -> i64
 }
 
 // Whether the fleet is in the state that is not the mode's own.
-fn in_other_state(charging: bool, a: Asked) -> bool
+pub fn in_other_state(charging: bool, a: Asked) -> bool
     ensures { λ r. ⌜ r ≡ cond charging (a .above) (a .below) ⌝ }
 {
     if charging { a.above } else { a.below }

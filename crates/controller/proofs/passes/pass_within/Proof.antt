@@ -20,6 +20,10 @@ fleet s = fleetBy (s .args .units .now) (s .args .stored .now)
 abbrev begun : tie.After-wanted-by → tie.Start
 begun w = w .before .before .before .before .before
 
+-- the place where the direction was worked out
+abbrev direction : tie.After-wanted-by → tie.After-charges
+direction w = w .before .before .before
+
 -- the sums that were handed in are the fleet's, and there are as many rows as requests
 sums : (s : tie.Start) → TotalsFor (fleet s) (length (s .args .requests .now)) (s .args .t)
 sums s = totals-for (s .args .units .now) (s .args .stored .now) (length (s .args .requests .now)) (s .args .t) (s .pre .0 .lengths) (s .pre .1)
@@ -31,23 +35,24 @@ count s = sym (column-count (λ (u : Unit). u .rated) (s .args .units .now)) ∙
 needs-linked : (w : tie.After-wanted-by) → Linked (w .wanted-by .result) (fleet (begun w))
 needs-linked w =
     let s = begun w in
-    let a = w .before .before .asked in
-    linked (s .args .s) (s .args .measure) (fleet s) (s .args .requests .now) (s .pre .0) (a .result) (a .ensures) (w .wanted-by .result) (w .wanted-by .ensures)
+    let a = w .before .asked-for in
+    let g = direction w .charges in
+    linked (s .args .s) (s .args .measure) (fleet s) (s .args .requests .now) (s .pre .0) (g .result) (g .ensures) (a .result) (a .ensures) (w .wanted-by .result) (w .wanted-by .ensures)
 
-work : (n : tie.After-reported) → let w = n .before in let s = begun w in Worked (s .args .s) (s .args .measure) (fleet s) (s .args .requests .now) (w .wanted-by .result) (w .before .charges .result) (n .reported .result)
+work : (n : tie.After-reported) → let w = n .before in let s = begun w in Worked (s .args .s) (s .args .measure) (fleet s) (s .args .requests .now) (w .wanted-by .result) (direction w .charges .result) (n .reported .result)
 work n =
     let w = n .before in
     let s = begun w in
-    let g = w .before .charges in
-    let a = w .before .before .asked in
-    worked (s .args .s) (s .args .measure) (fleet s) (s .args .requests .now) (s .pre .0) (a .result) (a .ensures) (w .wanted-by .result) (w .wanted-by .ensures) (g .result) (g .ensures) (n .reported .result) (n .reported .ok) (n .reported .ensures)
+    let a = w .before .asked-for in
+    let g = direction w .charges in
+    worked (s .args .s) (s .args .measure) (fleet s) (s .args .requests .now) (s .pre .0) (g .result) (g .ensures) (a .result) (a .ensures) (w .wanted-by .result) (w .wanted-by .ensures) (n .reported .result) (n .reported .ok) (n .reported .ensures)
 
 resting : (r : tie.After-rests) → let s = begun (r .before .before) in rests (s .args .s) (ownNeed (s .args .s) (s .args .measure) (fleet s) (s .args .requests .now)) (s .args .requests .now) ≡ r .rests .result
 resting r =
     let n = r .before in
     let w = n .before in
     let s = begun w in
-    let a = w .before .before .asked in
+    let a = w .before .asked-for in
     sym (r .rests .ensures ∙ rests-is (work n) (a .result) (a .ensures) (length (s .args .units .now)) (count s))
 
 empty : (e : tie.After-is-spent) → let s = begun (e .before .before .before .before) in spent (charges (s .args .s .mode)) (length (s .args .requests .now)) (fleet s) ≡ e .is-spent .result
@@ -63,11 +68,11 @@ close b =
     let s = begun (n .before) in
     sym (b .all-in-band .ensures ∙ band-is (work n) (length (s .args .units .now)) (count s))
 
-asked-requires : tie.Need-asked-requires
-asked-requires c κs = search needs
-
 charges-requires : tie.Need-charges-requires
 charges-requires c κs = search needs
+
+asked-for-requires : tie.Need-asked-for-requires
+asked-for-requires c κs = search needs
 
 wanted-by-requires : tie.Need-wanted-by-requires
 wanted-by-requires c κs = search needs
@@ -145,8 +150,8 @@ pub pass-within-spec : {M : Type 1} → statement M
 pass-within-spec =
     tie.close
     (tie.spec
-    asked-requires
     charges-requires
+    asked-for-requires
     wanted-by-requires
     reported-requires
     rests-requires
