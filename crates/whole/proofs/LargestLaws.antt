@@ -104,6 +104,13 @@ leg-none S y h =
     (λ p. absurd (not-suc-le-zero p))
     (λ j l m. lt-leb (j * j + y * y) (S * S) (let q : suc S * suc S ≤ y * y = square-le h in let e : suc S * suc S ≡ S * S + S + S + 1 = square-suc S in omega arith))
 
+-- beside nothing it is the radius
+pub leg-whole : (S y : ℕ) → y ≡ 0 → legOf S y ≡ S
+leg-whole S y e =
+    let none : y * y ≡ 0 = ap (λ (n : ℕ). n * n) e in
+    let next : suc S * suc S ≡ S * S + S + S + 1 = square-suc S in
+    leg-is S y S (omega arith) (omega arith) (omega arith)
+
 -- for callers: the leg lies in the circle, and no larger one does
 pub leg-in : (S y : ℕ) → y ≤ S → legOf S y * legOf S y + y * y ≤ S * S
 unfolding legOf

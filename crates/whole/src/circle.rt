@@ -7,23 +7,28 @@ use super::order;
 use super::sign;
 
 // The largest whole x with x * x + y * y <= s * s, bit by bit from the top; 0 where y is above s.
+// In the loop low is what is found, raised by the k bits to come, and left what its square leaves.
 pub fn leg(s: u32, y: u32) -> u32
     ensures { λ r. ⌜ r ≡ legOf s y ⌝ }
 {
     if s < y {
         return 0;
     }
+    if y == 0 {
+        return s;
+    }
     let radius = s as u64;
     let side = y as u64;
-    let room = radius * radius - side * side;
-    let mut bits = (65 - u64::leading_zeros(room)) / 2;
+    let mut left = radius * radius - side * side;
+    let mut k = (65 - u64::leading_zeros(left)) / 2;
     let mut low: u64 = 0;
-    while 0 < bits {
-        bits -= 1;
-        let next = low + (1u64 << bits);
-        if next * next <= room {
-            low = next;
-        }
+    while 0 < k {
+        k -= 1;
+        let at = 2 * k;
+        let more = low + (1u64 << at);
+        let fits = (more <= left) as u64;
+        left -= more * fits;
+        low = low / 2 + (fits << at);
     }
     low as u32
 }

@@ -1,117 +1,117 @@
--- The loop keeps: low passes, and low with all the bits that are still to be tried is too large (`Found`). No bit left, low is the leg.
--- What is tried stays below 2³², so that its square fits 64 bits.
-use mathlib.Core.Path.{_≡_, sym, ap, _∙_}
-use Prim.Native.Nat.{ℕ, _+_, _-_, _*_, _%_, _^_, _≤_, _<_}
-use native.Mathlib.Nat.{lt-of-le-of-lt, lt-of-lt-of-le, sub-le}
+-- The loop keeps (`Held`): q is found of the leg, low is q raised by the bits that are still to be tried, left is what q's square leaves of the
+-- room, and q with all those bits is too large. A further bit b fits where 2qb + b², which is `more`, is there in left. No bit left, low is the leg.
+use mathlib.Core.Path.{_≡_, refl, sym}
+use Prim.Native.Nat.{ℕ, _+_, _-_, _*_, _%_, _^_, _<_}
+use native.Mathlib.Nat.{lt-of-le-of-lt, sub-le}
 use native.Mathlib.Omega.{arith}
-use lib.Pow.{pow-mono}
+use mir.Val.{boolByte}
+use lib.Dec.{leb}
 use lib.Count.{leading-le}
-use Rattle.whole.proofs.LargestLaws.{square-le, square-fits, leg-none}
-use Rattle.whole.proofs.BitLaws.{Found, none-tried, bit, fits, kept, left, all-tried}
+use Rattle.whole.specs.Largest.{legOf}
+use Rattle.whole.proofs.LargestLaws.{square-le, square-fits, leg-none, leg-whole}
+use Rattle.whole.proofs.BitLaws.{Held, Turn, none-held, turn, all-tried}
 use Rattle.whole.proofs.circle.leg.Statement.{statement}
 use Rattle.whole.proofs.circle.leg.Tie as tie
 
 abbrev Inv-loop : tie.InvT-loop
-Inv-loop s y radius side room bits₀ low₀ bits low = Found (s * s - y * y) bits low
+Inv-loop s y radius side left₀ k₀ low₀ left k low = Held (s * s - y * y) k left low
 
 abbrev μ-loop : tie.MeasureT-loop
-μ-loop s y radius side room bits₀ low₀ bits low = bits
+μ-loop s y radius side left₀ k₀ low₀ left k low = k
 
 returns : tie.Need-returns Inv-loop μ-loop
 returns c = sym (leg-none (c .before .args .s) (c .before .args .y) (c .if1 .taken))
 
-mul-room : tie.Need-mul-room Inv-loop μ-loop
-mul-room c = record { fits = square-fits (c .before .args .s) (c .before .fits .s .fits) }
+returns-2 : tie.Need-returns-2 Inv-loop μ-loop
+returns-2 c = sym (leg-whole (c .before .before .args .s) (c .before .before .args .y) (c .if2 .taken))
 
-mul-room-2 : tie.Need-mul-room-2 Inv-loop μ-loop
-mul-room-2 c = record { fits = square-fits (c .before .args .y) (c .before .fits .y .fits) }
+mul-left : tie.Need-mul-left Inv-loop μ-loop
+mul-left c = record { fits = square-fits (c .before .before .args .s) (c .before .before .fits .s .fits) }
 
-sub-room : tie.Need-sub-room Inv-loop μ-loop
-sub-room c = square-le (c .if1 .left)
+mul-left-2 : tie.Need-mul-left-2 Inv-loop μ-loop
+mul-left-2 c = record { fits = square-fits (c .before .before .args .y) (c .before .before .fits .y .fits) }
 
-sub-bits : tie.Need-sub-bits Inv-loop μ-loop
-sub-bits c = let s = c .before .args in let l = leading-le 64 (s .s * s .s - s .y * s .y) in omega arith
+sub-left : tie.Need-sub-left Inv-loop μ-loop
+sub-left c = square-le (c .before .if1 .left)
+
+sub-k : tie.Need-sub-k Inv-loop μ-loop
+sub-k c = let s = c .before .before .args in let l = leading-le 64 (s .s * s .s - s .y * s .y) in omega arith
 
 loop-holds : tie.Need-loop-holds Inv-loop μ-loop
 loop-holds c =
-    let s = c .before .args in
-    none-tried (s .s * s .s - s .y * s .y) (lt-of-le-of-lt (sub-le (s .s * s .s) (s .y * s .y)) (square-fits (s .s) (c .before .fits .s .fits)))
+    let s = c .before .before .args in
+    none-held (s .s * s .s - s .y * s .y) (lt-of-le-of-lt (sub-le (s .s * s .s) (s .y * s .y)) (square-fits (s .s) (c .before .before .fits .s .fits)))
 
-sub-bits-2 : tie.Need-sub-bits-2 Inv-loop μ-loop
-sub-bits-2 c = omega arith
+sub-k-2 : tie.Need-sub-k-2 Inv-loop μ-loop
+sub-k-2 c = omega arith
 
-some : (c : tie.In-loop Inv-loop μ-loop) → 0 < c .before .loop .bits
-some c = let t = c .loop-test .taken in omega (arith, t)
+-- what a further bit takes, and the turn that tries it
+abbrev more-of : tie.In-loop Inv-loop μ-loop → ℕ
+more-of c = let l = c .before .loop in l .low + (1 * 2 ^ (2 * (l .k - 1))) % 2 ^ 64
 
--- what is left of the circle, and what is tried of it
-abbrev room-of : tie.In-loop Inv-loop μ-loop → ℕ
-room-of c = let s = c .before .before .before .args in s .s * s .s - s .y * s .y
-
-abbrev next-of : tie.In-loop Inv-loop μ-loop → ℕ
-next-of c = let l = c .before .loop in l .low + (1 * 2 ^ (l .bits - 1)) % 2 ^ 64
-
-next-is : (c : tie.In-loop Inv-loop μ-loop) → next-of c ≡ c .before .loop .low + 2 ^ (c .before .loop .bits - 1)
-next-is c =
+turned : (c : tie.In-loop Inv-loop μ-loop)
+    → let l = c .before .loop in
+    let s = c .before .before .before .before .args in
+    Turn (s .s * s .s - s .y * s .y) (l .k) (l .left) (l .low) (2 * (l .k - 1)) (more-of c) (boolByte (leb (more-of c) (l .left)))
+turned c =
     let l = c .before .loop in
-    ap (λ (n : ℕ). l .low + n) (bit (room-of c) (l .bits) (l .low) (l .inv) (some c))
+    let s = c .before .before .before .before .args in
+    let some : 0 < l .k = let t = c .loop-test .taken in omega (arith, t) in
+    turn (s .s * s .s - s .y * s .y) (l .k) (l .left) (l .low) (l .inv) some (more-of c) refl (leb (more-of c) (l .left)) refl
 
-cast-next : tie.Need-cast-next Inv-loop μ-loop
-cast-next c =
-    let l = c .before .loop in
-    let t = some c in
-    let few = l .inv .few in
-    omega arith
+few : (c : tie.In-loop Inv-loop μ-loop) → 2 * (c .before .loop .k - 1) < 64
+few c = let t = c .loop-test .taken in let f = c .before .loop .inv .found .few in omega (arith, t)
 
-shl-next : tie.Need-shl-next Inv-loop μ-loop
-shl-next c =
-    let l = c .before .loop in
-    let t = some c in
-    let few = l .inv .few in
-    omega arith
+mul-at : tie.Need-mul-at Inv-loop μ-loop
+mul-at c = let f = few c in omega arith
 
-add-next : tie.Need-add-next Inv-loop μ-loop
-add-next c =
-    let l = c .before .loop in
-    let t = some c in
-    record { fits = lt-of-lt-of-le (fits (room-of c) (l .bits) (l .low) (l .inv) t (next-of c) (next-is c)) (omega arith) }
+cast-more : tie.Need-cast-more Inv-loop μ-loop
+cast-more c = let f = few c in omega arith
 
-mul-if2 : tie.Need-mul-if2 Inv-loop μ-loop
-mul-if2 c =
-    let l = c .before .loop in
-    let t = some c in
-    record { fits = square-fits (next-of c) (fits (room-of c) (l .bits) (l .low) (l .inv) t (next-of c) (next-is c)) }
+shl-more : tie.Need-shl-more Inv-loop μ-loop
+shl-more c = few c
+
+add-more : tie.Need-add-more Inv-loop μ-loop
+add-more c = record { fits = turned c .wide }
+
+cast-fits : tie.Need-cast-fits Inv-loop μ-loop
+cast-fits c = tt
+
+mul-left-3 : tie.Need-mul-left-3 Inv-loop μ-loop
+mul-left-3 c = record { fits = turned c .product }
+
+sub-left-2 : tie.Need-sub-left-2 Inv-loop μ-loop
+sub-left-2 c = turned c .there
+
+cast-low : tie.Need-cast-low Inv-loop μ-loop
+cast-low c = let f = few c in omega arith
+
+shl-low : tie.Need-shl-low Inv-loop μ-loop
+shl-low c = few c
+
+add-low : tie.Need-add-low Inv-loop μ-loop
+add-low c = record { fits = turned c .sum }
 
 loop-less : tie.Need-loop-less Inv-loop μ-loop
 loop-less c = omega arith
 
 loop-again : tie.Need-loop-again Inv-loop μ-loop
-loop-again c =
-    let i = c .before in
-    let l = i .before .loop in
-    kept (room-of i) (l .bits) (l .low) (l .inv) (some i) (next-of i) (next-is i) (c .if2 .taken)
+loop-again c = turned c .next
 
-loop-less-2 : tie.Need-loop-less-2 Inv-loop μ-loop
-loop-less-2 c = omega arith
-
-loop-again-2 : tie.Need-loop-again-2 Inv-loop μ-loop
-loop-again-2 c =
-    let i = c .before in
-    let l = i .before .loop in
-    left (room-of i) (l .bits) (l .low) (l .inv) (some i) (next-of i) (next-is i) (c .if2 .left)
+-- no bit is left
+ended : (c : tie.After-loop Inv-loop μ-loop)
+    → let s = c .before .before .before .before .args in (c .before .loop .low < 2 ^ 32) × (legOf (s .s) (s .y) ≡ c .before .loop .low)
+ended c =
+    let l = c .before .loop in
+    let s = c .before .before .before .before .args in
+    let none : l .k ≡ 0 = let t = c .loop-test .left in omega arith in
+    all-tried (s .s) (s .y) (l .k) (l .left) (l .low) (c .before .before .before .if1 .left) none (l .inv)
 
 cast-result : tie.Need-cast-result Inv-loop μ-loop
-cast-result c =
-    let l = c .before .loop in
-    let n = l .inv .narrow in
-    let p : 1 ≤ 2 ^ l .bits = pow-mono {i = 0} {j = l .bits} (omega arith) in
-    omega arith
+cast-result c = record { fits = ended c .0 }
 
-returns-2 : tie.Need-returns-2 Inv-loop μ-loop
-returns-2 c =
-    let l = c .before .loop in
-    let s = c .before .before .before .args in
-    let none : l .bits ≡ 0 = let t = c .loop-test .left in omega arith in
-    sym (all-tried (s .s) (s .y) (l .bits) (l .low) (c .before .before .if1 .left) none (l .inv))
+returns-3 : tie.Need-returns-3 Inv-loop μ-loop
+returns-3 c = sym (ended c .1)
 
 pub leg-spec : {M : Type 1} → statement M
 leg-spec =
@@ -120,19 +120,24 @@ leg-spec =
     Inv-loop
     μ-loop
     returns
-    mul-room
-    mul-room-2
-    sub-room
-    sub-bits
+    returns-2
+    mul-left
+    mul-left-2
+    sub-left
+    sub-k
     loop-holds
-    sub-bits-2
-    cast-next
-    shl-next
-    add-next
-    mul-if2
+    sub-k-2
+    mul-at
+    cast-more
+    shl-more
+    add-more
+    cast-fits
+    mul-left-3
+    sub-left-2
+    cast-low
+    shl-low
+    add-low
     loop-less
     loop-again
-    loop-less-2
-    loop-again-2
     cast-result
-    returns-2)
+    returns-3)
