@@ -2,7 +2,7 @@
 use mathlib.Core.Path.{_≡_, sym, ap, _∙_}
 use mathlib.Core.Bool.{Bool, true, false, cond}
 use Prim.Native.Nat.{ℕ, _*_, _/_, _^_, _≤_, _<_, min}
-use native.Mathlib.Nat.{le-trans, lt-of-le-of-lt, mul-le-mul, div-le-self}
+use native.Mathlib.Nat.{le-trans, lt-of-le-of-lt, mul-le-mul, mul-zero, zero-mul, zero-div, div-le-self}
 use native.Mathlib.Omega.{arith}
 use lib.Dec.{ltb, lit<}
 use lib.IntN.{ℤ}
@@ -29,6 +29,10 @@ module _ (array irradiance factor : ℕ) (ha : array ≤ 100000000) (hi : irradi
 
   pub dc-most : factor ≤ 20000 → array * irradiance / 1000 * factor / 10000 ≤ 20000000000000
   dc-most hf = let m : array * irradiance / 1000 * factor ≤ 200000000000000000 = warmed-most hf in omega arith
+
+-- in the dark there is none, whatever the factor
+pub no-sun : (array irradiance factor : ℕ) → irradiance ≡ 0 → array * irradiance / 1000 * factor / 10000 ≡ 0
+no-sun array irradiance factor e = ap (λ (n : ℕ). array * n / 1000 * factor / 10000) e ∙ simp (mul-zero array, zero-div 1000, zero-mul factor)
 
 -- ---- on or off, by the tests that the code makes
 module _ (v : Inverter) (on : Bool) (dc : ℕ) where

@@ -14,15 +14,16 @@ use borrow.Author.Tests.{not-true, not-false}
 use Rattle.whole.proofs.CircleLaws.{watts-most}
 use Rattle.whole.proofs.SignLaws.{read}
 use Rattle.whole.specs.Circle.{wattsIn}
-use Rattle.curve.specs.Curve.{curveAt}
+use Rattle.curve.specs.Curve.{Point, curveAt}
 use Rattle.curve.specs.Layout.{pointsAt}
+use Rattle.curve.specs.Posts.{Usable}
 use Rattle.curve.proofs.LineFits.{back64, wide, small-wide}
 use Rattle.solar.specs.declared.Inverter.{Inverter}
 use Rattle.solar.specs.declared.Sun.{Sun}
 use Rattle.solar.specs.Roof.{Roof}
 use Rattle.solar.specs.Step.{dcOf, onAfter, limitOf, acOf, limitedVars, wattsOf, varsOf, given, givenBy, stepOf}
 use Rattle.solar.specs.Posts.{roofBy, Roofed, Shining}
-use Rattle.solar.proofs.RoofLaws.{Ranged, ranged}
+use Rattle.solar.proofs.RoofLaws.{Ranged, ranged, warm-usable}
 use Rattle.solar.proofs.PowerLaws.{dc-most, load-small}
 
 -- what is given, on and off
@@ -34,32 +35,32 @@ when-off : (r : Roof) (dc : ℕ) → givenBy r false dc ≡ given false (pos 0) 
 unfolding givenBy
 when-off r dc = refl
 
--- a roof and a sun in their ranges, and the factor of the temperature, which was widened
-module _ (v : Inverter) (bytes : List ℕ) (warm efficiency : ℕ) (roofed : Roofed v bytes warm efficiency) (s : Sun) (shining : Shining s)
-    (factor : ℕ) (factor-read : factor ≡ natAbs (curveAt (pointsAt bytes warm) (wide (s .temperature)))) where
+-- the factor of the temperature, which was widened
+module _ (points : List Point) (s : Sun) (shining : Shining s) (factor : ℕ) (factor-read : factor ≡ natAbs (curveAt points (wide (s .temperature)))) where
+  pub factor-is : factor ≡ natAbs (curveAt points (s .temperature))
+  factor-is = factor-read ∙ ap (λ (z : ℤ). natAbs (curveAt points z)) (small-wide (s .temperature) (shining .temperature-small))
+
+-- a roof and a sun in their ranges
+module _ (v : Inverter) (bytes : List ℕ) (warm efficiency : ℕ) (roofed : Roofed v bytes warm efficiency) (s : Sun) (shining : Shining s) where
   abbrev roof : Roof
   roof = roofBy v bytes warm efficiency
 
   bounds : Ranged roof
   bounds = ranged roof (roofed .roof-in)
 
-  factor-is : factor ≡ natAbs (curveAt (pointsAt bytes warm) (s .temperature))
-  factor-is = factor-read ∙ ap (λ (z : ℤ). natAbs (curveAt (pointsAt bytes warm) z)) (small-wide (s .temperature) (shining .temperature-small))
-
-  factor-small : factor ≤ 20000
-  factor-small = le-trans (le-of-eq factor-is) (bounds .factor-most (s .temperature))
-
-  pub dc-asks : (v .array ≤ 100000000) × ((s .irradiance ≤ 100000000) × (factor ≤ 20000))
-  dc-asks = (bounds .array-most, (shining .irradiance-small, factor-small))
+  pub dc-asks : (v .array ≤ 100000000) × (Shining s × (Usable bytes warm × (natAbs (curveAt (pointsAt bytes warm) (s .temperature)) ≤ 20000)))
+  dc-asks = (bounds .array-most, (shining, (warm-usable v bytes warm efficiency roofed, bounds .factor-most (s .temperature))))
 
   -- DC power
-  module _ (dc : ℕ) (dc-made : dc ≡ v .array * s .irradiance / 1000 * factor / 10000) where
+  module _ (dc : ℕ) (dc-made : dc ≡ v .array * s .irradiance / 1000 * natAbs (curveAt (pointsAt bytes warm) (s .temperature)) / 10000) where
     dc-is : dc ≡ dcOf roof s
     unfolding dcOf
-    dc-is = dc-made ∙ ap (λ (f : ℕ). v .array * s .irradiance / 1000 * f / 10000) factor-is
+    dc-is = dc-made
 
     pub dc-small : dc ≤ 20000000000000
-    dc-small = le-trans (le-of-eq dc-made) (dc-most (v .array) (s .irradiance) factor (bounds .array-most) (shining .irradiance-small) factor-small)
+    dc-small =
+        le-trans (le-of-eq dc-made)
+        (dc-most (v .array) (s .irradiance) (natAbs (curveAt (pointsAt bytes warm) (s .temperature))) (bounds .array-most) (shining .irradiance-small) (bounds .factor-most (s .temperature)))
 
     pub load-asks : (1 ≤ v .kva) × (dc ≤ 20000000000000)
     load-asks = (bounds .kva-least, dc-small)

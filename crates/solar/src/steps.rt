@@ -1,10 +1,30 @@
 ghost use mathlib.Core.Path.{_≡_};
+ghost use Prim.Native.Nat.{_*_, _/_, _≤_};
+ghost use lib.IntN.{natAbs};
+ghost use Rattle.curve.specs.Curve.{curveAt};
+ghost use Rattle.curve.specs.Layout.{pointsAt};
+ghost use Rattle.curve.specs.Posts.{Usable};
 ghost use Rattle.solar.specs.Step.{stepOf};
 ghost use Rattle.solar.specs.Posts.{roofBy, Roofed, Shining};
 use super::Given;
 use super::Inverter;
 use super::Sun;
 use super::powers;
+
+// DC power of an array under a sun: in the dark none, whatever the temperature's factor is.
+fn dc_of(array: u32, bytes: &[u8], warm: usize, s: Sun) -> u64
+    requires { ⌜ array ≤ 100000000 ⌝ }
+    requires { ⌜ Shining s ⌝ }
+    requires { ⌜ Usable (now bytes) warm ⌝ }
+    requires { ⌜ natAbs (curveAt (pointsAt (now bytes) warm) (s .temperature)) ≤ 20000 ⌝ }
+    ensures { λ r. ⌜ r ≡ array * s .irradiance / 1000 * natAbs (curveAt (pointsAt (now (bytes .entry)) warm) (s .temperature)) / 10000 ⌝ }
+{
+    if s.irradiance == 0 {
+        return 0;
+    }
+    let factor = powers::share(bytes, warm, s.temperature as i64);
+    powers::dc(array, s.irradiance, factor)
+}
 
 // One step of an inverter that is in its ranges.
 pub fn step_within(
@@ -19,8 +39,7 @@ pub fn step_within(
     requires { ⌜ Shining s ⌝ }
     ensures { λ r. ⌜ r ≡ stepOf (roofBy v (now (bytes .entry)) warm efficiency) on s ⌝ }
 {
-    let factor = powers::share(bytes, warm, s.temperature as i64);
-    let dc = powers::dc(v.array, s.irradiance, factor);
+    let dc = dc_of(v.array, bytes, warm, s);
     if !powers::on_after(v, on, dc) {
         return Given {
             on: false,
