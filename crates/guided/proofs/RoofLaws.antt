@@ -1,8 +1,8 @@
 -- One step of an inverter that a voltage leads, from what the code has. Where watts come first they do not hang on the vars requested, and these, which fit
 -- beside them, are given whole. Assumes nothing.
-use mathlib.Core.Path.{_≡_, refl, sym, ap, ap₂, _∙_, subst}
+use mathlib.Core.Path.{_≡_, refl, sym, ap, ap₂, _∙_, subst, subst⁻¹}
 use mathlib.Core.Bool.{Bool, true, false, not, cond, _&&_, _||_}
-use Prim.Native.Nat.{ℕ, _^_, _≤_, _<_}
+use Prim.Native.Nat.{ℕ, _^_, _≤_, _<_, zero-le}
 use native.Mathlib.Nat.{le-trans}
 use lib.Dec.{leb}
 use lib.IntN.{ℤ, pos, natAbs}
@@ -214,6 +214,17 @@ module _ (l : Lead) (r : Roof) (last : ℤ) (on : Bool) (s : Sun) where
       pub unled-kept : back last ≡ varsKept l r last on s
       unled-kept = last-back l last g ∙ sym (stands-is (none-leads l t .0))
 
+    -- without watts
+    module _ (none : wattsFirst l r on s ≡ 0) (asked : ℤ) (e : asked ≡ requestedBy l (back (v .«var_request»)) (back last) (v .kva) 0) where
+      none-asked : asked ≡ requestedOf l r last on s
+      unfolding requestedOf
+      none-asked =
+          asked-read l last g (v .«var_request») (ranged r h .vars-most) (v .kva) 0 asked e
+          ∙ sym (ap (requestedBy l (v .«var_request») last (v .kva)) none)
+
+      pub none-kept : (kept : ℤ) → mag kept < 2 ^ 31 → kept ≡ keptBy l (back last) (back asked) → back kept ≡ varsKept l r last on s
+      none-kept = kept-is asked none-asked
+
     -- whatever the watts are
     module _ (t : (l .fresh && l .after) ≡ false) (asked : ℤ) (e : asked ≡ requestedBy l (back (v .«var_request»)) (back last) (v .kva) 0) where
       before-asked : asked ≡ requestedOf l r last on s
@@ -236,19 +247,23 @@ module _ (l : Lead) (r : Roof) (last : ℤ) (on : Bool) (s : Sun) where
       pub before-kept : (kept : ℤ) → mag kept < 2 ^ 31 → kept ≡ keptBy l (back last) (back asked) → back kept ≡ varsKept l r last on s
       before-kept = kept-is asked before-asked
 
-    -- after the watts, which come first: those of a step with the own vars
-    module _ (t : (l .fresh && l .after) ≡ true) (w : Inverter) (ew : w ≡ ledInverter l v (back (v .«var_request»))) where
+    -- after the watts, which come first: those of a step with no vars
+    module _ (t : (l .fresh && l .after) ≡ true) (w : Inverter) (ew : w ≡ ledInverter l v (pos 0)) where
       abbrev first-roof : Roof
-      first-roof = ledRoof l r (v .«var_request»)
+      first-roof = ledRoof l r (pos 0)
 
       first-is : roofWith r w ≡ first-roof
-      first-is = ap (roofWith r) (ew ∙ ap (ledInverter l v) (small-same (v .«var_request») (ranged r h .vars-most)))
+      first-is = ap (roofWith r) ew
 
       first-in : roofIn first-roof ≡ true
-      first-in = led-in l r h (v .«var_request») (ranged r h .vars-most)
+      first-in = led-in l r h (pos 0) zero-le
 
       pub after-in : roofIn (roofWith r w) ≡ true
       after-in = ap roofIn first-is ∙ first-in
+
+      first-watts : natAbs (stepOf first-roof on s .watts) ≡ wattsFirst l r on s
+      unfolding wattsFirst
+      first-watts = ap natAbs (step-same l r on s (v .«var_request») (and-parts (l .fresh) (l .after) t .1) (pos 0))
 
       module _ (x : Given) (ex : x ≡ stepOf (roofWith r w) on s) where
         given-is : x ≡ stepOf first-roof on s
@@ -261,8 +276,7 @@ module _ (l : Lead) (r : Roof) (last : ℤ) (on : Bool) (s : Sun) where
 
         module _ (size : ℕ) (es : size ≡ natAbs (back (x .watts))) (asked : ℤ) (e : asked ≡ requestedBy l (back (v .«var_request»)) (back last) (v .kva) size) where
           size-is : size ≡ wattsFirst l r on s
-          unfolding wattsFirst
-          size-is = es ∙ ap natAbs watts-back
+          size-is = es ∙ ap natAbs watts-back ∙ first-watts
 
           after-asked : asked ≡ requestedOf l r last on s
           unfolding requestedOf
@@ -271,12 +285,13 @@ module _ (l : Lead) (r : Roof) (last : ℤ) (on : Bool) (s : Sun) where
               ∙ ap (requestedBy l (v .«var_request») last (v .kva)) size-is
 
           pub after-step : (y : Given) → y ≡ with-vars x (back asked) → y ≡ litStep l r last on s
-          unfolding litStep wattsFirst
+          unfolding litStep
           after-step y ey =
               let p = and-parts (l .fresh) (l .after) t in
+              let fits = subst⁻¹ (λ (n : ℕ). natAbs (requestedOf l r last on s) ≤ legOf (v .kva) n) first-watts (first-fits (p .0) (p .1)) in
               ey
               ∙ ap₂ with-vars given-is (asked-is asked after-asked)
-              ∙ step-others l r on s (requestedOf l r last on s) (p .1) (v .«var_request») (first-fits (p .0) (p .1))
+              ∙ step-others l r on s (requestedOf l r last on s) (p .1) (pos 0) fits
 
           pub after-kept : (kept : ℤ) → mag kept < 2 ^ 31 → kept ≡ keptBy l (back last) (back asked) → back kept ≡ varsKept l r last on s
           after-kept = kept-is asked after-asked

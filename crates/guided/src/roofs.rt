@@ -34,8 +34,8 @@ fn with_vars(g: Given, vars: i32) -> Given
     }
 }
 
-// One step led by what the circle leaves after the watts: these come first, and the vars that are
-// then requested fit beside them.
+// One step led by what the circle leaves after the watts: these come first, so that a step with no
+// vars has them, and the vars that are then requested fit beside them.
 fn after_watts(
     v: Inverter,
     bytes: &[u8],
@@ -53,7 +53,7 @@ fn after_watts(
     ensures { λ r. ⌜ r .given ≡ litStep l (roofBy v (now (bytes .entry)) warm efficiency) last on s ⌝ }
     ensures { λ r. ⌜ r .vars ≡ varsKept l (roofBy v (now (bytes .entry)) warm efficiency) last on s ⌝ }
 {
-    let led = led_inverter(l, v, v.var_request);
+    let led = led_inverter(l, v, 0);
     let g = solar::step_within(led, bytes, warm, efficiency, on, s);
     let asked = lead::requested(l, v.var_request, last, v.kva, whole::size32(g.watts));
     Shone {

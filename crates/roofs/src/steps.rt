@@ -20,7 +20,7 @@ use solar::Sun;
 use stick::ROOF_BYTES;
 
 // The inverter whose field stands at a place gives what its step gives, by what leads it and the vars
-// last requested of it. One that is off stays so in the dark, whatever its values are.
+// last requested of it. One that is off stays so in the dark, whatever leads it.
 fn light(bytes: &[u8], at: usize, on: bool, s: Sun, l: Lead, last: i32) -> Shone
     requires { ⌜ Roofed (inverterAt (now bytes) (at + header)) (now bytes) (at + 25) (at + 157) ⌝ }
     requires { ⌜ at + 286 ≤ length (now bytes) ⌝ }
@@ -29,7 +29,9 @@ fn light(bytes: &[u8], at: usize, on: bool, s: Sun, l: Lead, last: i32) -> Shone
     ensures { λ r. ⌜ r .given ≡ litStep l (roofHere (now (bytes .entry)) at) last on s ⌝ }
     ensures { λ r. ⌜ r .vars ≡ varsKept l (roofHere (now (bytes .entry)) at) last on s ⌝ }
 {
-    if !(l.leads | l.after | l.fresh) & (!on & (s.irradiance == 0)) {
+    let v = fields::inverter_at(bytes, at + 3);
+    if !on & (s.irradiance == 0) {
+        let asked = lead::requested(l, v.var_request, last, v.kva, 0);
         return Shone {
             given: Given {
                 on: false,
@@ -37,10 +39,9 @@ fn light(bytes: &[u8], at: usize, on: bool, s: Sun, l: Lead, last: i32) -> Shone
                 vars: 0,
                 dc: 0,
             },
-            vars: last,
+            vars: lead::kept(l, last, asked),
         };
     }
-    let v = fields::inverter_at(bytes, at + 3);
     guided::light(v, bytes, at + 25, at + 157, on, s, l, last)
 }
 

@@ -11,7 +11,7 @@ led-inverter-requires c κs = search needs
 
 step-within-requires : tie.Need-step-within-requires
 step-within-requires c κs =
-    let s = c .before .before .before in
+    let s = c .before .before in
     let a = s .args in
     let r = roofBy (a .v) (a .bytes .now) (a .warm) (a .efficiency) in (
       record {
@@ -27,7 +27,7 @@ size32-requires c κs = search needs
 
 requested-requires : tie.Need-requested-requires
 requested-requires c κs =
-    let s = c .before .before .before .before .before .before .before in
+    let s = c .before .before .before .before .before .before in
     let a = s .args in
     requested-asks (a .l) (roofBy (a .v) (a .bytes .now) (a .warm) (a .efficiency)) (a .last) (a .on) (a .s) (s .pre .0 .roof-in) (s .pre .1 .1 .0)
 
@@ -44,7 +44,7 @@ returns c =
     let z = q .before .before in
     let o = z .before .before in
     let w = o .before in
-    let s = w .before .before .before in
+    let s = w .before .before in
     let a = s .args in
     let r = roofBy (a .v) (a .bytes .now) (a .warm) (a .efficiency) in (
       after-step (a .l) r (a .last) (a .on) (a .s) (s .pre .0 .roof-in) (s .pre .1 .1 .0) (s .pre .1 .1 .1) (w .led-inverter .result) (w .led-inverter .ensures)
