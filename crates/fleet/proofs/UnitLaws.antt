@@ -6,7 +6,9 @@ use Prim.Native.Nat.{ℕ, _≤_, _<_, _^_}
 use lib.Dec.{leb}
 use lib.IntN.{ℤ}
 use lib.Signed.{mag}
+use mir.Syntax.{w32}
 use borrow.Author.Tests.{le-leb}
+use Rattle.whole.proofs.SignLaws.{read}
 use Rattle.unit.specs.declared.Unit.{Unit}
 use Rattle.unit.specs.Ranges.{idleDraw, memberIn, unitIn, holding, Ranged}
 use Rattle.unit.proofs.RangeLaws.{Bounds, bounds}
@@ -15,8 +17,8 @@ use Rattle.storage.specs.declared.Outcome.{Outcome}
 use Rattle.storage.specs.Step.{stepOf}
 use Rattle.guided.specs.Units.{ledStep, varsKept}
 use Rattle.guided.specs.Units.{Guiding}
-use Rattle.guided.proofs.SharedLaws.{back, last-back}
-use Rattle.guided.proofs.UnitLaws.{step-read, kept-read, unled-step, unled-kept}
+use Rattle.guided.proofs.SharedLaws.{back, last-back, none-leads}
+use Rattle.guided.proofs.UnitLaws.{step-read, kept-read, unled-is, stands-is}
 
 -- ---- a unit that holds something else
 pub holding-in : (u : Unit) (s : ℕ) → unitIn u ≡ true → s ≤ u .rated → unitIn (holding u s) ≡ true
@@ -34,21 +36,21 @@ module _ (l : Lead) (u : Unit) (s : ℕ) (last : ℤ) (seconds : ℕ) (request :
   pub ranged : Ranged (holding u s) seconds
   ranged = holding-ranged u s seconds r w
 
-  -- the unit that it read, with what it holds now
-  module _ (v : Unit) (e : v ≡ holding u s) where
-    pub give-asks : Ranged v seconds × Guiding l (back last)
-    give-asks = (subst⁻¹ (λ (x : Unit). Ranged x seconds) e ranged, subst⁻¹ (Guiding l) (last-back l last g) g)
+  pub give-asks : Ranged (holding u s) seconds × Guiding l (back last)
+  give-asks = (ranged, subst⁻¹ (Guiding l) (last-back l last g) g)
 
-    pub step-is : (o : Outcome) → o ≡ ledStep l v (back last) seconds (back request) → o ≡ ledStep l (holding u s) last seconds request
-    step-is o d = step-read l (holding u s) last seconds request ranged g h o (d ∙ ap (λ (x : Unit). ledStep l x (back last) seconds (back request)) e)
+  pub step-is : (o : Outcome) → o ≡ ledStep l (holding u s) (back last) seconds (back request) → o ≡ ledStep l (holding u s) last seconds request
+  step-is = step-read l (holding u s) last seconds request ranged g h
 
-    pub kept-is : (k : ℤ) → k ≡ varsKept l v (back last) seconds (back request) → k ≡ varsKept l (holding u s) last seconds request
-    kept-is k d = kept-read l (holding u s) last seconds request ranged g h k (d ∙ ap (λ (x : Unit). varsKept l x (back last) seconds (back request)) e)
+  pub kept-is : (k : ℤ) → k ≡ varsKept l (holding u s) (back last) seconds (back request) → k ≡ varsKept l (holding u s) last seconds request
+  kept-is = kept-read l (holding u s) last seconds request ranged g h
 
   -- where nothing leads
   module _ (t : not (l .leads || l .after || l .fresh) ≡ true) where
-    pub unled-is : (o : Outcome) → o ≡ stepOf (holding u s) seconds (back request) → o ≡ ledStep l (holding u s) last seconds request
-    unled-is o e = unled-step l (holding u s) last seconds request ranged g h t o e
+    pub own-is : (o : Outcome) → o ≡ stepOf (holding u s) seconds (back request) → o ≡ ledStep l (holding u s) last seconds request
+    own-is o e =
+        let n = none-leads l t in
+        e ∙ ap (stepOf (holding u s) seconds) (read w32 request h) ∙ sym (unled-is l (holding u s) last seconds request (n .0) (n .1 .0) (n .1 .1))
 
-    pub unled-keeps : back last ≡ varsKept l (holding u s) last seconds request
-    unled-keeps = unled-kept l (holding u s) last seconds request ranged g h t
+    pub own-keeps : back last ≡ varsKept l (holding u s) last seconds request
+    own-keeps = last-back l last g ∙ sym (stands-is l (holding u s) last seconds request (none-leads l t .0))

@@ -13,7 +13,6 @@ ghost use Rattle.lead.specs.Lead.{Modest};
 ghost use Rattle.fleet.specs.Posts.{Ready, Stored, Held, Unled, siteIn};
 use super::Frame;
 use super::Moment;
-use super::units;
 use reading::Measure;
 use reading::Reading;
 use records::RECORD_BYTES;
@@ -155,7 +154,7 @@ fn give_led(
         let lead = m.lead;
         let request = requests[i];
         let last = vars[i];
-        let g = units::give(rows, i, head.seconds, stored[i], request, lead, last);
+        let g = guided::give(rows, i, stored[i], head.seconds, request, lead, last);
         let o = g.outcome;
         let left = o.stored;
         stored[i] = left;

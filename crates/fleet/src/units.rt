@@ -56,7 +56,7 @@ pub fn start(units: &[[u64; 24]], stored: &mut [u64], requests: &mut [i32], vars
 }
 
 // One step of the unit of row i, which holds so much and is asked a request, by what leads it and the
-// vars last requested of it. That of one that nothing leads goes by what its row keeps.
+// vars last requested of it, all by what its row keeps.
 pub fn give(
     units: &[[u64; 24]],
     i: usize,
@@ -80,6 +80,5 @@ pub fn give(
             vars: last,
         };
     }
-    let u = rows::unit_holding(units, i, held);
-    guided::give(u, seconds, request, l, last)
+    guided::give(units, i, held, seconds, request, l, last)
 }

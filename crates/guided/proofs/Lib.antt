@@ -2,5 +2,6 @@
 pub mod SharedLaws
 pub mod UnitLaws
 pub mod LedProved
+pub mod RowLaws
 pub mod RoofLaws
 pub mod LitProved

@@ -1,6 +1,6 @@
 -- What a unit and an inverter share while a voltage leads them, over plain values: the priority that counts, the circle's watts, the vars requested and those
 -- kept. Assumes nothing.
-use mathlib.Core.Path.{_≡_, refl, sym, ap, ap₂, _∙_, subst}
+use mathlib.Core.Path.{_≡_, refl, sym, ap, ap₂, _∙_, subst, subst⁻¹}
 use mathlib.Core.Bool.{Bool, true, false, not, cond, _&&_, _||_}
 use Prim.Native.Nat.{ℕ, _^_, _≤_, _<_, min}
 use native.Mathlib.Nat.{lt-of-le-of-lt}
@@ -50,15 +50,18 @@ module _ (l : Lead) where
   pub first-most : (p : ℕ) → p ≤ 1 → firstBy l p ≤ 1
   first-most p h = by-test (λ (n : ℕ). n ≤ 1) (l .after) 0 p (λ t. omega arith) (λ t. h)
 
-  -- watts come first: they do not hang on the vars
-  pub watts-same : l .after ≡ true → (S p v w asked : ℕ) → wattsIn S (firstBy l p) v asked ≡ wattsIn S (firstBy l p) w asked
-  watts-same t S p v w asked = sym (watts-first S (firstBy l p) v asked other) ∙ watts-first S (firstBy l p) w asked other
+  -- watts come first: they are at most S, and do not hang on the vars
+  pub watts-held : l .after ≡ true → (S p v asked : ℕ) → min asked S ≡ wattsIn S (firstBy l p) v asked
+  watts-held t S p v asked = watts-first S (firstBy l p) v asked other
     where
       none : firstBy l p ≡ 0
       none = ap (λ (a : Bool). cond a 0 p) t
 
       other : firstBy l p ≡ 1 → ⊥
       other e = let z = none in omega arith
+
+  pub watts-same : l .after ≡ true → (S p v w asked : ℕ) → wattsIn S (firstBy l p) v asked ≡ wattsIn S (firstBy l p) w asked
+  watts-same t S p v w asked = sym (watts-held t S p v asked) ∙ watts-held t S p w asked
 
   -- ---- the vars requested, by the own, those last requested, S and the watts
   module _ (own last : ℤ) (S : ℕ) where
@@ -75,6 +78,11 @@ module _ (l : Lead) where
 
     pub requested-none : l .leads ≡ false → l .fresh ≡ false → (n : ℕ) → requestedBy l own last S n ≡ own
     requested-none d f n = sym (requested-own l own last S n f d)
+
+    -- by what the circle leaves after the watts
+    pub requested-after : l .fresh ≡ true → l .after ≡ true → (n : ℕ) → cut (pos (legOf S n) *ℤ l .y) 10000 ≡ requestedBy l own last S n
+    requested-after f a n =
+        sym (ap (λ (b : Bool). cut (pos (baseOf b S n) *ℤ l .y) 10000) a) ∙ requested-fresh l own last S n f
 
     module _ (g : Guiding l last) (n : ℕ) where
       pub requested-small : natAbs own ≤ 100000000 → S ≤ 100000000 → natAbs (requestedBy l own last S n) ≤ 100000000
@@ -96,6 +104,9 @@ module _ (l : Lead) where
 module _ (l : Lead) (last : ℤ) (g : Guiding l last) where
   pub last-back : back last ≡ last
   last-back = small-same last (g .last-small)
+
+  pub guiding-back : Guiding l (back last)
+  guiding-back = subst⁻¹ (Guiding l) last-back g
 
   -- the vars requested, as they are asked for
   pub asked-read : (own : ℤ) → natAbs own ≤ 100000000 → (S n : ℕ) (asked : ℤ) → asked ≡ requestedBy l (back own) (back last) S n

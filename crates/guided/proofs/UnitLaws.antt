@@ -1,8 +1,8 @@
 -- One step of a unit that a voltage leads, from what the code has. Where watts come first, neither what the unit holds nor what flows hangs on the vars
 -- requested. Assumes nothing.
 use mathlib.Core.Path.{_≡_, refl, sym, ap, ap₂, _∙_, subst⁻¹}
-use mathlib.Core.Bool.{Bool, true, false, not, cond, _&&_, _||_}
-use Prim.Native.Nat.{ℕ, _^_, _≤_, _<_}
+use mathlib.Core.Bool.{Bool, true, false, cond, _&&_}
+use Prim.Native.Nat.{ℕ, _^_, _≤_, _<_, zero-le}
 use native.Mathlib.Nat.{le-trans, le-of-eq, add-le-add}
 use lib.Dec.{leb}
 use lib.IntN.{ℤ, pos, negℤ, natAbs, _+ℤ_, -ℤ-+ℤ-cancel}
@@ -30,7 +30,7 @@ use Rattle.lead.specs.Lead.{firstBy, lead, requestedBy, keptBy}
 use Rattle.lead.specs.Lead.{Modest}
 use Rattle.guided.specs.Units.{Guiding}
 use Rattle.guided.specs.Units.{ledUnit, wattsFirst, requestedOf, ledStep, varsKept}
-use Rattle.guided.proofs.SharedLaws.{back, small-back, small-same, none-leads, first-most, watts-same, requested-same, requested-none, requested-small, kept-stands, last-back, asked-read, asked-back, kept-back}
+use Rattle.guided.proofs.SharedLaws.{back, small-back, small-same, first-most, watts-same, requested-same, requested-none, requested-small, kept-stands, last-back, asked-read, asked-back, kept-back}
 
 -- ---- sizes of a step
 module _ (u : Unit) (s : ℕ) (request : ℤ) (r : Ranged u s) where
@@ -50,7 +50,7 @@ module _ (u : Unit) (s : ℕ) (request : ℤ) (r : Ranged u s) where
   carried-back = -ℤ-+ℤ-cancel (inverterWatts u (flowOf u s request)) (pos (gridLoss u))
 
 -- ---- the unit with another priority and other vars, and the led one, from what the code has
-abbrev unitWith : Unit → ℕ → ℤ → Unit
+abbrev pub unitWith : Unit → ℕ → ℤ → Unit
 unitWith u priority vars = record {
   rated = u .rated;
   reserve = u .reserve;
@@ -74,24 +74,34 @@ pub led-made : (l : Lead) (u : Unit) (vars : ℤ) → mag vars < 2 ^ 31 → (fir
     → unitWith u first (back vars) ≡ ledUnit l u vars
 led-made l u vars h first e = ap₂ (unitWith u) e (read w32 vars h)
 
+-- what the inverter carries does not hang on them
+pub watts-with : (u : Unit) (priority : ℕ) (vars : ℤ) (f : Flow) → inverterWatts (unitWith u priority vars) f ≡ inverterWatts u f
+unfolding inverterWatts idleDraw
+watts-with u priority vars (Out x) = refl
+watts-with u priority vars (In x) = refl
+watts-with u priority vars Idle = refl
+
+-- it is in its ranges
+module _ (u : Unit) (s : ℕ) (r : Ranged u s) (priority : ℕ) (first : priority ≤ 1) (vars : ℤ) (small : natAbs vars ≤ 100000000) where
+  unit-same : unitIn (unitWith u priority vars) ≡ unitIn u
+  unfolding unitIn idleDraw
+  unit-same =
+      let b = bounds r in
+      ap₂ (λ (v p : Bool).
+      memberIn (u .rated) (u .reserve) (u .stored) (u .rating) (u .weight)
+      && between 1 100000000 (u .kva) && leb (u .«dc_loss») 10000000 && leb (u .«grid_loss») 10000000 && v
+      && between 1000 10000 (u .inverter) && between 1000 10000 (u .charge) && between 1000 10000 (u .discharge)
+      && p && leb (idleDraw u) (u .kva) && leb (u .provide) (u .kva) && leb (u .absorb) (u .kva))
+      (le-leb (natAbs vars) 100000000 small ∙ sym (le-leb (natAbs (u .«var_request»)) 100000000 (b .vars-most)))
+      (le-leb priority 1 first ∙ sym (le-leb (u .priority) 1 (b .priority-most)))
+
+  pub with-ranged : Ranged (unitWith u priority vars) s
+  with-ranged = record { unit = unit-same ∙ r .unit; seconds-in = r .seconds-in }
+
 -- ---- the led unit
 module _ (l : Lead) (u : Unit) where
-  -- it is in its ranges
-  module _ (s : ℕ) (r : Ranged u s) (vars : ℤ) (small : natAbs vars ≤ 100000000) where
-    unit-same : unitIn (ledUnit l u vars) ≡ unitIn u
-    unfolding unitIn idleDraw
-    unit-same =
-        let b = bounds r in
-        ap₂ (λ (v p : Bool).
-        memberIn (u .rated) (u .reserve) (u .stored) (u .rating) (u .weight)
-        && between 1 100000000 (u .kva) && leb (u .«dc_loss») 10000000 && leb (u .«grid_loss») 10000000 && v
-        && between 1000 10000 (u .inverter) && between 1000 10000 (u .charge) && between 1000 10000 (u .discharge)
-        && p && leb (idleDraw u) (u .kva) && leb (u .provide) (u .kva) && leb (u .absorb) (u .kva))
-        (le-leb (natAbs vars) 100000000 small ∙ sym (le-leb (natAbs (u .«var_request»)) 100000000 (b .vars-most)))
-        (le-leb (firstBy l (u .priority)) 1 (first-most l (u .priority) (b .priority-most)) ∙ sym (le-leb (u .priority) 1 (b .priority-most)))
-
-    pub led-ranged : Ranged (ledUnit l u vars) s
-    led-ranged = record { unit = unit-same ∙ r .unit; seconds-in = r .seconds-in }
+  pub led-ranged : (s : ℕ) → Ranged u s → (vars : ℤ) → natAbs vars ≤ 100000000 → Ranged (ledUnit l u vars) s
+  led-ranged s r = with-ranged u s r (firstBy l (u .priority)) (first-most l (u .priority) (bounds r .priority-most))
 
   -- without what leads, it is the unit
   pub led-own : l .after ≡ false → ledUnit l u (u .«var_request») ≡ u
@@ -107,14 +117,11 @@ module _ (l : Lead) (u : Unit) where
     unfolding flowOf discharged charged deliverable takeable removedBy addedBy
     flow-same = ap (λ (p : ℕ). cond (negative request) (charged (ledUnit l u b) s p) (discharged (ledUnit l u b) s p)) held-same
 
-    carried-by : (f : Flow) → inverterWatts (ledUnit l u a) f ≡ inverterWatts (ledUnit l u b) f
-    unfolding inverterWatts idleDraw
-    carried-by (Out x) = refl
-    carried-by (In x) = refl
-    carried-by Idle = refl
-
     pub carried-same : inverterWatts (ledUnit l u a) (flowOf (ledUnit l u a) s request) ≡ inverterWatts (ledUnit l u b) (flowOf (ledUnit l u b) s request)
-    carried-same = carried-by (flowOf (ledUnit l u a) s request) ∙ ap (inverterWatts (ledUnit l u b)) flow-same
+    carried-same =
+        let first = firstBy l (u .priority) in
+        let f = flowOf (ledUnit l u a) s request in
+        watts-with u first a f ∙ sym (watts-with u first b f) ∙ ap (inverterWatts (ledUnit l u b)) flow-same
 
     -- so a step with other vars is this step, but for its vars
     abbrev with-others : Flow → Outcome
@@ -169,7 +176,7 @@ module _ (l : Lead) (u : Unit) (last : ℤ) (s : ℕ) (request : ℤ) where
 
       -- the vars requested, as the code has them; then the led unit is in its ranges, and what is kept is right
       module _ (asked : ℤ) (ea : asked ≡ requestedOf l u last s request) where
-        asked-is : back asked ≡ requestedOf l u last s request
+        pub asked-is : back asked ≡ requestedOf l u last s request
         asked-is = asked-back l last g (requestedOf l u last s request) asked-small asked ea
 
         module _ (v : Unit) (ev : v ≡ ledUnit l u (back asked)) where
@@ -186,7 +193,7 @@ module _ (l : Lead) (u : Unit) (last : ℤ) (s : ℕ) (request : ℤ) where
           unfolding ledStep
           step-is o eo = eo ∙ ap₂ (λ (w : Unit) (z : ℤ). stepOf w s z) unit-is request-back
 
-        kept-is : (kept : ℤ) → mag kept < 2 ^ 31 → kept ≡ keptBy l (back last) (back asked) → back kept ≡ varsKept l u last s request
+        pub kept-is : (kept : ℤ) → mag kept < 2 ^ 31 → kept ≡ keptBy l (back last) (back asked) → back kept ≡ varsKept l u last s request
         unfolding varsKept
         kept-is = kept-back l last g (requestedOf l u last s request) asked-small asked ea
 
@@ -196,16 +203,6 @@ module _ (l : Lead) (u : Unit) (last : ℤ) (s : ℕ) (request : ℤ) where
 
       pub kept-read : (k : ℤ) → k ≡ varsKept l u (back last) s (back request) → k ≡ varsKept l u last s request
       kept-read k e = e ∙ ap₂ (λ (y z : ℤ). varsKept l u y s z) (last-back l last g) request-back
-
-      -- without what leads
-      module _ (t : not (l .leads || l .after || l .fresh) ≡ true) where
-        pub unled-step : (o : Outcome) → o ≡ stepOf u s (back request) → o ≡ ledStep l u last s request
-        unled-step o e =
-            let n = none-leads l t in
-            e ∙ ap (stepOf u s) request-back ∙ sym (unled-is (n .0) (n .1 .0) (n .1 .1))
-
-        pub unled-kept : back last ≡ varsKept l u last s request
-        unled-kept = last-back l last g ∙ sym (stands-is (none-leads l t .0))
 
       -- whatever the watts are
       module _ (t : (l .fresh && l .after) ≡ false) (asked : ℤ) (e : asked ≡ requestedBy l (back own) (back last) (u .kva) 0) where
@@ -225,19 +222,19 @@ module _ (l : Lead) (u : Unit) (last : ℤ) (s : ℕ) (request : ℤ) where
         pub before-kept : (kept : ℤ) → mag kept < 2 ^ 31 → kept ≡ keptBy l (back last) (back asked) → back kept ≡ varsKept l u last s request
         before-kept = kept-is asked before-asked
 
-      -- after the watts, which come first: those of a step with the own vars
-      module _ (t : (l .fresh && l .after) ≡ true) (v : Unit) (ev : v ≡ ledUnit l u (back own)) where
+      -- after the watts, which come first: those of a step without vars
+      module _ (t : (l .fresh && l .after) ≡ true) (v : Unit) (ev : v ≡ ledUnit l u (back (pos 0))) where
         abbrev first-unit : Unit
-        first-unit = ledUnit l u own
+        first-unit = ledUnit l u (pos 0)
 
         after : l .after ≡ true
         after = and-parts (l .fresh) (l .after) t .1
 
         first-is : v ≡ first-unit
-        first-is = ev ∙ ap (ledUnit l u) (small-same own (bounds r .vars-most))
+        first-is = ev ∙ ap (ledUnit l u) (small-same (pos 0) zero-le)
 
         first-ranged : Ranged first-unit s
-        first-ranged = led-ranged l u s r own (bounds r .vars-most)
+        first-ranged = led-ranged l u s r (pos 0) zero-le
 
         pub after-ranged : Ranged v s
         after-ranged = subst⁻¹ (λ (w : Unit). Ranged w s) first-is first-ranged
@@ -264,7 +261,7 @@ module _ (l : Lead) (u : Unit) (last : ℤ) (s : ℕ) (request : ℤ) where
             module _ (size : ℕ) (es : size ≡ natAbs (back carried)) (asked : ℤ) (e : asked ≡ requestedBy l (back own) (back last) (u .kva) size) where
               size-is : size ≡ natAbs (wattsFirst l u s request)
               unfolding wattsFirst
-              size-is = es ∙ ap natAbs carried-is
+              size-is = es ∙ ap natAbs (carried-is ∙ carried-same l u s request after (pos 0) own)
 
               after-asked : asked ≡ requestedOf l u last s request
               unfolding requestedOf
@@ -279,7 +276,7 @@ module _ (l : Lead) (u : Unit) (last : ℤ) (s : ℕ) (request : ℤ) where
                     → _≡_ {A = Outcome} (record { watts = back (o .watts); vars = back vars; stored = o .stored; loss = o .loss }) (ledStep l u last s request)
                 unfolding ledStep stepOf
                 after-step vars hv e =
-                    let a = step-same l u s request after own (requestedOf l u last s request) in
+                    let a = step-same l u s request after (pos 0) (requestedOf l u last s request) in
                     let k : back vars ≡ varsOf (ledUnit l u (requestedOf l u last s request)) (inverterWatts first-unit (flowOf first-unit s request)) =
                     read w32 vars hv ∙ e ∙ ap₂ varsOf (unit-is asked after-asked w ew) carried-is in
                     cc (watts-back, outcome-is)

@@ -40,23 +40,19 @@ parts-most b n h = let m : b * n ≤ b * 10000 = mul-le-mul-left b h in omega ar
 pub led-most : (b : ℕ) (y : ℤ) → natAbs y ≤ 10000 → natAbs (cut (pos b *ℤ y) 10000) ≤ b
 led-most b y h = le-trans (le-of-eq (ap natAbs (cut-product b y) ∙ size-signed (negative y) (b * natAbs y / 10000))) (parts-most b (natAbs y) h)
 
--- ---- from what the code has: the size and the sign of y, read back from its bits, and the base
-module _ (l : Lead) (S watts : ℕ) (small : natAbs (l .y) ≤ 10000) (few : S ≤ 100000000) (h : mag (l .y) < 2 ^ 31)
-    (size : ℕ) (es : size ≡ natAbs (toZ w32 (ofZ w32 (l .y)))) (b : ℕ) (eb : b ≡ baseOf (l .after) S watts) where
-  size-is : size ≡ natAbs (l .y)
-  size-is = sized (l .y) size h es
+-- ---- from what the code has: the size and the sign of y, read back from its bits
+module _ (y : ℤ) (b : ℕ) (small : natAbs y ≤ 10000) (few : b ≤ 100000000) (h : mag y < 2 ^ 31) (size : ℕ) (es : size ≡ natAbs (toZ w32 (ofZ w32 y))) where
+  size-is : size ≡ natAbs y
+  size-is = sized y size h es
 
   size-most : size ≤ 10000
   size-most = le-trans (le-of-eq size-is) small
 
-  base-most : b ≤ 100000000
-  base-most = le-trans (le-of-eq eb) (le-trans (base-le (l .after) S watts) few)
-
   pub product-fits : b * size < 2 ^ 64
-  product-fits = lt-of-le-of-lt (mul-le-mul base-most size-most) (lit< tt)
+  product-fits = lt-of-le-of-lt (mul-le-mul few size-most) (lit< tt)
 
   parts-small : b * size / 10000 ≤ 100000000
-  parts-small = le-trans (parts-most b size size-most) base-most
+  parts-small = le-trans (parts-most b size size-most) few
 
   pub parts-fit : b * size / 10000 < 2 ^ 32
   parts-fit = lt-of-le-of-lt parts-small (lit< tt)
@@ -64,12 +60,11 @@ module _ (l : Lead) (S watts : ℕ) (small : natAbs (l .y) ≤ 10000) (few : S �
   pub signed-small : (n : Bool) → SFits w32 (signed n (b * size / 10000))
   signed-small n = signed-fits w32 n (b * size / 10000) (lt-of-le-of-lt parts-small (lit< tt))
 
-  pub led-is : (n : Bool) → n ≡ negative (toZ w32 (ofZ w32 (l .y))) → (r : ℤ) → r ≡ signed n (b * size / 10000) → r ≡ ledVars l S watts
-  led-is n en r er =
+  pub part-is : (n : Bool) → n ≡ negative (toZ w32 (ofZ w32 y)) → (r : ℤ) → r ≡ signed n (b * size / 10000) → r ≡ cut (pos b *ℤ y) 10000
+  part-is n en r er =
       er
-      ∙ ap₂ (λ (t : Bool) (k : ℕ). signed t (b * k / 10000)) (en ∙ ap negative (read w32 (l .y) h)) size-is
-      ∙ sym (cut-product b (l .y))
-      ∙ ap (λ (k : ℕ). cut (pos k *ℤ l .y) 10000) eb
+      ∙ ap₂ (λ (t : Bool) (k : ℕ). signed t (b * k / 10000)) (en ∙ ap negative (read w32 y h)) size-is
+      ∙ sym (cut-product b y)
 
 -- ---- which vars are requested
 module _ (l : Lead) (own last : ℤ) (S watts : ℕ) where

@@ -1,10 +1,11 @@
 ghost use mathlib.Core.Path.{_≡_};
 ghost use mathlib.Core.Bool.{true};
 ghost use Prim.Native.Nat.{_+_, _≤_};
-ghost use lib.IntN.{pos, natAbs};
+ghost use lib.IntN.{pos, natAbs, _*ℤ_};
+ghost use Rattle.whole.specs.Quotient.{cut};
 ghost use Rattle.curve.specs.Curve.{curveAt};
 ghost use Rattle.curve.specs.Layout.{pointsAt};
-ghost use Rattle.lead.specs.Lead.{leadOf, firstBy, baseOf, ledVars, requestedBy, keptBy};
+ghost use Rattle.lead.specs.Lead.{leadOf, firstBy, baseOf, requestedBy, keptBy};
 ghost use Rattle.lead.specs.Lead.{Modest};
 ghost use Rattle.lead.specs.Posts.{leadingHere, LeadingThere};
 use super::Lead;
@@ -25,13 +26,13 @@ fn base(after: bool, s: u32, watts: u32) -> u32
 }
 
 // The base times the curve's value, cut toward zero.
-fn led(l: Lead, s: u32, watts: u32) -> i32
+pub fn part(l: Lead, base: u32) -> i32
     requires { ⌜ Modest l ⌝ }
-    requires { ⌜ s ≤ 100000000 ⌝ }
-    ensures { λ r. ⌜ r ≡ ledVars l s watts ⌝ }
+    requires { ⌜ base ≤ 100000000 ⌝ }
+    ensures { λ r. ⌜ r ≡ cut (pos base *ℤ l .y) 10000 ⌝ }
 {
     let size = whole::size32(l.y) as u64;
-    let parts = (base(l.after, s, watts) as u64) * size / 10000;
+    let parts = (base as u64) * size / 10000;
     whole::signed32(whole::below_zero32(l.y), parts as u32)
 }
 
@@ -43,7 +44,7 @@ pub fn requested(l: Lead, own: i32, last: i32, s: u32, watts: u32) -> i32
     ensures { λ r. ⌜ r ≡ requestedBy l own last s watts ⌝ }
 {
     if l.fresh {
-        return led(l, s, watts);
+        return part(l, base(l.after, s, watts));
     }
     if l.leads { last } else { own }
 }

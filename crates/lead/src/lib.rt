@@ -4,6 +4,7 @@ mod leading;
 pub use leading::first;
 pub use leading::kept;
 pub use leading::lead_at;
+pub use leading::part;
 pub use leading::requested;
 
 // The voltage of a step, in ten-thousandths of per unit, or that it has none.

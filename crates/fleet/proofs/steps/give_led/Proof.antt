@@ -1,6 +1,7 @@
 -- Each unit's store is replaced by what its step leaves and its vars by those kept, and its record laid behind the one before: after the last unit all are.
 use borrow.Author.Needs.{needs}
 use mathlib.Core.Path.{_≡_, ap, subst}
+use mathlib.Core.List.{[]}
 use Prim.Native.Nat.{_-_, _<_}
 use native.Mathlib.Nat.{le-trans, le-of-eq}
 use native.Mathlib.Omega.{arith}
@@ -8,12 +9,14 @@ use lib.IntN.{pos}
 use lib.ListN.{length, getD}
 use Rattle.unit.specs.declared.Unit.{Unit}
 use Rattle.unit.specs.Ranges.{Ranged}
+use Rattle.rows.specs.Rows.{unitBy}
 use Rattle.site.specs.Site.{Site, count}
 use Rattle.site.proofs.RangeLaws.{unit-ranged}
 use Rattle.guided.proofs.SharedLaws.{back}
 use Rattle.fleet.specs.Posts.{siteIn}
 use Rattle.fleet.proofs.SiteLaws.{rows-count, row-unit}
 use Rattle.fleet.proofs.StepLaws.{Giving, none-given, lengths, next-within, next-guiding, one-more, given-is, kept-is, all-given}
+use Rattle.fleet.proofs.UnitLaws.{holding-ranged}
 use Rattle.fleet.proofs.steps.give_led.Statement.{statement}
 use Rattle.fleet.proofs.steps.give_led.Tie as tie
 
@@ -90,11 +93,9 @@ give-requires c κs =
       (
         rd .rested,
         (
-          subst (λ (v : Unit). Ranged v (head .seconds)) u (unit-ranged (site s) (rd .sited) (p .i) (below t)),
-          (
-            le-trans within (le-of-eq (ap (λ (v : Unit). v .rated) u)),
-            next-guiding (site s) (a .m) (a .stored .now) (a .requests .now) (a .vars .now) (a .room .now) st f (p .i) (p .stored) (p .vars) (p .room) (p .inv) (below t) y,
-          ),
+          holding-ranged (unitBy (getD rows (p .i) [])) (getD (p .stored) (p .i) 0) (head .seconds)
+          (subst (λ (v : Unit). Ranged v (head .seconds)) u (unit-ranged (site s) (rd .sited) (p .i) (below t))) (le-trans within (le-of-eq (ap (λ (v : Unit). v .rated) u))),
+          next-guiding (site s) (a .m) (a .stored .now) (a .requests .now) (a .vars .now) (a .room .now) st f (p .i) (p .stored) (p .vars) (p .room) (p .inv) (below t) y,
         ),
       ),
     )
