@@ -4,7 +4,7 @@ use mathlib.Core.Path.{_≡_, sym, ap, ap₂, _∙_, subst⁻¹}
 use mathlib.Core.Bool.{Bool}
 use mathlib.Core.List.{List, [], _++_}
 use Prim.Native.Nat.{ℕ, _+_, _-_, _*_, _≤_}
-use native.Mathlib.Nat.{le-trans, le-of-eq}
+use native.Mathlib.Nat.{le-trans, le-of-eq, le-add-right}
 use native.Mathlib.Omega.{arith}
 use lib.IntN.{ℤ}
 use lib.ListN.{length, drop, take-append-drop}
@@ -55,6 +55,16 @@ left-is : (m : Mark) (s : List ℕ) (n : ℕ) (bytes : List ℕ) (head : ℕ) (n
 unfolding leftBy
 left-is m s n bytes head next k d st ek ed es =
     ap₂ (λ (x : Mark) (y : Stands). left x y s) (ek ∙ ap (λ (x : Due). markAfter m next n x (length bytes)) ed) es
+
+few-less : (a b : ℕ) → b ≤ 65535 → b - a ≤ 65535
+few-less a b p = omega arith
+
+-- the steps are no fewer after the fields, and those between are few
+pub not-back : {s : List ℕ} {m : Mark} {n : ℕ} {bytes : List ℕ} {head : ℕ} {next : State} → Ahead s m n bytes head next → m .state .steps ≤ next .steps
+not-back {m = m} {bytes = bytes} {head = head} h = le-trans (le-add-right (m .state .steps) (length (stepsFrom bytes (m .due) head))) (le-of-eq (h .counted))
+
+pub few-on : {s : List ℕ} {m : Mark} {n : ℕ} {bytes : List ℕ} {head : ℕ} {next : State} → Ahead s m n bytes head next → next .steps - m .state .steps ≤ 65535
+few-on {m = m} {next = next} h = few-less (m .state .steps) (next .steps) (h .few)
 
 -- ---- over the part of the state's bytes that the code lends, which is the site part
 module _ (s : List ℕ) (m : Mark) (n : ℕ) (bytes : List ℕ) (head : ℕ) (next : State) (h : Ahead s m n bytes head next) (part : List ℕ) (ep : part ≡ slice sitePlace (sitePlace + n) s) where

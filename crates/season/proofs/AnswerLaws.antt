@@ -2,8 +2,8 @@
 use mathlib.Core.Path.{_≡_, refl, sym, ap, ap₂, _∙_}
 use mathlib.Core.Bool.{Bool, true, false, cond}
 use mathlib.Core.List.{List, _++_}
-use Prim.Native.Nat.{ℕ, _+_, _*_, _≤_, _<_}
-use native.Mathlib.Nat.{zero-add, le-trans, le-of-eq}
+use Prim.Native.Nat.{ℕ, _+_, _-_, _*_, _≤_, _<_, min}
+use native.Mathlib.Nat.{zero-add, sub-zero, min-eq-left, le-trans, le-of-eq}
 use lib.Dec.{ltb, eqb}
 use lib.ListN.{length, drop}
 use borrow.Author.Tests.{lt-ltb, le-ltb, eq-eqb, ne-eqb}
@@ -29,6 +29,10 @@ result-length file = by-length (plantOf file) (stepsOf file)
 over : (bs room : List ℕ) (n : ℕ) → length bs ≡ n → laid room 0 bs ≡ bs ++ drop n room
 unfolding laid
 over bs room n e = ap (λ (k : ℕ). bs ++ drop k room) (zero-add (length bs) ∙ e)
+
+-- a part of the first n of k elements has n
+pub part-long : {n m k : ℕ} → n ≤ k → n ≡ m → min (n - 0) k ≡ m
+part-long {n} {m} {k} h e = ap (λ (x : ℕ). min x k) (sub-zero n) ∙ min-eq-left h ∙ e
 
 -- a step's records have so many bytes
 pub all-bytes : (file : List ℕ) {n m : ℕ} → n ≡ count (siteOf file) → m ≡ length (roofsOf file) → 40 * n + 29 * m ≡ allBytes (plantOf file)

@@ -1,5 +1,4 @@
 -- The site part grows; then the run goes over the fields, or nothing stands yet.
-use borrow.Author.Needs.{needs}
 use native.Mathlib.Omega.{arith}
 use Prim.Native.Nat.{ℕ, _+_, _-_, _≤_}
 use mathlib.Core.Path.{_≡_, refl, sym, ap, ap₂, _∙_, subst}
@@ -52,7 +51,7 @@ grow-requires c κs =
     (o, (mark-is k, (h .head-end .ensures, l)))
 
 begun-at-requires : tie.Need-begun-at-requires
-begun-at-requires c κs = search needs
+begun-at-requires c κs = tt
 
 -- what was grown
 grown : (g : tie.After-grow) → let a = first (marked g) .args in Grown (a .s .now) (g .grow .last .0) (a .bytes .now) (a .next) (g .grow .result)
@@ -96,10 +95,10 @@ run-requires c κs =
     (ahead t, omega (arith, r, ap length (records-are t)))
 
 same-length : tie.Need-same-length
-same-length c = search needs
+same-length c = c .before .before .before .before .run .kept .0 ∙ c .before .before .before .before .before .before .before .before .before .before .before .grow .kept .0
 
 same-length-2 : tie.Need-same-length-2
-same-length-2 c = search needs
+same-length-2 c = c .before .before .before .before .run .kept .1 .1 .1 .1 .1 .1 .0
 
 returns : tie.Need-returns
 returns c =
@@ -136,7 +135,7 @@ wait-requires c κs =
     )
 
 same-length-3 : tie.Need-same-length-3
-same-length-3 c = search needs
+same-length-3 c = c .before .before .wait .kept .0 ∙ c .before .before .before .before .before .before .before .before .grow .kept .0
 
 returns-2 : tie.Need-returns-2
 unfolding markIn

@@ -1,5 +1,4 @@
 -- Where the steps have begun nothing changes; else the fields before the steps are laid behind the site part, and the end field where the steps begin.
-use borrow.Author.Needs.{needs}
 use native.Mathlib.Omega.{arith}
 use Prim.Native.Nat.{ℕ, _+_, _-_, _≤_}
 use mathlib.Core.Path.{_≡_, sym, ap, ap₂, _∙_, subst}
@@ -28,7 +27,7 @@ unfolding markIn
 begun-is s = ap (λ (k : Mark). begun (k .state)) (s .pre .1 .0)
 
 begun-at-requires : tie.Need-begun-at-requires
-begun-at-requires c κs = search needs
+begun-at-requires c κs = tt
 
 returns : tie.Need-returns
 returns c =
@@ -89,7 +88,7 @@ ends-roomy c =
     omega (arith, site-is s, h, closing-room (a .s .now) o (a .bytes .now) (a .next) l (waits (k .before .before .before .before)) (sym (b .begun-at2 .ensures) ∙ c .if2 .taken))
 
 begun-at-requires-2 : tie.Need-begun-at-requires-2
-begun-at-requires-2 c κs = search needs
+begun-at-requires-2 c κs = tt
 
 add-close : tie.Need-add-close
 add-close c = omega (arith, ends-roomy (c .before))
@@ -106,7 +105,7 @@ add-result : tie.Need-add-result
 add-result c = omega (arith, ends-roomy (c .before .before .before .before))
 
 same-length : tie.Need-same-length
-same-length c = search needs
+same-length c = c .before .before .close .kept .0 ∙ c .before .before .before .before .before .before .before .before .copy .kept .0
 
 returns-2 : tie.Need-returns-2
 returns-2 c =
@@ -125,7 +124,7 @@ returns-2 c =
     (z .close .ensures ∙ ap₂ (λ (x y : ℕ). laid (k .copy .last .0) (sitePlace + (x + y)) closing) (site-is s) h))
 
 same-length-2 : tie.Need-same-length-2
-same-length-2 c = search needs
+same-length-2 c = c .before .before .before .before .copy .kept .0
 
 returns-3 : tie.Need-returns-3
 returns-3 c =

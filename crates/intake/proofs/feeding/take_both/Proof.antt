@@ -1,7 +1,7 @@
 -- The first field lies in the bytes put together, the others in the chunk; they are taken in one after the other.
 use borrow.Author.Needs.{needs}
 use native.Mathlib.Omega.{arith}
-use Prim.Native.Nat.{ℕ, _+_, _-_, _≤_}
+use Prim.Native.Nat.{ℕ, _+_, _-_, _≤_, zero-le}
 use mathlib.Core.Path.{_≡_, sym, ap, _∙_, subst}
 use mathlib.Core.List.{List}
 use lib.ListN.{length, take, drop}
@@ -40,7 +40,7 @@ others-are : (u : tie.After-u16-at) → slice (3 + u .u16-at .result - first u .
 others-are u = let a = first u .args in ap (λ (k : ℕ). slice (k - a .tail) (a .at - a .tail) (a .chunk .now)) (sym (size-is u))
 
 u16-at-requires : tie.Need-u16-at-requires
-u16-at-requires c κs = search needs
+u16-at-requires c κs = c .before .before .before .before .pre .1 .0
 
 cast-size : tie.Need-cast-size
 cast-size c = search needs
@@ -49,10 +49,10 @@ add-size : tie.Need-add-size
 add-size c = search needs
 
 sub-absorb : tie.Need-sub-absorb
-sub-absorb c = search needs
+sub-absorb c = zero-le
 
 part-absorb-start : tie.Need-part-absorb-start
-part-absorb-start c = search needs
+part-absorb-start c = zero-le
 
 part-absorb-end : tie.Need-part-absorb-end
 part-absorb-end c = search needs
@@ -125,10 +125,10 @@ take-rest-requires c κs =
     )
 
 same-length : tie.Need-same-length
-same-length c = search needs
+same-length c = c .before .before .before .before .take-rest .kept .0 ∙ c .before .before .before .before .before .before .before .before .before .before .before .absorb .kept .0
 
 same-length-2 : tie.Need-same-length-2
-same-length-2 c = search needs
+same-length-2 c = c .before .before .before .before .take-rest .kept .1 .1 .1 .1 .1 .0 ∙ c .before .before .before .before .before .before .before .before .before .before .before .absorb .kept .1 .1 .1 .0
 
 returns : tie.Need-returns
 returns c =

@@ -1,5 +1,5 @@
 -- Without a tail the whole fields lie in the chunk, and the bytes behind them become the tail.
-use borrow.Author.Needs.{needs}
+use native.Mathlib.Nat.{le-trans, le-of-eq, zero-add}
 use native.Mathlib.Omega.{arith}
 use mathlib.Core.Path.{ap, _∙_}
 use lib.ListN.{length}
@@ -21,10 +21,10 @@ take-joined-requires c κs =
     (g, (omega (arith, n), room))
 
 same-length : tie.Need-same-length
-same-length c = search needs
+same-length c = c .before .before .before .before .take-joined .kept .0
 
 same-length-2 : tie.Need-same-length-2
-same-length-2 c = search needs
+same-length-2 c = c .before .before .before .before .take-joined .kept .1 .1 .1 .1 .0
 
 returns : tie.Need-returns
 returns c = c .before .before .before .before .take-joined .ensures
@@ -45,7 +45,7 @@ take-rest-requires c κs =
             chunk-short (a .s .now) (a .chunk .now) (a .m) (a .r) g z,
             (
               chunk-leads (a .s .now) (a .chunk .now) (a .m) (a .r) g z,
-              omega (arith, room, ap length (chunk-results (a .s .now) (a .chunk .now) (a .m) (a .r) g z)),
+              le-trans (le-of-eq (zero-add _ ∙ ap length (chunk-results (a .s .now) (a .chunk .now) (a .m) (a .r) g z))) room,
             ),
           ),
         ),
@@ -53,10 +53,10 @@ take-rest-requires c κs =
     )
 
 same-length-3 : tie.Need-same-length-3
-same-length-3 c = search needs
+same-length-3 c = c .before .before .before .before .take-rest .kept .0
 
 same-length-4 : tie.Need-same-length-4
-same-length-4 c = search needs
+same-length-4 c = c .before .before .before .before .take-rest .kept .1 .1 .1 .1 .1 .0
 
 returns-2 : tie.Need-returns-2
 returns-2 c =

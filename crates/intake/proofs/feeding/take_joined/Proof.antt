@@ -1,8 +1,8 @@
 -- The first field is put together from the tail and the chunk and taken in before the others; where it is not whole, all becomes the tail.
-use borrow.Author.Needs.{needs}
+use native.Mathlib.Nat.{le-trans, le-of-eq, zero-add, sub-zero}
 use native.Mathlib.Omega.{arith}
-use Prim.Native.Nat.{ℕ, _+_, _-_, _≤_}
-use mathlib.Core.Path.{_≡_, sym, ap, _∙_}
+use Prim.Native.Nat.{ℕ, _+_, _-_, _≤_, zero-le}
+use mathlib.Core.Path.{_≡_, refl, sym, ap, _∙_}
 use mathlib.Core.List.{List, _++_}
 use lib.ListN.{length, take}
 use Rattle.octets.specs.BigEndian.{laid}
@@ -27,14 +27,17 @@ abbrev bytes : tie.Start → List ℕ
 bytes s = tailPart (s .args .s .now) ++ s .args .chunk .now
 
 few : (j : tie.After-join) → j .join .result ≤ largestField
-few j = omega (arith, j .join .ensures .0, take-most largestField (bytes (first j)))
+few j = le-trans (le-of-eq (j .join .ensures .0)) (take-most largestField (bytes (first j)))
+
+within : (j : tie.After-join) → j .join .result ≤ length (j .join .last .0)
+within j = le-trans (few j) (le-of-eq (sym (j .join .kept .0)))
 
 abbrev read : tie.After-join → List ℕ
 read j = take (j .join .result - 0) (j .join .last .0)
 
 joint-read : (j : tie.After-join) → read j ≡ take largestField (keptIn (first j .args .s .now) .tail ++ first j .args .chunk .now)
 unfolding keptIn
-joint-read j = let z : j .join .result - 0 ≡ j .join .result = omega arith in ap (λ (k : ℕ). take k (j .join .last .0)) z ∙ j .join .ensures .1
+joint-read j = ap (λ (k : ℕ). take k (j .join .last .0)) (sub-zero (j .join .result)) ∙ j .join .ensures .1
 
 next-is : (n : tie.After-mid) → let j = made (n .before .before) in fieldAt (first j .args .m .state) (read j) 0 ≡ Next (n .mid .given .0 .0)
 next-is n = sym (f .field .ensures .0) ∙ n .mid .given .1
@@ -65,7 +68,7 @@ stays n =
     joint-stays (a .s .now) (a .chunk .now) (a .m) (a .r) g some (read j) (joint-read j) (n .enum-told .given .0 .0) (stop-is n)
 
 slice-aggregate-join : tie.Need-slice-aggregate-join
-slice-aggregate-join c = search needs
+slice-aggregate-join c = refl
 
 join-requires : tie.Need-join-requires
 join-requires c κs =
@@ -74,28 +77,28 @@ join-requires c κs =
     (omega arith, open-sized (s .args .s .now) (g .is-open))
 
 sub-field : tie.Need-sub-field
-sub-field c = search needs
+sub-field c = zero-le
 
 part-field-start : tie.Need-part-field-start
-part-field-start c = search needs
+part-field-start c = zero-le
 
 part-field-end : tie.Need-part-field-end
-part-field-end c = let j = c .before .before in omega (arith, few j, j .join .kept)
+part-field-end c = within (c .before .before)
 
 field-requires : tie.Need-field-requires
-field-requires c κs = search needs
+field-requires c κs = zero-le
 
 enum-known-mid : tie.Need-enum-known-mid
-enum-known-mid c = search needs
+enum-known-mid c = c .match .keys1
 
 sub-take-both : tie.Need-sub-take-both
-sub-take-both c = search needs
+sub-take-both c = zero-le
 
 part-take-both-start : tie.Need-part-take-both-start
-part-take-both-start c = search needs
+part-take-both-start c = zero-le
 
 part-take-both-end : tie.Need-part-take-both-end
-part-take-both-end c = let j = made (c .before .before .before .before .before) in omega (arith, few j, j .join .kept)
+part-take-both-end c = within (made (c .before .before .before .before .before))
 
 take-both-requires : tie.Need-take-both-requires
 unfolding keptIn
@@ -110,22 +113,22 @@ take-both-requires c κs =
         f .header-there,
         (
           f .first-there,
-          (f .beyond-tail, (f .others-behind, (f .within, (f .short, (f .first-leads, (f .others-lead, omega (arith, room, ap length (f .results-are)))))))),
+          (f .beyond-tail, (f .others-behind, (f .within, (f .short, (f .first-leads, (f .others-lead, le-trans (le-of-eq (ap length (f .results-are))) room)))))),
         ),
       ),
     )
 
 enum-told : tie.Need-enum-told
-enum-told c = search needs
+enum-told c = c .match .keys2
 
 sub-take-rest : tie.Need-sub-take-rest
-sub-take-rest c = search needs
+sub-take-rest c = zero-le
 
 part-take-rest-start : tie.Need-part-take-rest-start
-part-take-rest-start c = search needs
+part-take-rest-start c = zero-le
 
 part-take-rest-end : tie.Need-part-take-rest-end
-part-take-rest-end c = let j = made (c .before .before .before .before) in omega (arith, few j, j .join .kept)
+part-take-rest-end c = within (made (c .before .before .before .before))
 
 take-rest-requires : tie.Need-take-rest-requires
 take-rest-requires c κs =
@@ -134,13 +137,13 @@ take-rest-requires c κs =
     let s = first j in
     let (g, (some, room)) = s .pre in
     let f = stays n in
-    (g .is-open, (omega arith, (omega arith, (omega (arith, f .short), (f .leads, omega (arith, room, ap length (f .results-are)))))))
+    (g .is-open, (zero-le, (zero-le, (f .short, (f .leads, le-trans (le-of-eq (zero-add _ ∙ ap length (f .results-are))) room)))))
 
 same-length : tie.Need-same-length
-same-length c = search needs
+same-length c = c .before .before .before .before .take-both .kept .0
 
 same-length-2 : tie.Need-same-length-2
-same-length-2 c = search needs
+same-length-2 c = c .before .before .before .before .take-both .kept .1 .1 .1 .1 .1 .1 .1 .0
 
 returns : tie.Need-returns
 returns c =
@@ -151,10 +154,10 @@ returns c =
     (y .take-both .ensures .0 ∙ ap bytesFor (f .kept-is), y .take-both .ensures .1 ∙ ap (laid (a .room .now) 0) (f .results-are))
 
 same-length-3 : tie.Need-same-length-3
-same-length-3 c = search needs
+same-length-3 c = c .before .before .before .before .take-rest .kept .0
 
 same-length-4 : tie.Need-same-length-4
-same-length-4 c = search needs
+same-length-4 c = c .before .before .before .before .take-rest .kept .1 .1 .1 .1 .1 .0
 
 returns-2 : tie.Need-returns-2
 returns-2 c =

@@ -1,5 +1,4 @@
 -- After the whole fields the bytes are a state without a tail, and the bytes behind them become its tail.
-use borrow.Author.Needs.{needs}
 use native.Mathlib.Omega.{arith}
 use Prim.Native.Nat.{ℕ, _+_, _-_, _≤_}
 use mathlib.Core.Path.{_≡_, refl, sym, ap, _∙_, subst}
@@ -23,13 +22,13 @@ part : (s : tie.Start) → let a = s .args in take (a .to - a .from) (drop (a .f
 part s = part-read (s .args .from) (s .args .to) (s .args .bytes .now) (s .pre .1 .0)
 
 sub-absorb : tie.Need-sub-absorb
-sub-absorb c = search needs
+sub-absorb c = c .before .before .before .before .pre .1 .0
 
 part-absorb-start : tie.Need-part-absorb-start
-part-absorb-start c = search needs
+part-absorb-start c = c .before .before .before .before .pre .1 .0
 
 part-absorb-end : tie.Need-part-absorb-end
-part-absorb-end c = search needs
+part-absorb-end c = c .before .before .before .before .pre .1 .1 .0
 
 absorb-requires : tie.Need-absorb-requires
 absorb-requires c κs =
@@ -69,10 +68,10 @@ keep-tail-requires c κs =
     )
 
 same-length : tie.Need-same-length
-same-length c = search needs
+same-length c = c .before .before .keep-tail .kept .0 ∙ c .before .before .before .before .before .before .before .before .absorb .kept .0
 
 same-length-2 : tie.Need-same-length-2
-same-length-2 c = search needs
+same-length-2 c = c .before .before .before .before .before .before .before .before .absorb .kept .1 .1 .1 .0
 
 returns : tie.Need-returns
 returns c =

@@ -1,8 +1,8 @@
 -- The first field is put together from the tail and the chunk, and is what it is in the two; the others lie in the chunk, by the tail's bytes further on.
-use borrow.Author.Needs.{needs}
+use native.Mathlib.Nat.{le-trans, le-of-eq, sub-zero}
 use native.Mathlib.Omega.{arith}
-use Prim.Native.Nat.{ℕ, _+_, _-_, _≤_, _<_}
-use mathlib.Core.Path.{_≡_, sym, ap, ap₂, _∙_}
+use Prim.Native.Nat.{ℕ, _+_, _-_, _≤_, _<_, zero-le}
+use mathlib.Core.Path.{_≡_, refl, sym, ap, ap₂, _∙_}
 use mathlib.Core.Bool.{false}
 use mathlib.Core.List.{List, _++_}
 use lib.Dec.{eqb}
@@ -32,10 +32,13 @@ abbrev bytes : tie.Start → List ℕ
 bytes s = tailPart (s .args .s .now) ++ s .args .chunk .now
 
 few : (j : tie.After-join) → j .join .result ≤ largestField
-few j = omega (arith, j .join .ensures .0, take-most largestField (bytes (first j)))
+few j = le-trans (le-of-eq (j .join .ensures .0)) (take-most largestField (bytes (first j)))
+
+within : (j : tie.After-join) → j .join .result ≤ length (j .join .last .0)
+within j = le-trans (few j) (le-of-eq (sym (j .join .kept .0)))
 
 joint-read : (j : tie.After-join) → take (j .join .result - 0) (j .join .last .0) ≡ take largestField (bytes (first j))
-joint-read j = let z : j .join .result - 0 ≡ j .join .result = omega arith in ap (λ (k : ℕ). take k (j .join .last .0)) z ∙ j .join .ensures .1
+joint-read j = ap (λ (k : ℕ). take k (j .join .last .0)) (sub-zero (j .join .result)) ∙ j .join .ensures .1
 
 -- the mark's state and tail are the state's
 state-is : (s : tie.Start) → s .args .m .state ≡ stateIn (s .args .s .now)
@@ -72,7 +75,7 @@ next-is n =
     sym (sym (n .next .given .1) ∙ f .field .ensures .0 ∙ ap₂ (λ (st : State) (l : List ℕ). fieldAt st l 0) (state-is (first j)) (joint-read j))
 
 slice-aggregate-join : tie.Need-slice-aggregate-join
-slice-aggregate-join c = search needs
+slice-aggregate-join c = refl
 
 join-requires : tie.Need-join-requires
 join-requires c κs =
@@ -81,31 +84,31 @@ join-requires c κs =
     (omega arith, open-sized (s .args .s .now) o)
 
 sub-field : tie.Need-sub-field
-sub-field c = search needs
+sub-field c = zero-le
 
 part-field-start : tie.Need-part-field-start
-part-field-start c = search needs
+part-field-start c = zero-le
 
 part-field-end : tie.Need-part-field-end
-part-field-end c = let j = c .before .before in omega (arith, few j, j .join .kept)
+part-field-end c = within (c .before .before)
 
 field-requires : tie.Need-field-requires
-field-requires c κs = search needs
+field-requires c κs = zero-le
 
 enum-known-number : tie.Need-enum-known-number
-enum-known-number c = search needs
+enum-known-number c = c .match .keys1
 
 enum-known-next : tie.Need-enum-known-next
-enum-known-next c = search needs
+enum-known-next c = c .match .keys2
 
 sub-beyond : tie.Need-sub-beyond
-sub-beyond c = search needs
+sub-beyond c = zero-le
 
 part-beyond-start : tie.Need-part-beyond-start
-part-beyond-start c = search needs
+part-beyond-start c = zero-le
 
 part-beyond-end : tie.Need-part-beyond-end
-part-beyond-end c = let j = c .before .before .before .before .before .before .before .before in omega (arith, few j, j .join .kept)
+part-beyond-end c = within (c .before .before .before .before .before .before .before .before)
 
 beyond-requires : tie.Need-beyond-requires
 beyond-requires c κs =

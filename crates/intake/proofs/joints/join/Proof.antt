@@ -67,7 +67,7 @@ add-result : tie.Need-add-result
 add-result c = let l = c .before .before .before .before .before .before .before .before in omega (arith, some-of l .1, short (l .before))
 
 same-length : tie.Need-same-length
-same-length c = search needs
+same-length c = c .before .before .copy2 .kept .0 ∙ c .before .before .before .before .before .before .copy .kept .0
 
 returns : tie.Need-returns
 returns c =

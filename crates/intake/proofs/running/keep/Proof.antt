@@ -1,4 +1,5 @@
 -- What stands is laid in its place and the mark before it, so that both stand before the site part as it was.
+use mathlib.Core.Path.{_∙_}
 use Rattle.intake.proofs.KeepLaws.{kept-after}
 use borrow.Author.Needs.{needs}
 use Rattle.intake.proofs.running.keep.Statement.{statement}
@@ -11,7 +12,7 @@ put-top-requires : tie.Need-put-top-requires
 put-top-requires c κs = search needs
 
 same-length : tie.Need-same-length
-same-length c = search needs
+same-length c = c .before .before .put-top .kept .0 ∙ c .before .before .before .before .before .before .put-stands .kept .0
 
 returns : tie.Need-returns
 returns c =

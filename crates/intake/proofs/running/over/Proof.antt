@@ -14,12 +14,11 @@ use Rattle.stretch.specs.Posts.{plantBy, standsBy}
 use Rattle.stretch.proofs.RoofLaws.{plant-read, planted}
 use Rattle.stretch.proofs.SiteLaws.{loaded-sited, frame-site}
 use Rattle.intake.proofs.SiteLaws.{held-alike, fit-alike}
-use borrow.Author.Needs.{needs}
 use Rattle.intake.proofs.running.over.Statement.{statement}
 use Rattle.intake.proofs.running.over.Tie as tie
 
 head-requires : tie.Need-head-requires
-head-requires c κs = search needs
+head-requires c κs = c .before .before .before .before .before .pre .0
 
 -- where the function starts, seen from where the head is known
 abbrev start : tie.After-head → tie.Start
@@ -66,13 +65,13 @@ framed-requires c κs =
     )
 
 roofs-place-requires : tie.Need-roofs-place-requires
-roofs-place-requires c κs = search needs
+roofs-place-requires c κs = c .before .before .before .before .before .before .before .pre .0
 
 function-place-requires : tie.Need-function-place-requires
-function-place-requires c κs = search needs
+function-place-requires c κs = c .before .before .before .before .before .before .before .before .pre .0
 
 is-guided-requires : tie.Need-is-guided-requires
-is-guided-requires c κs = search needs
+is-guided-requires c κs = (c .before .before .before .before .before .before .before .before .before .pre .0, c .function-place .ensures)
 
 along-requires : tie.Need-along-requires
 along-requires c κs =
@@ -104,19 +103,19 @@ along-requires c κs =
     )
 
 same-length : tie.Need-same-length
-same-length c = search needs
+same-length c = c .before .before .before .before .before .before .before .before .along .kept .1 .1 .1 .1 .0
 
 same-length-2 : tie.Need-same-length-2
-same-length-2 c = search needs
+same-length-2 c = c .before .before .before .before .before .before .before .before .along .kept .1 .1 .1 .1 .1 .0
 
 same-length-3 : tie.Need-same-length-3
-same-length-3 c = search needs
+same-length-3 c = c .before .before .before .before .before .before .before .before .along .kept .1 .1 .1 .1 .1 .1 .0
 
 same-length-4 : tie.Need-same-length-4
-same-length-4 c = search needs
+same-length-4 c = c .before .before .before .before .before .before .before .before .along .kept .1 .1 .1 .1 .1 .1 .1 .0
 
 same-length-5 : tie.Need-same-length-5
-same-length-5 c = search needs
+same-length-5 c = c .before .before .before .before .before .before .before .before .along .kept .1 .1 .1 .1 .1 .1 .1 .1 .0
 
 returns : tie.Need-returns
 returns c =

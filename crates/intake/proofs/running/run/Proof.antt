@@ -1,19 +1,19 @@
 -- A site has at most 64 units and 64 inverters, so that a part of each array holds a value for every one; and the records have so many bytes as the steps that
 -- were counted give.
-use mathlib.Core.Path.{_≡_, sym, ap, _∙_}
+use mathlib.Core.Path.{_≡_, refl, sym, ap, ap₂, _∙_}
 use mathlib.Core.List.{List}
-use Prim.Native.Nat.{ℕ, _+_, _-_, _≤_}
+use Prim.Native.Nat.{ℕ, _+_, _-_, _≤_, zero-le}
 use native.Mathlib.Nat.{le-trans, le-of-eq}
 use native.Mathlib.Omega.{arith}
-use lib.ListN.{length, take, drop, length-take}
+use lib.ListN.{length, take, drop}
 use lib.Seq.{slice}
 use Rattle.site.specs.Site.{count}
 use Rattle.stick.specs.Site.{siteOf, roofsOf}
 use Rattle.kept.specs.Layout.{sitePlace}
 use Rattle.kept.proofs.NumberLaws.{part-is}
 use Rattle.intake.specs.Posts.{recordsOver}
-use Rattle.intake.proofs.RunLaws.{part-accepted, as-many, few, fewer, size-is}
-use borrow.Author.Needs.{needs}
+use Rattle.intake.proofs.RunLaws.{not-back, few-on, part-accepted, as-many, few, fewer, size-is}
+use Rattle.intake.proofs.SiteLaws.{part-from, end-fits, end-within, both-few, both-fit, lent}
 use Rattle.intake.proofs.running.run.Statement.{statement}
 use Rattle.intake.proofs.running.run.Tie as tie
 
@@ -66,16 +66,16 @@ size-known b =
     size-is (a .s .now) (a .m) (a .n) (a .bytes .now) (a .head) (a .next) h part ep (b .bytes-of .result) (b .bytes-of .ensures)
 
 add-units : tie.Need-add-units
-add-units c = search needs
+add-units c = end-fits (c .before .before .before .args .n) (c .before .before .before .pre .0 .fits)
 
 sub-units : tie.Need-sub-units
-sub-units c = search needs
+sub-units c = part-from (c .before .before .before .args .n)
 
 part-units-start : tie.Need-part-units-start
-part-units-start c = search needs
+part-units-start c = part-from (c .before .before .before .before .args .n)
 
 part-units-end : tie.Need-part-units-end
-part-units-end c = search needs
+part-units-end c = end-within (c .before .before .before .before .args .s .now) (c .before .before .before .before .args .n) (c .before .before .before .before .pre .0 .long) (c .before .before .before .before .pre .0 .fits)
 
 units-requires : tie.Need-units-requires
 units-requires c κs =
@@ -87,16 +87,16 @@ units-requires c κs =
     part-accepted (a .s .now) (a .m) (a .n) (a .bytes .now) (a .head) (a .next) h part ep
 
 add-roofs : tie.Need-add-roofs
-add-roofs c = search needs
+add-roofs c = end-fits (c .before .before .before .before .before .before .args .n) (c .before .before .before .before .before .before .pre .0 .fits)
 
 sub-roofs : tie.Need-sub-roofs
-sub-roofs c = search needs
+sub-roofs c = part-from (c .before .before .before .before .before .before .args .n)
 
 part-roofs-start : tie.Need-part-roofs-start
-part-roofs-start c = search needs
+part-roofs-start c = part-from (c .before .before .before .before .before .before .before .args .n)
 
 part-roofs-end : tie.Need-part-roofs-end
-part-roofs-end c = search needs
+part-roofs-end c = end-within (c .before .before .before .before .before .before .before .args .s .now) (c .before .before .before .before .before .before .before .args .n) (c .before .before .before .before .before .before .before .pre .0 .long) (c .before .before .before .before .before .before .before .pre .0 .fits)
 
 roofs-requires : tie.Need-roofs-requires
 roofs-requires c κs =
@@ -108,19 +108,19 @@ roofs-requires c κs =
     part-accepted (a .s .now) (a .m) (a .n) (a .bytes .now) (a .head) (a .next) h part ep
 
 add-bytes-of : tie.Need-add-bytes-of
-add-bytes-of c = search needs
+add-bytes-of c = end-fits (c .before .before .before .before .before .before .before .before .before .args .n) (c .before .before .before .before .before .before .before .before .before .pre .0 .fits)
 
 sub-bytes-of : tie.Need-sub-bytes-of
-sub-bytes-of c = search needs
+sub-bytes-of c = part-from (c .before .before .before .before .before .before .before .before .before .args .n)
 
 part-bytes-of-start : tie.Need-part-bytes-of-start
-part-bytes-of-start c = search needs
+part-bytes-of-start c = part-from (c .before .before .before .before .before .before .before .before .before .before .args .n)
 
 part-bytes-of-end : tie.Need-part-bytes-of-end
-part-bytes-of-end c = search needs
+part-bytes-of-end c = end-within (c .before .before .before .before .before .before .before .before .before .before .args .s .now) (c .before .before .before .before .before .before .before .before .before .before .args .n) (c .before .before .before .before .before .before .before .before .before .before .pre .0 .long) (c .before .before .before .before .before .before .before .before .before .before .pre .0 .fits)
 
 sub-bytes-of-2 : tie.Need-sub-bytes-of-2
-sub-bytes-of-2 c = search needs
+sub-bytes-of-2 c = not-back (c .before .before .before .before .before .before .before .before .before .before .before .before .before .pre .0)
 
 bytes-of-requires : tie.Need-bytes-of-requires
 bytes-of-requires c κs =
@@ -129,31 +129,31 @@ bytes-of-requires c κs =
     let (h, f) = s .pre in
     let part = take (sitePlace + a .n - sitePlace) (drop sitePlace (a .s .now)) in
     let ep = part-is sitePlace (a .n) (a .s .now) in
-    (part-accepted (a .s .now) (a .m) (a .n) (a .bytes .now) (a .head) (a .next) h part ep, omega (arith, h .few))
+    (part-accepted (a .s .now) (a .m) (a .n) (a .bytes .now) (a .head) (a .next) h part ep, few-on h)
 
 sub-run-with : tie.Need-sub-run-with
-sub-run-with c = search needs
+sub-run-with c = zero-le
 
 part-rows-start : tie.Need-part-rows-start
-part-rows-start c = search needs
+part-rows-start c = zero-le
 
 part-rows-end : tie.Need-part-rows-end
 part-rows-end c = units-are (counted (sized (c .before))) .1
 
 sub-run-with-2 : tie.Need-sub-run-with-2
-sub-run-with-2 c = search needs
+sub-run-with-2 c = zero-le
 
 part-stored-start : tie.Need-part-stored-start
-part-stored-start c = search needs
+part-stored-start c = zero-le
 
 part-stored-end : tie.Need-part-stored-end
 part-stored-end c = units-are (counted (sized (c .before .before))) .1
 
 sub-run-with-3 : tie.Need-sub-run-with-3
-sub-run-with-3 c = search needs
+sub-run-with-3 c = zero-le
 
 part-requests-start : tie.Need-part-requests-start
-part-requests-start c = search needs
+part-requests-start c = zero-le
 
 part-requests-end : tie.Need-part-requests-end
 part-requests-end c = units-are (counted (sized (c .before .before .before))) .1
@@ -161,24 +161,24 @@ part-requests-end c = units-are (counted (sized (c .before .before .before))) .1
 add-run-with : tie.Need-add-run-with
 add-run-with c =
     let r = sized (c .before .before .before .before) in
-    omega (arith, units-are (counted r) .1, roofs-are r .1)
+    both-fit (counted r .units .result) (r .roofs .result) (units-are (counted r) .1) (roofs-are r .1)
 
 sub-run-with-4 : tie.Need-sub-run-with-4
-sub-run-with-4 c = search needs
+sub-run-with-4 c = zero-le
 
 part-vars-start : tie.Need-part-vars-start
-part-vars-start c = search needs
+part-vars-start c = zero-le
 
 part-vars-end : tie.Need-part-vars-end
 part-vars-end c =
     let r = sized (c .before .before .before .before) in
-    omega (arith, units-are (counted r) .1, roofs-are r .1)
+    both-few (counted r .units .result) (r .roofs .result) (units-are (counted r) .1) (roofs-are r .1)
 
 sub-run-with-5 : tie.Need-sub-run-with-5
-sub-run-with-5 c = search needs
+sub-run-with-5 c = zero-le
 
 part-on-start : tie.Need-part-on-start
-part-on-start c = search needs
+part-on-start c = zero-le
 
 part-on-end : tie.Need-part-on-end
 part-on-end c = roofs-are (sized (c .before .before .before .before .before)) .1
@@ -189,7 +189,9 @@ run-with-requires c κs =
     let (h, f) = start (counted r) .pre in
     let (e, l) = units-are (counted r) in
     let (d, m) = roofs-are r in
-    (h, (simp length-take (omega (arith, e, l)), (simp length-take (omega (arith, l)), (simp length-take (omega (arith, l)), (simp length-take (omega (arith, d, m)), (simp length-take (omega (arith, l, m)), f))))))
+    let u = counted r .units .result in
+    let v = r .roofs .result in
+    (h, (lent u _ _ e l, (lent u _ _ (sym (lent u u _ refl l)) l, (lent u _ _ (sym (lent u u _ refl l)) l, (lent v _ _ d m, (lent (u + v) _ _ (sym (ap₂ (λ (x y : ℕ). x + y) (lent u u _ refl l) (lent v v _ refl m))) (both-few u v l m), f))))))
 
 add-result : tie.Need-add-result
 add-result c =
@@ -198,10 +200,10 @@ add-result c =
     omega (arith, size-known b, s .pre .1, s .good .1 .1 .1 .1 .1 .1 .0)
 
 same-length : tie.Need-same-length
-same-length c = search needs
+same-length c = c .before .before .before .before .before .before .before .before .before .run-with .kept .0
 
 same-length-2 : tie.Need-same-length-2
-same-length-2 c = search needs
+same-length-2 c = c .before .before .before .before .before .before .before .before .before .run-with .kept .1 .1 .1 .1 .1 .1 .1 .1 .0
 
 returns : tie.Need-returns
 returns c =

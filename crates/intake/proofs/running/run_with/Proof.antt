@@ -3,14 +3,14 @@
 use mathlib.Core.Path.{_≡_, sym, ap, _∙_}
 use mathlib.Core.List.{List}
 use Prim.Native.Nat.{ℕ, _+_, _-_}
-use native.Mathlib.Omega.{arith}
+use native.Mathlib.Nat.{le-trans, le-of-eq}
 use lib.ListN.{length, take, drop}
 use Rattle.stick.specs.Site.{siteOf, roofsOf}
 use Rattle.kept.specs.declared.Mark.{Mark}
 use Rattle.kept.specs.Layout.{sitePlace}
 use Rattle.kept.proofs.NumberLaws.{part-is}
 use Rattle.intake.proofs.RunLaws.{part-accepted, as-many, few, fewer, fit, first-held, all-left, all-written}
-use borrow.Author.Needs.{needs}
+use Rattle.intake.proofs.SiteLaws.{part-from, end-fits, end-within, both-few}
 use Rattle.intake.proofs.running.run_with.Statement.{statement}
 use Rattle.intake.proofs.running.run_with.Tie as tie
 
@@ -41,16 +41,16 @@ flags-kept : (o : tie.After-over) → length (o .over .last .1 .1 .1 .1 .1 .1 .1
 flags-kept o = o .over .kept .1 .1 .1 .1 .1 .1 .1 .0 ∙ stood o .stand .kept .1 .1 .1 .1 .1 .1 .1 .0
 
 add-load : tie.Need-add-load
-add-load c = search needs
+add-load c = end-fits (c .before .before .before .before .before .before .before .args .c .site) (c .before .before .before .before .before .before .before .pre .0 .fits)
 
 sub-load : tie.Need-sub-load
-sub-load c = search needs
+sub-load c = part-from (c .before .before .before .before .before .before .before .args .c .site)
 
 part-load-start : tie.Need-part-load-start
-part-load-start c = search needs
+part-load-start c = part-from (c .before .before .before .before .before .before .before .before .args .c .site)
 
 part-load-end : tie.Need-part-load-end
-part-load-end c = search needs
+part-load-end c = end-within (c .before .before .before .before .before .before .before .before .args .s .now) (c .before .before .before .before .before .before .before .before .args .c .site) (c .before .before .before .before .before .before .before .before .pre .0 .long) (c .before .before .before .before .before .before .before .before .pre .0 .fits)
 
 load-requires : tie.Need-load-requires
 load-requires c κs =
@@ -87,16 +87,16 @@ stand-requires c κs =
     )
 
 add-over : tie.Need-add-over
-add-over c = search needs
+add-over c = end-fits (c .before .before .before .before .before .before .before .before .before .before .before .before .before .before .before .before .before .before .before .before .before .before .before .before .before .args .c .site) (c .before .before .before .before .before .before .before .before .before .before .before .before .before .before .before .before .before .before .before .before .before .before .before .before .before .pre .0 .fits)
 
 sub-over : tie.Need-sub-over
-sub-over c = search needs
+sub-over c = part-from (c .before .before .before .before .before .before .before .before .before .before .before .before .before .before .before .before .before .before .before .before .before .before .before .before .before .args .c .site)
 
 part-over-start : tie.Need-part-over-start
-part-over-start c = search needs
+part-over-start c = part-from (c .before .before .before .before .before .before .before .before .before .before .before .before .before .before .before .before .before .before .before .before .before .before .before .before .before .before .args .c .site)
 
 part-over-end : tie.Need-part-over-end
-part-over-end c = search needs
+part-over-end c = end-within (c .before .before .before .before .before .before .before .before .before .before .before .before .before .before .before .before .before .before .before .before .before .before .before .before .before .before .args .s .now) (c .before .before .before .before .before .before .before .before .before .before .before .before .before .before .before .before .before .before .before .before .before .before .before .before .before .before .args .c .site) (c .before .before .before .before .before .before .before .before .before .before .before .before .before .before .before .before .before .before .before .before .before .before .before .before .before .before .pre .0 .long) (c .before .before .before .before .before .before .before .before .before .before .before .before .before .before .before .before .before .before .before .before .before .before .before .before .before .before .pre .0 .fits)
 
 over-requires : tie.Need-over-requires
 over-requires c κs =
@@ -123,7 +123,7 @@ over-requires c κs =
             first-held state (a .c .mark) (a .c .site) (a .bytes .now) (a .c .head) (a .c .next) h part ep stored rs vs on (p .stand .ensures),
             (
               p .stand .kept .1 .1 .1 .1 .1 .1 .1 .0 ∙ eo ∙ ap (λ (b : List ℕ). length (roofsOf b)) (sym ep),
-              (h .upto, (h .there, (h .shines, (omega (arith, h .counted, h .few), fits)))),
+              (h .upto, (h .there, (h .shines, (le-trans (le-of-eq (h .counted)) (h .few), fits)))),
             ),
           ),
         ),
@@ -152,19 +152,19 @@ keep-requires c κs =
     let tail = ap (λ (x : Mark). x .tail) (k .mark-after .ensures) in (
       h .long,
       (
-        omega (arith, site, h .fits),
+        le-trans (le-of-eq site) (h .fits),
         (
           tail,
           (
-            omega (arith, stores-kept o, es, er, few),
-            (asks-kept o ∙ eq ∙ sym (stores-kept o ∙ es), (omega (arith, vars-kept o, ev, er, few, eo, fewer), omega (arith, flags-kept o, eo, fewer))),
+            le-trans (le-of-eq (stores-kept o ∙ es ∙ er)) few,
+            (asks-kept o ∙ eq ∙ sym (stores-kept o ∙ es), (le-trans (le-of-eq (vars-kept o ∙ ev)) (both-few (length (a .rows .now)) (length (a .on .now)) (le-trans (le-of-eq er) few) (le-trans (le-of-eq eo) fewer)), le-trans (le-of-eq (flags-kept o ∙ eo)) fewer)),
           ),
         ),
       ),
     )
 
 same-length : tie.Need-same-length
-same-length c = search needs
+same-length c = c .before .before .keep .kept .0
 
 same-length-2 : tie.Need-same-length-2
 same-length-2 c = loaded (stood (gone (c .before .before .before .before .before .before .before .before))) .load .kept .1 .0
@@ -182,7 +182,7 @@ same-length-6 : tie.Need-same-length-6
 same-length-6 c = flags-kept (gone (c .before .before .before .before .before .before .before .before))
 
 same-length-7 : tie.Need-same-length-7
-same-length-7 c = search needs
+same-length-7 c = gone (c .before .before .before .before .before .before .before .before) .over .kept .1 .1 .1 .1 .1 .1 .1 .1 .0
 
 returns : tie.Need-returns
 returns c =

@@ -3,7 +3,7 @@ use mathlib.Core.Path.{_≡_, sym, ap, _∙_}
 use mathlib.Core.Bool.{true, false}
 use mathlib.Core.List.{List}
 use Prim.Native.Nat.{ℕ, _+_, _-_, _≤_}
-use native.Mathlib.Omega.{arith}
+use native.Mathlib.Nat.{le-trans, le-of-eq}
 use lib.ListN.{length, take, drop}
 use lib.Seq.{slice}
 use Rattle.site.specs.Site.{count}
@@ -13,7 +13,7 @@ use Rattle.kept.specs.Kept.{begun}
 use Rattle.kept.specs.Layout.{sitePlace}
 use Rattle.kept.proofs.NumberLaws.{part-is}
 use Rattle.intake.proofs.StandLaws.{stands-kept, part-accepted, roofs-lent, stands-first}
-use borrow.Author.Needs.{needs}
+use Rattle.intake.proofs.SiteLaws.{part-from, end-fits, end-within, both-few}
 use Rattle.intake.proofs.running.stand.Statement.{statement}
 use Rattle.intake.proofs.running.stand.Tie as tie
 
@@ -25,15 +25,15 @@ units-are : (s : tie.Start) → (length (s .args .stored .now) ≡ count (siteOf
 units-are s =
     let (long, (fits, (ok, (eu, (es, more))))) = s .pre in
     let e = es ∙ rows-there (site s) (s .args .rows .now) eu in
-    (e, omega (arith, e, few-units (site s) ok))
+    (e, le-trans (le-of-eq e) (few-units (site s) ok))
 
 roofs-few : (s : tie.Start) → length (s .args .on .now) ≤ 64
 roofs-few s =
     let (long, (fits, (ok, (eu, (es, (er, (eo, ev))))))) = s .pre in
-    omega (arith, eo, few-roofs (site s) ok)
+    le-trans (le-of-eq eo) (few-roofs (site s) ok)
 
 begun-at-requires : tie.Need-begun-at-requires
-begun-at-requires c κs = search needs
+begun-at-requires c κs = tt
 
 load-requires : tie.Need-load-requires
 load-requires c κs =
@@ -50,19 +50,19 @@ load-vars-requires : tie.Need-load-vars-requires
 load-vars-requires c κs =
     let s = c .before .before .before .before .before .before .before .before .before .before .before .before .before .before .before .before in
     let (long, (fits, (ok, (eu, (es, (er, (eo, ev))))))) = s .pre in
-    (long, omega (arith, ev, es, units-are s .1, roofs-few s))
+    (long, le-trans (le-of-eq ev) (both-few (length (s .args .rows .now)) (length (s .args .on .now)) (le-trans (le-of-eq (sym es)) (units-are s .1)) (roofs-few s)))
 
 same-length : tie.Need-same-length
-same-length c = search needs
+same-length c = c .before .before .before .before .before .before .before .before .before .before .load .kept .1 .0
 
 same-length-2 : tie.Need-same-length-2
-same-length-2 c = search needs
+same-length-2 c = c .before .before .before .before .before .before .before .before .before .before .load .kept .1 .1 .0
 
 same-length-3 : tie.Need-same-length-3
-same-length-3 c = search needs
+same-length-3 c = c .before .load-vars .kept .1 .0
 
 same-length-4 : tie.Need-same-length-4
-same-length-4 c = search needs
+same-length-4 c = c .before .before .before .before .before .load-on .kept .1 .0
 
 returns : tie.Need-returns
 returns c =
@@ -79,16 +79,16 @@ returns c =
     (length (a .stored .now)) (length (a .vars .now)) yet (units-are s .0) (ev ∙ ap (λ (k : ℕ). k + length (a .on .now)) (sym es)) ls lr (o .load-on .ensures) (v .load-vars .ensures)
 
 add-roofs-place : tie.Need-add-roofs-place
-add-roofs-place c = search needs
+add-roofs-place c = end-fits (c .before .before .before .before .before .args .n) (c .before .before .before .before .before .pre .1 .0)
 
 sub-roofs-place : tie.Need-sub-roofs-place
-sub-roofs-place c = search needs
+sub-roofs-place c = part-from (c .before .before .before .before .before .args .n)
 
 part-roofs-place-start : tie.Need-part-roofs-place-start
-part-roofs-place-start c = search needs
+part-roofs-place-start c = part-from (c .before .before .before .before .before .args .n)
 
 part-roofs-place-end : tie.Need-part-roofs-place-end
-part-roofs-place-end c = search needs
+part-roofs-place-end c = end-within (c .before .before .before .before .before .args .s .now) (c .before .before .before .before .before .args .n) (c .before .before .before .before .before .pre .0) (c .before .before .before .before .before .pre .1 .0)
 
 roofs-place-requires : tie.Need-roofs-place-requires
 roofs-place-requires c κs =
@@ -97,16 +97,16 @@ roofs-place-requires c κs =
     part-accepted (take (sitePlace + a .n - sitePlace) (drop sitePlace (a .s .now))) (site s) (part-is sitePlace (a .n) (a .s .now)) (s .pre .1 .1 .0)
 
 add-begin : tie.Need-add-begin
-add-begin c = search needs
+add-begin c = end-fits (c .before .before .before .before .before .before .before .args .n) (c .before .before .before .before .before .before .before .pre .1 .0)
 
 sub-begin : tie.Need-sub-begin
-sub-begin c = search needs
+sub-begin c = part-from (c .before .before .before .before .before .before .before .args .n)
 
 part-begin-start : tie.Need-part-begin-start
-part-begin-start c = search needs
+part-begin-start c = part-from (c .before .before .before .before .before .before .before .args .n)
 
 part-begin-end : tie.Need-part-begin-end
-part-begin-end c = search needs
+part-begin-end c = end-within (c .before .before .before .before .before .before .before .args .s .now) (c .before .before .before .before .before .before .before .args .n) (c .before .before .before .before .before .before .before .pre .0) (c .before .before .before .before .before .before .before .pre .1 .0)
 
 begin-requires : tie.Need-begin-requires
 begin-requires c κs =
@@ -119,16 +119,16 @@ begin-requires c κs =
     (roofs-lent (site s) (length (a .on .now)) eo part ep ok (p .roofs-place .result) (p .roofs-place .ensures), (es, (er, ev)))
 
 same-length-5 : tie.Need-same-length-5
-same-length-5 c = search needs
+same-length-5 c = c .before .before .before .before .before .before .begin .kept .1 .1 .1 .0
 
 same-length-6 : tie.Need-same-length-6
-same-length-6 c = search needs
+same-length-6 c = c .before .before .before .before .before .before .begin .kept .1 .1 .1 .1 .0
 
 same-length-7 : tie.Need-same-length-7
-same-length-7 c = search needs
+same-length-7 c = c .before .before .before .before .before .before .begin .kept .1 .1 .1 .1 .1 .0
 
 same-length-8 : tie.Need-same-length-8
-same-length-8 c = search needs
+same-length-8 c = c .before .before .before .before .before .before .begin .kept .1 .1 .1 .1 .1 .1 .0
 
 returns-2 : tie.Need-returns-2
 returns-2 c =

@@ -25,7 +25,7 @@ put-top-requires c κs =
     (search needs, (omega (arith, site, s .pre .1 .0), (omega (arith, tail), (omega (arith, tail), omega arith))))
 
 same-length : tie.Need-same-length
-same-length c = search needs
+same-length c = c .before .before .put-top .kept .0 ∙ c .before .before .before .before .before .before .before .clear-stands .kept .0
 
 returns : tie.Need-returns
 returns c =

@@ -26,7 +26,7 @@ put-top-requires c κs =
     (z .long, (tail-site (s .args .s .now) z (k .marked .result) (k .marked .ensures), (omega (arith, few), (omega (arith, from), omega arith))))
 
 same-length : tie.Need-same-length
-same-length c = search needs
+same-length c = c .before .before .put-top .kept .0
 
 returns : tie.Need-returns
 returns c =

@@ -1,10 +1,11 @@
 -- A site has at most 64 units and 64 inverters, so that a part of each array holds a value for every one, a part of the vars one for each of both, and a part of the room the records of a step.
-use Prim.Native.Nat.{_≤_}
-use native.Mathlib.Nat.{le-trans, le-of-eq}
+use mathlib.Core.Path.{ap₂}
+use Prim.Native.Nat.{_+_, _*_, _≤_}
+use native.Mathlib.Nat.{le-trans, le-of-eq, add-le-add, mul-le-mul-left}
 use native.Mathlib.Omega.{arith}
 use lib.ListN.{length-take}
 use Rattle.stretch.proofs.SiteLaws.{few-units, few-roofs}
-use Rattle.season.proofs.AnswerLaws.{all-bytes}
+use Rattle.season.proofs.AnswerLaws.{part-long, all-bytes}
 use borrow.Author.Needs.{needs}
 use Rattle.partner.proofs.judging.judged.Statement.{statement}
 use Rattle.partner.proofs.judging.judged.Tie as tie
@@ -15,6 +16,9 @@ few c = let s = c .before .before .before in le-trans (le-of-eq (c .units .ensur
 
 fewer : (c : tie.After-roofs) → c .roofs .result ≤ 64
 fewer c = let s = c .before .before .before .before in le-trans (le-of-eq (c .roofs .ensures)) (few-roofs (s .args .run .now) (s .pre))
+
+few-bytes : (c : tie.After-roofs) → 40 * c .before .units .result + 29 * c .roofs .result ≤ 4416
+few-bytes c = add-le-add (mul-le-mul-left 40 (few (c .before))) (mul-le-mul-left 29 (fewer c))
 
 units-requires : tie.Need-units-requires
 units-requires c κs = search needs
@@ -86,7 +90,7 @@ part-room-start : tie.Need-part-room-start
 part-room-start c = search needs
 
 part-room-end : tie.Need-part-room-end
-part-room-end c = let r = c .before .before .before .before .before in omega (arith, few (r .before), fewer r)
+part-room-end c = few-bytes (c .before .before .before .before .before)
 
 judged-with-requires : tie.Need-judged-with-requires
 judged-with-requires c κs =
@@ -100,13 +104,13 @@ judged-with-requires c κs =
       s .pre,
       (
         record {
-          rows-there = simp length-take (omega (arith, e, l));
-          stored-there = simp length-take (omega (arith, e, l));
-          requests-there = simp length-take (omega (arith, e, l));
-          flags-there = simp length-take (omega (arith, d, m));
-          vars-there = simp length-take (omega (arith, e, d, l, m));
+          rows-there = simp length-take (part-long l e);
+          stored-there = simp length-take (part-long l e);
+          requests-there = simp length-take (part-long l e);
+          flags-there = simp length-take (part-long m d);
+          vars-there = simp length-take (part-long (add-le-add l m) (ap₂ _+_ e d));
         },
-        simp length-take (omega (arith, all-bytes (s .args .run .now) e d, l, m)),
+        simp length-take (part-long (few-bytes r) (all-bytes (s .args .run .now) e d)),
       ),
     )
 

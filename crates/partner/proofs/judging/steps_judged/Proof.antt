@@ -3,11 +3,15 @@
 -- comes nearer to its end.
 use mathlib.Core.Path.{_≡_, sym, ap, ap₂, _∙_, subst, subst⁻¹}
 use mathlib.Core.List.{List}
-use Prim.Native.Nat.{ℕ, _+_, _-_, _*_, _≤_}
+use Prim.Native.Nat.{ℕ, _+_, _-_, _*_, _≤_, _<_}
+use native.Mathlib.Nat.{le-trans, le-of-eq, lt-of-le-of-lt, le-refl, le-add-left, le-add-right, add-le-add, mul-le-mul-left}
 use native.Mathlib.Omega.{arith}
+use lib.Dec.{lit≤}
 use lib.ListN.{length}
+use mir.Syntax.{w16}
+use mir.Facts.{fits-le, fits-lit, fits-widen}
 use Rattle.octets.specs.BigEndian.{laid}
-use Rattle.parts.specs.Header.{tagAt}
+use Rattle.parts.specs.Header.{tagAt, lengthAt}
 use Rattle.site.specs.declared.Step.{Step}
 use Rattle.site.specs.Site.{Plant, count}
 use Rattle.stick.specs.Site.{stepsOf}
@@ -19,9 +23,18 @@ use Rattle.stretch.specs.Stretch.{standsAfter, recordsFrom, allBytes}
 use Rattle.stretch.specs.Posts.{closedBy, plantBy, standsBy}
 use Rattle.stretch.proofs.HoldLaws.{vars-long}
 use Rattle.partner.proofs.GoingLaws.{Going, Turn, Brought, Stopped, shows, sets-out, turn, taken, stops, goes-on, arrives}
-use borrow.Author.Needs.{needs}
 use Rattle.partner.proofs.judging.steps_judged.Statement.{statement}
 use Rattle.partner.proofs.judging.steps_judged.Tie as tie
+
+-- ---- a field of k bytes at a place, where r is read as its length
+past-is : (at k r : ℕ) → r ≡ k → at + (3 + r) ≡ at + 3 + k
+past-is at k r e = omega arith
+
+length-there : (at n : ℕ) → at + 3 ≤ n → at + 1 + 2 ≤ n
+length-there at n h = omega arith
+
+nearer : (at r n : ℕ) → at + (3 + r) ≤ n → n - (at + (3 + r)) < n - at
+nearer at r n h = omega arith
 
 abbrev Inv-loop : tie.InvT-loop
 Inv-loop run t rows result stored₀ requests₀ vars₀ on₀ room₀ units size f w₀ at₀ stored requests vars on room w at =
@@ -55,6 +68,9 @@ few-roofs s = let (z, (so, rm)) = s .pre in so .planted .roofs .few
 room-sized : (s : tie.Start Inv-loop μ-loop) → length (s .args .room .now) ≡ size s
 room-sized s = let (z, (so, rm)) = s .pre in rm ∙ ap allBytes (sym (so .plant-is)) ∙ sized s
 
+few-bytes : (s : tie.Start Inv-loop μ-loop) → size s ≤ 4416
+few-bytes s = add-le-add (mul-le-mul-left 40 (few-units s)) (mul-le-mul-left 29 (few-roofs s))
+
 few-steps : (s : tie.Start Inv-loop μ-loop) → length (stepsOf (s .args .run .now)) ≤ 65535
 few-steps s = let (z, (so, rm)) = s .pre in omega (arith, steps-count (s .args .run .now) z, steps-most (s .args .run .now))
 
@@ -64,6 +80,22 @@ follows l =
     let s = start l in
     turn (plant s) (s .args .run .now) (s .args .result .now) (size s) (length (s .args .on .now)) (sized s) (few-steps s)
     (l .loop .stored) (l .loop .requests) (l .loop .vars) (l .loop .on) (l .loop .room) (l .loop .w) (l .loop .at) (l .loop .inv)
+
+-- its header is there
+there : (l : tie.At-loop Inv-loop μ-loop) → l .loop .at + 3 ≤ length (start l .args .run .now)
+there l = le-trans (le-add-right (l .loop .at + 3) (lengthAt (start l .args .run .now) (l .loop .at))) (follows l .field .within)
+
+-- each list is as long as it was
+stores-long : (l : tie.At-loop Inv-loop μ-loop) → length (l .loop .stored) ≡ length (start l .args .stored .now)
+stores-long l = let (z, (so, rm)) = start l .pre in l .loop .inv .held .units .stores ∙ sym (so .held .units .stores)
+
+asks-long : (l : tie.At-loop Inv-loop μ-loop) → length (l .loop .requests) ≡ length (start l .args .requests .now)
+asks-long l = let (z, (so, rm)) = start l .pre in l .loop .inv .held .units .asks ∙ sym (so .held .units .asks)
+
+all-vars-long : (l : tie.At-loop Inv-loop μ-loop) → length (l .loop .vars) ≡ length (start l .args .vars .now)
+all-vars-long l =
+    let (z, (so, rm)) = start l .pre in
+    vars-long (l .loop .inv .held) ∙ ap (λ (n : ℕ). count (plant (start l) .site) + n) (l .loop .inv .on-long) ∙ sym (vars-long (so .held))
 
 abbrev head : tie.Then1 Inv-loop μ-loop → tie.At-loop Inv-loop μ-loop
 head t = t .before .before
@@ -91,7 +123,7 @@ loop-holds c =
     sets-out (a .run .now) (a .result .now) z (a .t) (a .rows .now) (a .stored .now) (a .requests .now) (a .vars .now) (a .on .now) so (a .room .now) (size s) rm (sized s)
 
 u8-at-requires : tie.Need-u8-at-requires Inv-loop μ-loop
-u8-at-requires c κs = omega (arith, follows c .field .within)
+u8-at-requires c κs = le-trans (add-le-add (le-refl (c .loop .at)) (lit≤ tt)) (there c)
 
 on-field-requires : tie.Need-on-field-requires Inv-loop μ-loop
 on-field-requires c κs =
@@ -160,7 +192,7 @@ cast-out : tie.Need-cast-out Inv-loop μ-loop
 cast-out c = omega (arith, follows (head (taking (counting c))) .few-so-far)
 
 mul-out : tie.Need-mul-out Inv-loop μ-loop
-mul-out c = let l = head (taking (counting c)) in omega (arith, l .loop .inv .near, start l .good .1 .1 .1 .0)
+mul-out c = let l = head (taking (counting c)) in record { fits = lt-of-le-of-lt (l .loop .inv .near) (start l .good .1 .1 .1 .0 .0) }
 
 sub-brought : tie.Need-sub-brought Inv-loop μ-loop
 sub-brought c = brought (bringing c) .no-fewer
@@ -171,8 +203,8 @@ cast-brought c = omega (arith, brought (bringing c) .few)
 mul-brought : tie.Need-mul-brought Inv-loop μ-loop
 mul-brought c =
     let o = bringing c in
-    let s = start (head (taking o)) in
-    omega (arith, brought o .fits, brought o .long, few-units s, few-roofs s)
+    let b = brought o in
+    fits-le (le-trans (b .fits) (le-trans (le-of-eq (b .long)) (few-bytes (start (head (taking o)))))) (fits-lit tt)
 
 alike-requires : tie.Need-alike-requires Inv-loop μ-loop
 alike-requires c κs = let o = bringing (c .before) in (brought o .fits, head (taking o) .loop .inv .near)
@@ -196,43 +228,37 @@ stopped c =
 field-in-requires : tie.Need-field-in-requires Inv-loop μ-loop
 field-in-requires c κs = few-units (start (head (taking (held (c .before)))))
 
-add-wrong : tie.Need-add-wrong Inv-loop μ-loop
-add-wrong c =
+starts : (c : tie.After-struct-known4 Inv-loop μ-loop)
+    → let l = head (taking (held (c .before .before .before))) in
+    let s = start l in
+    size s * l .loop .w .step + c .before .field-in .result .start ≤ length (s .args .result .now)
+starts c =
     let t = c .before .before in
-    omega (arith, stopped t .starts, c .before .field-in .ensures .0, start (head (taking (held (t .before)))) .good .1 .1 .1 .0)
+    let l = head (taking (held (t .before))) in
+    let s = start l in
+    subst⁻¹ (λ (n : ℕ). size s * l .loop .w .step + n ≤ length (s .args .result .now)) (c .before .field-in .ensures .0) (stopped t .starts)
+
+add-wrong : tie.Need-add-wrong Inv-loop μ-loop
+add-wrong c = record { fits = lt-of-le-of-lt (starts c) (start (head (taking (held (c .before .before .before)))) .good .1 .1 .1 .0 .0) }
 
 wrong-requires : tie.Need-wrong-requires Inv-loop μ-loop
-wrong-requires c κs =
-    let t = c .before .before in
-    (omega (arith, follows (head (taking (held (t .before)))) .field .within), omega (arith, stopped t .starts, c .before .field-in .ensures .0))
+wrong-requires c κs = (there (head (taking (held (c .before .before .before)))), starts c)
 
 -- the field, seen from there
 abbrev wronged : tie.After-wrong Inv-loop μ-loop → tie.After-on-field Inv-loop μ-loop
 wronged x = held (x .before .before .before .before)
 
 same-length : tie.Need-same-length Inv-loop μ-loop
-same-length c =
-    let o = wronged c in
-    let l = head (taking o) in
-    let (z, (so, rm)) = start l .pre in
-    omega (arith, o .on-field .kept, l .loop .inv .held .units .stores, so .held .units .stores)
+same-length c = let o = wronged c in o .on-field .kept .1 .1 .1 .1 .0 ∙ stores-long (head (taking o))
 
 same-length-2 : tie.Need-same-length-2 Inv-loop μ-loop
-same-length-2 c =
-    let o = wronged c in
-    let l = head (taking o) in
-    let (z, (so, rm)) = start l .pre in
-    omega (arith, o .on-field .kept, l .loop .inv .held .units .asks, so .held .units .asks)
+same-length-2 c = let o = wronged c in o .on-field .kept .1 .1 .1 .1 .1 .0 ∙ asks-long (head (taking o))
 
 same-length-3 : tie.Need-same-length-3 Inv-loop μ-loop
-same-length-3 c =
-    let o = wronged c in
-    let l = head (taking o) in
-    let (z, (so, rm)) = start l .pre in
-    omega (arith, o .on-field .kept, vars-long (l .loop .inv .held), l .loop .inv .on-long, vars-long (so .held))
+same-length-3 c = let o = wronged c in o .on-field .kept .1 .1 .1 .1 .1 .1 .0 ∙ all-vars-long (head (taking o))
 
 same-length-4 : tie.Need-same-length-4 Inv-loop μ-loop
-same-length-4 c = let o = wronged c in omega (arith, o .on-field .kept, head (taking o) .loop .inv .on-long)
+same-length-4 c = let o = wronged c in o .on-field .kept .1 .1 .1 .1 .1 .1 .1 .0 ∙ head (taking o) .loop .inv .on-long
 
 same-length-5 : tie.Need-same-length-5 Inv-loop μ-loop
 same-length-5 c = let o = wronged c in brought o .long ∙ sym (room-sized (start (head (taking o))))
@@ -244,22 +270,34 @@ returns c =
 
 -- ---- all of them are there
 add-u16-at : tie.Need-add-u16-at Inv-loop μ-loop
-add-u16-at c = let l = head (taking (held (c .before))) in omega (arith, follows l .field .within, start l .good .0)
+add-u16-at c =
+    let l = head (taking (held (c .before))) in
+    record { fits = lt-of-le-of-lt (le-trans (le-add-right (l .loop .at + 1) 2) (length-there (l .loop .at) (length (start l .args .run .now)) (there l))) (start l .good .0 .0) }
 
 u16-at-requires : tie.Need-u16-at-requires Inv-loop μ-loop
-u16-at-requires c κs = omega (arith, follows (head (taking (held (c .before)))) .field .within)
+u16-at-requires c κs = let l = head (taking (held (c .before))) in length-there (l .loop .at) (length (start l .args .run .now)) (there l)
 
 cast-at : tie.Need-cast-at Inv-loop μ-loop
-cast-at c = search needs
+cast-at c = fits-widen {w = w16} tt (record { fits = c .u16-at .ok })
+
+-- the place behind the field, as the code counts it, and that it is within the file
+abbrev passing : tie.After-u16-at Inv-loop μ-loop → tie.At-loop Inv-loop μ-loop
+passing c = head (taking (held (c .before .before)))
+
+passed : (c : tie.After-u16-at Inv-loop μ-loop) → passing c .loop .at + (3 + c .u16-at .result) ≡ passing c .loop .at + 3 + lengthAt (start (passing c) .args .run .now) (passing c .loop .at)
+passed c = let l = passing c in past-is (l .loop .at) (lengthAt (start l .args .run .now) (l .loop .at)) (c .u16-at .result) (c .u16-at .ensures)
+
+within : (c : tie.After-u16-at Inv-loop μ-loop) → passing c .loop .at + (3 + c .u16-at .result) ≤ length (start (passing c) .args .run .now)
+within c = le-trans (le-of-eq (passed c)) (follows (passing c) .field .within)
 
 add-at : tie.Need-add-at Inv-loop μ-loop
-add-at c = omega (arith, follows (head (taking (held (c .before .before)))) .field .within, c .u16-at .ensures)
+add-at c = record { fits = lt-of-le-of-lt (le-trans (le-add-left (3 + c .u16-at .result) (passing c .loop .at)) (within c)) (start (passing c) .good .0 .0) }
 
 add-at-2 : tie.Need-add-at-2 Inv-loop μ-loop
-add-at-2 c = let l = head (taking (held (c .before .before))) in omega (arith, follows l .field .within, c .u16-at .ensures, start l .good .0)
+add-at-2 c = record { fits = lt-of-le-of-lt (within c) (start (passing c) .good .0 .0) }
 
 loop-less : tie.Need-loop-less Inv-loop μ-loop
-loop-less c = omega (arith, follows (head (taking (held (c .before .before)))) .field .within, c .u16-at .ensures)
+loop-less c = let l = passing c in nearer (l .loop .at) (c .u16-at .result) (length (start l .args .run .now)) (within c)
 
 loop-again : tie.Need-loop-again Inv-loop μ-loop
 loop-again c =
@@ -284,7 +322,7 @@ loop-again c =
     eh
     (subst (λ (n : ℕ). standsBy (last .0) (last .1 .0) (last .1 .1 .0) (last .1 .1 .1 .0) ≡ standsAfter (plantBy (a .t) (a .rows .now) (a .run .now) n) (stands l) (closed l))
     (l .loop .inv .on-long) et)
-    (omega (arith, c .u16-at .ensures))
+    (passed c)
 
 -- ---- at the end field
 abbrev ended : tie.After-struct-known5 Inv-loop μ-loop → tie.At-loop Inv-loop μ-loop
@@ -294,22 +332,19 @@ cast-end-judged : tie.Need-cast-end-judged Inv-loop μ-loop
 cast-end-judged c = omega (arith, follows (ended c) .few-so-far)
 
 mul-end-judged : tie.Need-mul-end-judged Inv-loop μ-loop
-mul-end-judged c = let l = ended c in omega (arith, l .loop .inv .near, start l .good .1 .1 .1 .0)
+mul-end-judged c = let l = ended c in record { fits = lt-of-le-of-lt (l .loop .inv .near) (start l .good .1 .1 .1 .0 .0) }
 
 end-judged-requires : tie.Need-end-judged-requires Inv-loop μ-loop
-end-judged-requires c κs = let l = ended c in (omega (arith, follows l .field .within), l .loop .inv .near)
+end-judged-requires c κs = let l = ended c in (there l, l .loop .inv .near)
 
 same-length-6 : tie.Need-same-length-6 Inv-loop μ-loop
-same-length-6 c = let l = ended (c .before) in let (z, (so, rm)) = start l .pre in l .loop .inv .held .units .stores ∙ sym (so .held .units .stores)
+same-length-6 c = stores-long (ended (c .before))
 
 same-length-7 : tie.Need-same-length-7 Inv-loop μ-loop
-same-length-7 c = let l = ended (c .before) in let (z, (so, rm)) = start l .pre in l .loop .inv .held .units .asks ∙ sym (so .held .units .asks)
+same-length-7 c = asks-long (ended (c .before))
 
 same-length-8 : tie.Need-same-length-8 Inv-loop μ-loop
-same-length-8 c =
-    let l = ended (c .before) in
-    let (z, (so, rm)) = start l .pre in
-    omega (arith, vars-long (l .loop .inv .held), l .loop .inv .on-long, vars-long (so .held))
+same-length-8 c = all-vars-long (ended (c .before))
 
 same-length-9 : tie.Need-same-length-9 Inv-loop μ-loop
 same-length-9 c = ended (c .before) .loop .inv .on-long

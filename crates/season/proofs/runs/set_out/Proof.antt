@@ -69,19 +69,19 @@ steps-place-requires : tie.Need-steps-place-requires
 steps-place-requires c κs = taken (c .before .before)
 
 same-length : tie.Need-same-length
-same-length c = search needs
+same-length c = loaded (placed (began (c .before .before .before))) .load .kept .1 .0
 
 same-length-2 : tie.Need-same-length-2
-same-length-2 c = search needs
+same-length-2 c = began (c .before .before .before) .begin .kept .1 .1 .1 .0
 
 same-length-3 : tie.Need-same-length-3
-same-length-3 c = search needs
+same-length-3 c = began (c .before .before .before) .begin .kept .1 .1 .1 .1 .0
 
 same-length-4 : tie.Need-same-length-4
-same-length-4 c = search needs
+same-length-4 c = began (c .before .before .before) .begin .kept .1 .1 .1 .1 .1 .0
 
 same-length-5 : tie.Need-same-length-5
-same-length-5 c = search needs
+same-length-5 c = began (c .before .before .before) .begin .kept .1 .1 .1 .1 .1 .1 .0
 
 returns : tie.Need-returns
 returns c =

@@ -1,9 +1,10 @@
 -- A site has at most 64 units and 64 inverters, so that a part of each array holds a value for every one, and a part of the vars one for each of both.
-use Prim.Native.Nat.{_≤_}
-use native.Mathlib.Nat.{le-trans, le-of-eq}
+use mathlib.Core.Path.{ap₂}
+use Prim.Native.Nat.{_+_, _≤_}
+use native.Mathlib.Nat.{le-trans, le-of-eq, add-le-add}
 use native.Mathlib.Omega.{arith}
 use lib.ListN.{length-take}
-use Rattle.season.proofs.AnswerLaws.{few-units, few-roofs}
+use Rattle.season.proofs.AnswerLaws.{part-long, few-units, few-roofs}
 use borrow.Author.Needs.{needs}
 use Rattle.season.proofs.runs.write.Statement.{statement}
 use Rattle.season.proofs.runs.write.Tie as tie
@@ -81,18 +82,18 @@ write-with-requires c κs =
       n,
       (
         record {
-          rows-there = simp length-take (omega (arith, e, l));
-          stored-there = simp length-take (omega (arith, e, l));
-          requests-there = simp length-take (omega (arith, e, l));
-          flags-there = simp length-take (omega (arith, d, m));
-          vars-there = simp length-take (omega (arith, e, d, l, m));
+          rows-there = simp length-take (part-long l e);
+          stored-there = simp length-take (part-long l e);
+          requests-there = simp length-take (part-long l e);
+          flags-there = simp length-take (part-long m d);
+          vars-there = simp length-take (part-long (add-le-add l m) (ap₂ _+_ e d));
         },
         f,
       ),
     )
 
 same-length : tie.Need-same-length
-same-length c = search needs
+same-length c = c .before .before .before .before .before .before .before .write-with .kept .1 .1 .1 .1 .1 .1 .1 .0
 
 returns : tie.Need-returns
 returns c = search needs

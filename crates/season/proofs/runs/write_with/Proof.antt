@@ -1,11 +1,12 @@
 -- A run sets out from what stands at first, and along the stretch of the file's steps, to the file's end, all their records are laid; behind them comes the end record, and the result is whole.
-use mathlib.Core.Path.{ap}
+use mathlib.Core.Path.{sym, ap, _∙_}
 use Prim.Native.Nat.{ℕ, _+_, _*_}
+use native.Mathlib.Nat.{le-trans, le-of-eq}
 use native.Mathlib.Omega.{arith}
 use lib.ListN.{length}
+use mir.Facts.{fits-le, fits-lit}
 use Rattle.season.proofs.AnswerLaws.{few-units, few-roofs, few-bytes, all-bytes, bytes-needed}
 use Rattle.season.proofs.StepsLaws.{goes, all-written}
-use borrow.Author.Needs.{needs}
 use Rattle.season.proofs.runs.write_with.Statement.{statement}
 use Rattle.season.proofs.runs.write_with.Tie as tie
 
@@ -39,28 +40,31 @@ along-requires c κs =
     (out .planted, (out .held, goes n out (length (start o .args .room .now)) f))
 
 mul-put-end : tie.Need-mul-put-end
-mul-put-end c = let (n, (ls, f)) = start (away (done c)) .pre in omega (arith, few-bytes n (ls .requests-there) (ls .flags-there))
+mul-put-end c = let (n, (ls, f)) = start (away (done c)) .pre in fits-le (few-bytes n (ls .requests-there) (ls .flags-there)) (fits-lit tt)
 
 put-end-requires : tie.Need-put-end-requires
-put-end-requires c κs = let (n, (ls, f)) = start (away (done c)) .pre in omega (arith, bytes-needed n (ls .requests-there) (ls .flags-there), f, done c .along .kept)
+put-end-requires c κs =
+    let (n, (ls, f)) = start (away (done c)) .pre in
+    le-trans (le-of-eq (bytes-needed n (ls .requests-there) (ls .flags-there))) (le-trans f (le-of-eq (sym (done c .along .kept .1 .1 .1 .1 .1 .1 .1 .1 .0))))
 
+-- the rows are as many as they were set out; each other list is as long as along the steps, and before
 same-length : tie.Need-same-length
-same-length c = search needs
+same-length c = away (done (c .before .before .before)) .set-out .kept .1 .0
 
 same-length-2 : tie.Need-same-length-2
-same-length-2 c = search needs
+same-length-2 c = let w = done (c .before .before .before) in w .along .kept .1 .1 .1 .1 .0 ∙ away w .set-out .kept .1 .1 .0
 
 same-length-3 : tie.Need-same-length-3
-same-length-3 c = search needs
+same-length-3 c = let w = done (c .before .before .before) in w .along .kept .1 .1 .1 .1 .1 .0 ∙ away w .set-out .kept .1 .1 .1 .0
 
 same-length-4 : tie.Need-same-length-4
-same-length-4 c = search needs
+same-length-4 c = let w = done (c .before .before .before) in w .along .kept .1 .1 .1 .1 .1 .1 .0 ∙ away w .set-out .kept .1 .1 .1 .1 .0
 
 same-length-5 : tie.Need-same-length-5
-same-length-5 c = search needs
+same-length-5 c = let w = done (c .before .before .before) in w .along .kept .1 .1 .1 .1 .1 .1 .1 .0 ∙ away w .set-out .kept .1 .1 .1 .1 .1 .0
 
 same-length-6 : tie.Need-same-length-6
-same-length-6 c = search needs
+same-length-6 c = let e = c .before .before in e .put-end .kept .0 ∙ done (e .before) .along .kept .1 .1 .1 .1 .1 .1 .1 .1 .0
 
 returns : tie.Need-returns
 returns c =
