@@ -9,7 +9,9 @@ cd "$(dirname "${BASH_SOURCE[0]}")/.."
 
 # The machine's own load spoils times, so that it stands beside them.
 heading() {
-    if [ -n "$YB_EMULATOR" ]; then
+    if [ -z "$YB_EMULATOR" ]; then
+        echo "NATIVE: this machine is $(uname -m), and all that is timed ran on its own processor."
+    else
         echo "EMULATED: this machine is $(uname -m), and all that is timed ran as x86-64 code under the kit's emulator."
         echo 'The times say little; their ratios and their growth say something. A ratio is up to a tenth more or less'
         echo 'by where the linker puts the code.'

@@ -155,18 +155,23 @@ told() {
     return "$status"
 }
 
-# together: run those steps, one more at a time than there are cores, since each waits now and then; then tell them in
-# their order.
+# tell K: count such a step once it has ended, and say what it said.
+tell() {
+    step "${counts[$1]}" "${names[$1]}" told "$1"
+}
+
+# together FIRST: run those steps from the FIRST on, one more at a time than there are cores, since each waits now and
+# then; then tell them in their order. What runs already counts for none of them.
 together() {
-    local i
-    for i in "${!names[@]}"; do
-        while [ "$(jobs -rp | wc -l)" -gt "$(nproc)" ]; do wait -n; done
+    local i pids=() others
+    others=$(jobs -rp | wc -l)
+    for ((i = $1; i < ${#names[@]}; i++)); do
+        while [ "$(($(jobs -rp | wc -l) - others))" -gt "$(nproc)" ]; do sleep 0.2; done
         apart "$i" &
+        pids+=($!)
     done
-    wait
-    for i in "${!names[@]}"; do
-        step "${counts[i]}" "${names[i]}" told "$i"
-    done
+    wait "${pids[@]}"
+    for ((i = $1; i < ${#names[@]}; i++)); do tell "$i"; done
 }
 
 export CARGO_TARGET_DIR=$PWD/build/reference
@@ -185,14 +190,25 @@ ahead() {
 ahead >"$log/ahead" 2>&1 &
 ahead=$!
 
-# More at a time than there are cores: each waits for the slowest of its batch. Six take a twentieth less than three here.
-step line 'proofs' env RT_JOBS="${RT_JOBS:-6}" rt ci
-step line 'wrong programs' tools/refusals.sh
+# The proofs. When every crate has been checked rt tries the wrong programs, which takes as long again: all other tests run
+# beside these, and go before them. More at a time than there are cores, since each waits for the slowest of its batch.
+proofs() {
+    rm -rf target/must-fail
+    env RT_JOBS="${RT_JOBS:-10}" nice -n 5 rt ci
+}
+later line 'proofs' proofs
+echo '== proofs: under way; they are told below, when all else is done'
+apart 0 &
+proofs=$!
+until [ -d target/must-fail ] || ! kill -0 "$proofs" 2>/dev/null; do sleep 1; done
+echo "-- every crate has been checked: $SECONDS s"
+
 step one 'functions with a requires' tools/requires.sh --check
 wait "$ahead"
 step one 'stored cases' stored_cases
 step one 'sample sticks' sample_sticks
 step none 'archive' archive
+step one 'inlined' tools/inlined.sh
 if [ -n "$YB_CC" ]; then
     step none 'C programs' tools/build.sh
     # Where it was not built the tests that need it say so.
@@ -213,7 +229,7 @@ if [ -n "$YB_CC" ]; then
     later line 'feed command' c/tests/test_feed.sh
     later line 'watts command' c/tests/test_watts.sh
     later line 'C stack' stack
-    together
+    together 1
     step one 'sample season' sample
 else
     step cargo 'reference' reference --lib --bins
@@ -222,6 +238,10 @@ else
         echo "NOT RUN: $tests: $YB_CC_WHY"
     done
 fi
+
+wait "$proofs"
+tell 0
+step line 'wrong programs' tools/refusals.sh
 
 # What was left out is said where it is seen.
 [ -z "$YB_PYTHON_WHY" ] || echo "NOT RUN: desk, and the page in a browser: $YB_PYTHON_WHY"

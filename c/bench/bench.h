@@ -50,8 +50,9 @@ struct season {
     int deep;
 };
 
-/* Makes its file. */
+/* Makes its file, whose settings have this target, in W or in mode 4 in mA. */
 void make_season(struct season season);
+uint32_t season_target(struct season season);
 
 /* The bytes of a step in its result, and of the whole of it. */
 size_t step_bytes(struct season season);
@@ -128,6 +129,7 @@ double time_ref_run(void);
 int show_checks(void); /* bench_check.c */
 int show_runs(void); /* bench_run.c */
 int show_verdicts(void); /* bench_run.c */
+int show_peaks(void); /* bench_run.c */
 int show_growth(void); /* bench_growth.c */
 int show_steps(void); /* bench_step.c */
 

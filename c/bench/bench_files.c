@@ -281,14 +281,19 @@ static void put_hour(uint32_t step, struct season season, uint64_t *state)
 }
 
 /* By current, target and band are the mA of those in watts, at 230 V. */
+static uint32_t by_mode(int mode, uint32_t watts)
+{
+    return mode == 4 ? watts * 100 / 23 : watts;
+}
+
+uint32_t season_target(struct season season)
+{
+    return by_mode(season.mode, (season.mode == 3 ? 3200 : 4800) * (uint32_t)season.units);
+}
+
 static void put_season_settings(struct season season)
 {
-    uint32_t each = (uint32_t)season.units;
-    uint32_t target = (season.mode == 3 ? 3200 : 4800) * each, band = 300 * each;
-    if (season.mode == 4)
-        put_settings(4, target * 100 / 23, band * 100 / 23, 400);
-    else
-        put_settings(season.mode, target, band, 400);
+    put_settings(season.mode, season_target(season), by_mode(season.mode, 300 * (uint32_t)season.units), 400);
 }
 
 void make_season(struct season season)

@@ -111,6 +111,28 @@ static double time_partner(void)
     return end - start;
 }
 
+/* The planner's figures of the file at hand, which must come out the same every time. */
+static int64_t figures[YB_FIGURES], right_figures[YB_FIGURES];
+static int32_t target;
+
+static uint32_t peaks(void)
+{
+    return yb_peaks(file, file_len, target, figures, YB_FIGURES);
+}
+
+static double time_peaks(void)
+{
+    memset(figures, 0, sizeof figures);
+    double start = now();
+    uint32_t number = peaks();
+    double end = now();
+    if (number != 0 || memcmp(figures, right_figures, sizeof figures) != 0) {
+        printf("WRONG: figures that were right were not right when they were timed\n");
+        exit(1);
+    }
+    return end - start;
+}
+
 static uint64_t stored_in(const uint8_t *record)
 {
     uint64_t stored = 0;
@@ -245,5 +267,50 @@ int show_verdicts(void)
         right &= show_verdict((struct season){.units = fleets[i], .mode = 1, .steps = YEAR});
     for (size_t i = 0; i < sizeof roofs / sizeof roofs[0]; i++)
         right &= show_verdict((struct season){.units = roofs[i], .inverters = roofs[i], .mode = 1, .steps = YEAR});
+    return right;
+}
+
+/* The figures of a year, and the run. */
+static int show_figures(struct season season)
+{
+    static double (*const calls[])(void) = {time_peaks, time_run};
+    struct rounds rounds[MOST_CALLS];
+    if (!same_results(season))
+        return 0;
+    target = (int32_t)season_target(season);
+    if (peaks() != 0 || figures[YB_FIGURE_STEPS] != (int64_t)season.steps) {
+        printf("WRONG: the figures of %d units in mode %d are refused, or are not of all steps\n", season.units, season.mode);
+        return 0;
+    }
+    memcpy(right_figures, figures, sizeof figures);
+    measure(2, calls, rounds);
+    double steps = (double)season.units * season.steps;
+    show_season(season);
+    printf("  |  %7.1f  %6.1f", median_of(rounds[0]) / steps, median_of(rounds[1]) / steps);
+    show_ratio(ratio_of(rounds[0], rounds[1]));
+    printf("\n");
+    fflush(stdout);
+    return 1;
+}
+
+int show_peaks(void)
+{
+    static const struct season seasons[] = {
+        {.units = 1, .mode = 1, .steps = YEAR},
+        {.units = 8, .mode = 1, .steps = YEAR},
+        {.units = 64, .mode = 1, .steps = YEAR},
+        {.units = 64, .mode = 3, .steps = YEAR},
+        {.units = 64, .mode = 4, .steps = YEAR},
+        {.units = 8, .mode = 1, .lead = BY_RATING, .steps = YEAR},
+        {.units = 8, .mode = 1, .lead = BY_WHAT_WATTS_LEAVE, .steps = YEAR},
+    };
+    int right = 1;
+    printf("\nThe planner's figures of a season of %d steps at its own target, and its run: ns for each step of a unit,\n"
+        "medians of %d rounds, and the ratio.\n\n", YEAR, ROUNDS);
+    printf("%5s  %9s  %4s  %5s  %7s  |  %7s  %6s", "units", "inverters", "mode", "vars", "led", "figures", "run");
+    show_ratio_heading("ratio");
+    printf("\n");
+    for (size_t i = 0; i < sizeof seasons / sizeof seasons[0]; i++)
+        right &= show_figures(seasons[i]);
     return right;
 }
