@@ -3,11 +3,7 @@ use mathlib.Core.Path.{_≡_, ap, ap₂, _∙_, subst⁻¹}
 use mathlib.Core.Bool.{Bool}
 use mathlib.Core.List.{List}
 use Prim.Native.Nat.{ℕ, _+_, _-_, _*_, _≤_}
-use native.Mathlib.Nat.{le-trans, le-of-eq, le-add-right}
-use native.Mathlib.Omega.{arith}
-use mir.Syntax.{w64}
-use mir.Val.{Fits}
-use mir.Facts.{fits-below}
+use native.Mathlib.Nat.{le-trans, le-of-eq, sub-zero}
 use lib.IntN.{ℤ}
 use lib.ListN.{length, take}
 use lib.Seq.{length-take-le}
@@ -16,28 +12,10 @@ use Rattle.stick.specs.Site.{siteOf, roofsOf, plantOf}
 use Rattle.fleet.specs.Step.{stepBytes}
 use Rattle.stretch.specs.Stretch.{allBytes}
 use Rattle.stretch.specs.Posts.{Holding}
-use Rattle.kept.specs.Layout.{stateSize, sitePlace, siteMost}
-
--- the site part's end lies behind its start and within the state's bytes
-pub part-from : (n : ℕ) → sitePlace ≤ sitePlace + n
-part-from n = le-add-right sitePlace n
-
-pub end-within : (s : List ℕ) (n : ℕ) → length s ≡ stateSize → n ≤ siteMost → sitePlace + n ≤ length s
-end-within s n long fits = omega arith
-
-pub end-fits : (n : ℕ) → n ≤ siteMost → Fits w64 (sitePlace + n)
-end-fits n fits = fits-below {n = stateSize} tt (omega arith)
-
--- at most 64 units and 64 inverters: so many values
-pub both-few : (a b : ℕ) → a ≤ 64 → b ≤ 64 → a + b ≤ 128
-both-few a b p q = omega arith
-
-pub both-fit : (a b : ℕ) → a ≤ 64 → b ≤ 64 → Fits w64 (a + b)
-both-fit a b p q = fits-below {n = 128} tt (both-few a b p q)
 
 -- the first k values of a list are as many as is said
 pub lent : {X : Type 0} (k n : ℕ) (l : List X) → k ≡ n → k ≤ length l → length (take (k - 0) l) ≡ n
-lent k n l e h = let z : k - 0 ≡ k = omega arith in ap (λ (j : ℕ). length (take j l)) z ∙ length-take-le k l h ∙ e
+lent k n l e h = ap (λ (j : ℕ). length (take j l)) (sub-zero k) ∙ length-take-le k l h ∙ e
 
 -- what stands is held
 pub held-alike : (x y : Site) (stored : List ℕ) (rs vs : List ℤ) (on : List Bool) → x ≡ y → Holding y stored rs vs on → Holding x stored rs vs on

@@ -2,16 +2,17 @@
 use mathlib.Core.Path.{_≡_, refl, sym, ap, _∙_}
 use mathlib.Core.Bool.{Bool, true, false, cond}
 use mathlib.Core.List.{List, [], _∷_}
-use Prim.Native.Nat.{ℕ, zero, suc, _+_, _-_, _≤_}
-use native.Mathlib.Nat.{zero-add, suc-add}
+use Prim.Native.Nat.{ℕ, zero, suc, _+_, _-_, _*_, _≤_}
+use native.Mathlib.Nat.{zero-add, suc-add, le-trans, le-of-eq, le-add-right}
 use native.Mathlib.Omega.{arith}
-use lib.Dec.{eqb}
+use lib.Dec.{T, eqb, leb, leb→le}
 use lib.IntN.{ℤ}
 use lib.ListN.{length, take, drop, replicate}
 use lib.Seq.{slice, take-nil}
 use borrow.Author.Tests.{eq-eqb, ne-eqb}
-use mir.Syntax.{w32}
-use mir.Val.{toZ}
+use mir.Syntax.{w32, w64}
+use mir.Val.{Fits, toZ}
+use mir.Facts.{fits-below}
 use Rattle.octets.specs.BigEndian.{be, bytesOf, laid}
 use Rattle.octets.proofs.LaidLaws.{laid-length}
 use Rattle.records.proofs.LayLaws.{behind, both}
@@ -23,7 +24,8 @@ use Rattle.fields.specs.Fields.{atVoltage, goneTo}
 use Rattle.stick.specs.declared.Reached.{Reached}
 use Rattle.stick.specs.Check.{reachOf, start}
 use Rattle.kept.specs.declared.Mark.{Mark}
-use Rattle.kept.specs.Layout.{tailMost}
+use Rattle.kept.specs.Posts.{Sized}
+use Rattle.kept.specs.Layout.{tailMost, flagPlace, varsPlace, sitePlace, siteMost}
 use Rattle.kept.specs.Layout.{placeIn, stepsKept, stageIn, siteBytes, tailBytes, sitePart, sunKept, dueKept, knownBy, stateIn, markIn, tailPlace, heldPlace, stateSize, filled, progressOf, partsOf, numbersOf, topOf}
 use Rattle.kept.proofs.PieceLaws.{laid-filled}
 
@@ -32,6 +34,52 @@ pub take-drop : (n from : ℕ) (s : List ℕ) → take n (drop from s) ≡ slice
 take-drop n zero s = ap (λ (k : ℕ). take k s) (sym (zero-add n))
 take-drop n (suc from) [] = take-nil n ∙ sym (ap (drop (suc from)) (take-nil (suc from + n)))
 take-drop n (suc from) (x ∷ s) = take-drop n from s ∙ ap (λ (k : ℕ). drop (suc from) (take k (x ∷ s))) (sym (suc-add from n))
+
+-- a place within the state's bytes
+pub inside : (k n : ℕ) → n ≡ stateSize → T (leb k stateSize) → k ≤ n
+inside k n e t = le-trans (leb→le k stateSize t) (le-of-eq (sym e))
+
+-- the site part's end lies behind its start and within the state's bytes
+pub part-from : (n : ℕ) → sitePlace ≤ sitePlace + n
+part-from n = le-add-right sitePlace n
+
+pub end-upto : (n : ℕ) → n ≤ siteMost → sitePlace + n ≤ stateSize
+end-upto n fits = omega arith
+
+pub end-within : (s : List ℕ) (n : ℕ) → length s ≡ stateSize → n ≤ siteMost → sitePlace + n ≤ length s
+end-within s n long fits = le-trans (end-upto n fits) (le-of-eq (sym long))
+
+pub end-fits : (n : ℕ) → n ≤ siteMost → Fits w64 (sitePlace + n)
+end-fits n fits = fits-below {n = stateSize} tt (end-upto n fits)
+
+-- at most 64 units and 64 inverters: so many values
+pub both-few : (a b : ℕ) → a ≤ 64 → b ≤ 64 → a + b ≤ 128
+both-few a b p q = omega arith
+
+pub both-fit : (a b : ℕ) → a ≤ 64 → b ≤ 64 → Fits w64 (a + b)
+both-fit a b p q = fits-below {n = 128} tt (both-few a b p q)
+
+-- where what is in use of each list ends
+pub held-upto : (n : ℕ) → n ≤ 64 → heldPlace + 12 * n ≤ flagPlace
+held-upto n h = omega arith
+
+pub flags-upto : (n : ℕ) → n ≤ 64 → flagPlace + n ≤ varsPlace
+flags-upto n h = omega arith
+
+pub vars-upto : (n : ℕ) → n ≤ 128 → varsPlace + 4 * n ≤ sitePlace
+vars-upto n h = omega arith
+
+pub tail-upto : (s : List ℕ) (t : ℕ) → t ≡ tailBytes s → Sized s → tailPlace + t ≤ heldPlace
+tail-upto s t e z = let h = z .tail-fits in omega arith
+
+pub site-few : (s : List ℕ) (n : ℕ) → n ≡ siteBytes s → Sized s → n ≤ siteMost
+site-few s n e z = le-trans (le-of-eq e) (z .site-fits)
+
+pub held-fit : (n : ℕ) → n ≤ 64 → Fits w64 (12 * n)
+held-fit n h = fits-below {n = 768} tt (omega arith)
+
+pub vars-fit : (n : ℕ) → n ≤ 128 → Fits w64 (4 * n)
+vars-fit n h = fits-below {n = 512} tt (omega arith)
 
 pub part-is : (from n : ℕ) (s : List ℕ) → take (from + n - from) (drop from s) ≡ slice from (from + n) s
 part-is from n s = ap (λ (k : ℕ). take k (drop from s)) less ∙ take-drop n from s

@@ -2,10 +2,11 @@
 use mathlib.Core.Path.{_≡_, refl, sym, ap, ap₂, _∙_}
 use mathlib.Core.Bool.{Bool, true, false, cond}
 use mathlib.Core.List.{List, _++_}
-use Prim.Native.Nat.{ℕ, _+_, _-_, _*_, _≤_, _<_, min}
-use native.Mathlib.Nat.{zero-add, sub-zero, min-eq-left, le-trans, le-of-eq}
+use Prim.Native.Nat.{ℕ, _+_, _-_, _*_, _≤_, _<_}
+use native.Mathlib.Nat.{zero-add, sub-zero, le-trans, le-of-eq}
 use lib.Dec.{ltb, eqb}
-use lib.ListN.{length, drop}
+use lib.ListN.{length, take, drop}
+use lib.Seq.{length-take-le}
 use borrow.Author.Tests.{lt-ltb, le-ltb, eq-eqb, ne-eqb}
 use Rattle.octets.specs.BigEndian.{laid}
 use Rattle.site.specs.Site.{count}
@@ -31,8 +32,8 @@ unfolding laid
 over bs room n e = ap (λ (k : ℕ). bs ++ drop k room) (zero-add (length bs) ∙ e)
 
 -- a part of the first n of k elements has n
-pub part-long : {n m k : ℕ} → n ≤ k → n ≡ m → min (n - 0) k ≡ m
-part-long {n} {m} {k} h e = ap (λ (x : ℕ). min x k) (sub-zero n) ∙ min-eq-left h ∙ e
+pub part-long : {A : Type 0} {n m k : ℕ} (l : List A) → length l ≡ k → n ≤ k → n ≡ m → length (take (n - 0) l) ≡ m
+part-long {A} {n} l d h e = ap (λ (x : ℕ). length (take x l)) (sub-zero n) ∙ length-take-le n l (le-trans h (le-of-eq (sym d))) ∙ e
 
 -- a step's records have so many bytes
 pub all-bytes : (file : List ℕ) {n m : ℕ} → n ≡ count (siteOf file) → m ≡ length (roofsOf file) → 40 * n + 29 * m ≡ allBytes (plantOf file)

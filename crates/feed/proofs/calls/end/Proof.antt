@@ -1,5 +1,5 @@
 -- By the state's own number, by the fault, and by the room, as the definition goes.
-use mathlib.Core.Path.{_≡_, sym, _∙_}
+use mathlib.Core.Path.{_≡_, refl, sym, _∙_}
 use native.Mathlib.Omega.{arith}
 use Rattle.feed.specs.Answers.{ownNumber}
 use Rattle.intake.specs.Posts.{Open}
@@ -21,10 +21,10 @@ may : (c : tie.Else2) → 0 ≡ faultBy (c .before .before .marked .result .tail
 may c = sym (c .if2 .left) ∙ c .before .end-fault .ensures
 
 own-number-requires : tie.Need-own-number-requires
-own-number-requires c κs = search needs
+own-number-requires c κs = tt
 
 same-length : tie.Need-same-length
-same-length c = search needs
+same-length c = refl
 
 returns : tie.Need-returns
 returns c =
@@ -36,7 +36,7 @@ marked-requires : tie.Need-marked-requires
 marked-requires c κs = let e = c .before in open-sized (e .before .before .before .before .before .args .s .now) (going e)
 
 end-fault-requires : tie.Need-end-fault-requires
-end-fault-requires c κs = search needs
+end-fault-requires c κs = tt
 
 sub-stop : tie.Need-sub-stop
 sub-stop c =
@@ -50,7 +50,7 @@ stop-requires c κs =
     open-sized (e .before .before .before .before .before .args .s .now) (going e) .long
 
 same-length-2 : tie.Need-same-length-2
-same-length-2 c = search needs
+same-length-2 c = c .before .before .stop .kept .0
 
 returns-2 : tie.Need-returns-2
 returns-2 c =
@@ -63,7 +63,7 @@ returns-2 c =
     ends-refused (a .s .now) (a .room .now) (zero-own e) (m .marked .result) (m .marked .ensures) (f .end-fault .result) (f .end-fault .ensures) (t .if2 .taken) (p .stop .last .0) (p .stop .ensures)
 
 same-length-3 : tie.Need-same-length-3
-same-length-3 c = search needs
+same-length-3 c = refl
 
 returns-3 : tie.Need-returns-3
 returns-3 c =
@@ -83,10 +83,10 @@ stop-requires-2 c κs =
     open-sized (e .before .before .before .before .before .args .s .now) (going e) .long
 
 same-length-4 : tie.Need-same-length-4
-same-length-4 c = search needs
+same-length-4 c = c .before .before .stop2 .kept .0
 
 same-length-5 : tie.Need-same-length-5
-same-length-5 c = search needs
+same-length-5 c = c .before .before .before .before .before .before .put-end .kept .0
 
 returns-4 : tie.Need-returns-4
 returns-4 c =

@@ -11,7 +11,7 @@ going : (c : tie.Else1) → Open (c .before .before .before .before .args .s .no
 going c = own-open (c .before .before .before .before .args .s .now) (sym (c .before .own-number .ensures) ∙ c .if1 .left)
 
 own-number-requires : tie.Need-own-number-requires
-own-number-requires c κs = search needs
+own-number-requires c κs = tt
 
 returns : tie.Need-returns
 returns c =

@@ -1,7 +1,7 @@
 -- The site part is laid as 0, nothing stands, and the mark is that before any byte: the bytes are all those of a state.
 use borrow.Author.Needs.{needs}
 use Prim.Native.Nat.{ℕ}
-use mathlib.Core.Path.{ap, _∙_}
+use mathlib.Core.Path.{refl, ap, _∙_}
 use mathlib.Core.List.{List, []}
 use Rattle.octets.specs.BigEndian.{laid}
 use Rattle.site.specs.Site.{noneYet}
@@ -15,7 +15,7 @@ returns : tie.Need-returns
 returns c = start-not (c .before .before .args .s .now) (c .if1 .taken)
 
 first-requires : tie.Need-first-requires
-first-requires c κs = search needs
+first-requires c κs = tt
 
 zero-requires : tie.Need-zero-requires
 zero-requires c κs = search needs
@@ -24,13 +24,13 @@ clear-stands-requires : tie.Need-clear-stands-requires
 clear-stands-requires c κs = search needs
 
 slice-aggregate-put-top : tie.Need-slice-aggregate-put-top
-slice-aggregate-put-top c = search needs
+slice-aggregate-put-top c = refl
 
 put-top-requires : tie.Need-put-top-requires
 put-top-requires c κs = search needs
 
 same-length : tie.Need-same-length
-same-length c = search needs
+same-length c = c .before .before .put-top .kept .0 ∙ c .before .before .before .before .before .before .before .clear-stands .kept .0 ∙ c .before .before .before .before .before .before .before .before .before .before .before .zero .kept .0
 
 returns-2 : tie.Need-returns-2
 returns-2 c =

@@ -1,5 +1,5 @@
 -- By the state's own number, by the fault, and by the room, as the definition goes.
-use mathlib.Core.Path.{_≡_, sym, _∙_}
+use mathlib.Core.Path.{_≡_, refl, sym, _∙_}
 use native.Mathlib.Omega.{arith}
 use Rattle.feed.specs.Answers.{ownNumber, roomFor}
 use Rattle.intake.specs.Posts.{Open}
@@ -7,7 +7,6 @@ use Rattle.intake.proofs.OpenLaws.{open-sized}
 use Rattle.feed.proofs.CallLaws.{own-open, room-ready, room-is}
 use Rattle.intake.proofs.MarkLaws.{mark-within}
 use Rattle.feed.proofs.ChunkLaws.{place-near, feeds-shut, feeds-refused, feeds-gone, feeds-short, room-there, feeds-in}
-use borrow.Author.Needs.{needs}
 use Rattle.feed.proofs.feeding.feed.Statement.{statement}
 use Rattle.feed.proofs.feeding.feed.Tie as tie
 
@@ -31,10 +30,10 @@ size-is d =
     room-is (a .s .now) (a .chunk .now) (going e) (g .gone .result) (g .gone .ensures) (m .marked .result) (m .marked .ensures) (l .if2 .left) (d .needed .result) (d .needed .ensures)
 
 own-number-requires : tie.Need-own-number-requires
-own-number-requires c κs = search needs
+own-number-requires c κs = tt
 
 same-length : tie.Need-same-length
-same-length c = search needs
+same-length c = refl
 
 returns : tie.Need-returns
 returns c =
@@ -68,7 +67,7 @@ stop-requires c κs =
     open-sized (first e .args .s .now) (going e) .long
 
 same-length-2 : tie.Need-same-length-2
-same-length-2 c = search needs
+same-length-2 c = c .before .before .stop .kept .0
 
 returns-2 : tie.Need-returns-2
 returns-2 c =
@@ -89,7 +88,7 @@ needed-requires c κs =
     room-ready (a .s .now) (a .chunk .now) (going e) (g .gone .result) (g .gone .ensures) (m .marked .result) (m .marked .ensures)
 
 same-length-3 : tie.Need-same-length-3
-same-length-3 c = search needs
+same-length-3 c = refl
 
 returns-3 : tie.Need-returns-3
 returns-3 c =
@@ -115,10 +114,10 @@ take-in-requires c κs =
     )
 
 same-length-4 : tie.Need-same-length-4
-same-length-4 c = search needs
+same-length-4 c = c .before .before .before .before .take-in .kept .0
 
 same-length-5 : tie.Need-same-length-5
-same-length-5 c = search needs
+same-length-5 c = c .before .before .before .before .take-in .kept .1 .1 .1 .1 .0
 
 returns-4 : tie.Need-returns-4
 returns-4 c =

@@ -1,5 +1,6 @@
 -- The first field lies in the bytes put together, the others in the chunk; they are taken in one after the other.
 use borrow.Author.Needs.{needs}
+use native.Mathlib.Nat.{sub-zero}
 use native.Mathlib.Omega.{arith}
 use Prim.Native.Nat.{ℕ, _+_, _-_, _≤_, zero-le}
 use mathlib.Core.Path.{_≡_, sym, ap, _∙_, subst}
@@ -34,7 +35,7 @@ size-is : (u : tie.After-u16-at) → past (first u .args .joint .now) 0 ≡ 3 + 
 size-is u = omega (arith, u .u16-at .ensures)
 
 part : (u : tie.After-u16-at) → take (3 + u .u16-at .result - 0) (first u .args .joint .now) ≡ one (first u)
-part u = let z : 3 + u .u16-at .result - 0 ≡ past (first u .args .joint .now) 0 = omega (arith, size-is u) in ap (λ (k : ℕ). take k (first u .args .joint .now)) z
+part u = ap (λ (k : ℕ). take k (first u .args .joint .now)) (sub-zero (3 + u .u16-at .result) ∙ sym (size-is u))
 
 others-are : (u : tie.After-u16-at) → slice (3 + u .u16-at .result - first u .args .tail) (first u .args .at - first u .args .tail) (first u .args .chunk .now) ≡ others (first u)
 others-are u = let a = first u .args in ap (λ (k : ℕ). slice (k - a .tail) (a .at - a .tail) (a .chunk .now)) (sym (size-is u))

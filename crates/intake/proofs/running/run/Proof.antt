@@ -10,10 +10,10 @@ use lib.Seq.{slice}
 use Rattle.site.specs.Site.{count}
 use Rattle.stick.specs.Site.{siteOf, roofsOf}
 use Rattle.kept.specs.Layout.{sitePlace}
-use Rattle.kept.proofs.NumberLaws.{part-is}
+use Rattle.kept.proofs.NumberLaws.{part-from, end-fits, end-within, both-few, both-fit, part-is}
 use Rattle.intake.specs.Posts.{recordsOver}
 use Rattle.intake.proofs.RunLaws.{not-back, few-on, part-accepted, as-many, few, fewer, size-is}
-use Rattle.intake.proofs.SiteLaws.{part-from, end-fits, end-within, both-few, both-fit, lent}
+use Rattle.intake.proofs.SiteLaws.{lent}
 use Rattle.intake.proofs.running.run.Statement.{statement}
 use Rattle.intake.proofs.running.run.Tie as tie
 

@@ -8,9 +8,8 @@ use lib.ListN.{length, take, drop}
 use Rattle.stick.specs.Site.{siteOf, roofsOf}
 use Rattle.kept.specs.declared.Mark.{Mark}
 use Rattle.kept.specs.Layout.{sitePlace}
-use Rattle.kept.proofs.NumberLaws.{part-is}
+use Rattle.kept.proofs.NumberLaws.{part-from, end-fits, end-within, both-few, part-is}
 use Rattle.intake.proofs.RunLaws.{part-accepted, as-many, few, fewer, fit, first-held, all-left, all-written}
-use Rattle.intake.proofs.SiteLaws.{part-from, end-fits, end-within, both-few}
 use Rattle.intake.proofs.running.run_with.Statement.{statement}
 use Rattle.intake.proofs.running.run_with.Tie as tie
 

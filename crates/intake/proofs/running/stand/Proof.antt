@@ -11,9 +11,8 @@ use Rattle.stick.specs.Site.{siteOf}
 use Rattle.stretch.proofs.SiteLaws.{rows-there, few-units, few-roofs}
 use Rattle.kept.specs.Kept.{begun}
 use Rattle.kept.specs.Layout.{sitePlace}
-use Rattle.kept.proofs.NumberLaws.{part-is}
+use Rattle.kept.proofs.NumberLaws.{part-from, end-fits, end-within, both-few, part-is}
 use Rattle.intake.proofs.StandLaws.{stands-kept, part-accepted, roofs-lent, stands-first}
-use Rattle.intake.proofs.SiteLaws.{part-from, end-fits, end-within, both-few}
 use Rattle.intake.proofs.running.stand.Statement.{statement}
 use Rattle.intake.proofs.running.stand.Tie as tie
 

@@ -1,35 +1,37 @@
 -- Each number stands where it is read; the state is the one that the site part leads to, with the stage and the steps that are kept.
 use borrow.Author.Needs.{needs}
+use lib.ListN.{length}
+use Rattle.kept.proofs.NumberLaws.{inside}
 use Rattle.kept.proofs.NumberLaws.{mark-is}
 use Rattle.kept.proofs.numbers.marked.Statement.{statement}
 use Rattle.kept.proofs.numbers.marked.Tie as tie
 
 known-requires : tie.Need-known-requires
-known-requires c κs = search needs
+known-requires c κs = c .before .pre
 
 u8-at-requires : tie.Need-u8-at-requires
-u8-at-requires c κs = search needs
+u8-at-requires c κs = inside 14 (length (c .before .before .args .s .now)) (c .before .before .pre .long) tt
 
 u32-at-requires : tie.Need-u32-at-requires
-u32-at-requires c κs = search needs
+u32-at-requires c κs = inside 13 (length (c .before .before .before .args .s .now)) (c .before .before .before .pre .long) tt
 
 gone-to-requires : tie.Need-gone-to-requires
-gone-to-requires c κs = search needs
+gone-to-requires c κs = tt
 
 due-at-requires : tie.Need-due-at-requires
-due-at-requires c κs = search needs
+due-at-requires c κs = c .before .before .before .before .before .pre .long
 
 u64-at-requires : tie.Need-u64-at-requires
-u64-at-requires c κs = search needs
+u64-at-requires c κs = inside 9 (length (c .before .before .before .before .before .before .args .s .now)) (c .before .before .before .before .before .before .pre .long) tt
 
 u16-at-requires : tie.Need-u16-at-requires
-u16-at-requires c κs = search needs
+u16-at-requires c κs = inside 16 (length (c .before .before .before .before .before .before .before .args .s .now)) (c .before .before .before .before .before .before .before .pre .long) tt
 
 cast-t9 : tie.Need-cast-t9
 cast-t9 c = search needs
 
 u8-at-requires-2 : tie.Need-u8-at-requires-2
-u8-at-requires-2 c κs = search needs
+u8-at-requires-2 c κs = inside 17 (length (c .before .before .before .before .before .before .before .before .args .s .now)) (c .before .before .before .before .before .before .before .before .pre .long) tt
 
 cast-t10 : tie.Need-cast-t10
 cast-t10 c = search needs

@@ -1,7 +1,7 @@
 -- The numbers, the tail and 0 up to the end of its place are laid one behind the other.
 use borrow.Author.Needs.{needs}
 use native.Mathlib.Omega.{arith}
-use mathlib.Core.Path.{_≡_}
+use mathlib.Core.Path.{_≡_, _∙_}
 use lib.ListN.{length}
 use lib.Seq.{slice, length-slice}
 use Rattle.kept.proofs.NumberLaws.{top-laid}
@@ -12,7 +12,7 @@ add-end : tie.Need-add-end
 add-end c = search needs
 
 put-numbers-requires : tie.Need-put-numbers-requires
-put-numbers-requires c κs = search needs
+put-numbers-requires c κs = let (long, (site, (tail, more))) = c .before .before .before .before .pre in (long, (site, tail))
 
 copy-requires : tie.Need-copy-requires
 copy-requires c κs = search needs
@@ -21,7 +21,7 @@ zero-requires : tie.Need-zero-requires
 zero-requires c κs = search needs
 
 same-length : tie.Need-same-length
-same-length c = search needs
+same-length c = c .before .before .zero .kept .0 ∙ c .before .before .before .before .before .before .copy .kept .0 ∙ c .before .before .before .before .before .before .before .before .before .before .put-numbers .kept .0
 
 returns : tie.Need-returns
 returns c =

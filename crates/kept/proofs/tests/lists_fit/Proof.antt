@@ -1,7 +1,9 @@
 -- Before the steps begin there are no lists. Once they have, the site part is closed, so that the check accepts it and its units and inverters are counted.
 use borrow.Author.Needs.{needs}
+use Rattle.kept.proofs.NumberLaws.{inside, part-from, end-within, end-fits, site-few}
+use native.Mathlib.Nat.{le-trans, le-of-eq}
 use native.Mathlib.Omega.{arith}
-use Prim.Native.Nat.{ℕ}
+use Prim.Native.Nat.{ℕ, _≤_, zero-le}
 use mathlib.Core.Path.{_≡_, sym, ap, _∙_, subst⁻¹}
 use mathlib.Core.Bool.{true, false}
 use mathlib.Core.List.{List}
@@ -11,16 +13,16 @@ use Rattle.site.specs.Site.{count}
 use Rattle.stick.specs.Site.{siteOf, roofsOf}
 use Rattle.stick.specs.Check.{Accepted}
 use Rattle.kept.specs.Kept.{begunAt}
-use Rattle.kept.specs.Layout.{stageIn, stepsKept, sitePart}
+use Rattle.kept.specs.Layout.{stageIn, stepsKept, siteMost, sitePart}
 use Rattle.kept.proofs.ListLaws.{site-part-is, site-part-length, part-accepted, few-units, few-roofs, lists-before, lists-begun}
 use Rattle.kept.proofs.tests.lists_fit.Statement.{statement}
 use Rattle.kept.proofs.tests.lists_fit.Tie as tie
 
 begun-at-requires : tie.Need-begun-at-requires
-begun-at-requires c κs = search needs
+begun-at-requires c κs = tt
 
 rest-clear-requires : tie.Need-rest-clear-requires
-rest-clear-requires c κs = search needs
+rest-clear-requires c κs = (c .before .before .before .pre .0, (zero-le, zero-le))
 
 returns : tie.Need-returns
 returns c =
@@ -58,23 +60,26 @@ roofs-are c =
     let s = u .before .before .before .before .args .s .now in
     c .roofs .ensures ∙ ap (λ (p : List ℕ). length (roofsOf p)) (site-part-is s (u .u16-at .result) (u .u16-at .ensures))
 
+few-bytes : (u : tie.After-u16-at) → u .u16-at .result ≤ siteMost
+few-bytes u = let s = u .before .before .before .before in site-few (s .args .s .now) (u .u16-at .result) (u .u16-at .ensures) (s .pre .0)
+
 u16-at-requires : tie.Need-u16-at-requires
-u16-at-requires c κs = search needs
+u16-at-requires c κs = inside 16 (length (c .before .before .before .args .s .now)) (c .before .before .before .pre .0 .long) tt
 
 cast-n : tie.Need-cast-n
 cast-n c = search needs
 
 add-units : tie.Need-add-units
-add-units c = search needs
+add-units c = end-fits (c .u16-at .result) (few-bytes (c))
 
 sub-units : tie.Need-sub-units
-sub-units c = search needs
+sub-units c = part-from (c .u16-at .result)
 
 part-units-start : tie.Need-part-units-start
-part-units-start c = search needs
+part-units-start c = part-from (c .u16-at .result)
 
 part-units-end : tie.Need-part-units-end
-part-units-end c = search needs
+part-units-end c = end-within (c .before .before .before .before .args .s .now) (c .u16-at .result) (c .before .before .before .before .pre .0 .long) (few-bytes (c))
 
 units-requires : tie.Need-units-requires
 units-requires c κs =
@@ -83,16 +88,16 @@ units-requires c κs =
     subst⁻¹ Accepted (site-part-is s (u .u16-at .result) (u .u16-at .ensures)) (closed (u .before))
 
 add-roofs : tie.Need-add-roofs
-add-roofs c = search needs
+add-roofs c = end-fits (c .before .before .u16-at .result) (few-bytes (c .before .before))
 
 sub-roofs : tie.Need-sub-roofs
-sub-roofs c = search needs
+sub-roofs c = part-from (c .before .before .u16-at .result)
 
 part-roofs-start : tie.Need-part-roofs-start
-part-roofs-start c = search needs
+part-roofs-start c = part-from (c .before .before .u16-at .result)
 
 part-roofs-end : tie.Need-part-roofs-end
-part-roofs-end c = search needs
+part-roofs-end c = end-within (c .before .before .before .before .before .before .args .s .now) (c .before .before .u16-at .result) (c .before .before .before .before .before .before .pre .0 .long) (few-bytes (c .before .before))
 
 roofs-requires : tie.Need-roofs-requires
 roofs-requires c κs =
@@ -115,7 +120,7 @@ rest-clear-requires-2 c κs =
     let st = o .before .before .before in
     let p = sitePart (st .args .s .now) in
     let (z, (e, f)) = st .pre in
-    (z, (omega (arith, units-are n, few-units p (closed o)), omega (arith, roofs-are r, few-roofs p (closed o))))
+    (z, (le-trans (le-of-eq (units-are n)) (few-units p (closed o)), le-trans (le-of-eq (roofs-are r)) (few-roofs p (closed o))))
 
 returns-2 : tie.Need-returns-2
 returns-2 c =

@@ -1,9 +1,8 @@
 -- A site has at most 64 units and 64 inverters, so that a part of each array holds a value for every one, a part of the vars one for each of both, and a part of the room the records of a step.
-use mathlib.Core.Path.{ap₂}
+use mathlib.Core.Path.{refl, ap₂}
 use Prim.Native.Nat.{_+_, _*_, _≤_}
 use native.Mathlib.Nat.{le-trans, le-of-eq, add-le-add, mul-le-mul-left}
 use native.Mathlib.Omega.{arith}
-use lib.ListN.{length-take}
 use Rattle.stretch.proofs.SiteLaws.{few-units, few-roofs}
 use Rattle.season.proofs.AnswerLaws.{part-long, all-bytes}
 use borrow.Author.Needs.{needs}
@@ -104,13 +103,13 @@ judged-with-requires c κs =
       s .pre,
       (
         record {
-          rows-there = simp length-take (part-long l e);
-          stored-there = simp length-take (part-long l e);
-          requests-there = simp length-take (part-long l e);
-          flags-there = simp length-take (part-long m d);
-          vars-there = simp length-take (part-long (add-le-add l m) (ap₂ _+_ e d));
+          rows-there = part-long _ refl l e;
+          stored-there = part-long _ refl l e;
+          requests-there = part-long _ refl l e;
+          flags-there = part-long _ refl m d;
+          vars-there = part-long _ refl (add-le-add l m) (ap₂ _+_ e d);
         },
-        simp length-take (part-long (few-bytes r) (all-bytes (s .args .run .now) e d)),
+        part-long _ refl (few-bytes r) (all-bytes (s .args .run .now) e d),
       ),
     )
 

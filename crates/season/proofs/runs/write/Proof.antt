@@ -1,9 +1,8 @@
 -- A site has at most 64 units and 64 inverters, so that a part of each array holds a value for every one, and a part of the vars one for each of both.
-use mathlib.Core.Path.{ap₂}
+use mathlib.Core.Path.{refl, ap₂}
 use Prim.Native.Nat.{_+_, _≤_}
 use native.Mathlib.Nat.{le-trans, le-of-eq, add-le-add}
 use native.Mathlib.Omega.{arith}
-use lib.ListN.{length-take}
 use Rattle.season.proofs.AnswerLaws.{part-long, few-units, few-roofs}
 use borrow.Author.Needs.{needs}
 use Rattle.season.proofs.runs.write.Statement.{statement}
@@ -82,11 +81,11 @@ write-with-requires c κs =
       n,
       (
         record {
-          rows-there = simp length-take (part-long l e);
-          stored-there = simp length-take (part-long l e);
-          requests-there = simp length-take (part-long l e);
-          flags-there = simp length-take (part-long m d);
-          vars-there = simp length-take (part-long (add-le-add l m) (ap₂ _+_ e d));
+          rows-there = part-long _ refl l e;
+          stored-there = part-long _ refl l e;
+          requests-there = part-long _ refl l e;
+          flags-there = part-long _ refl m d;
+          vars-there = part-long _ refl (add-le-add l m) (ap₂ _+_ e d);
         },
         f,
       ),
