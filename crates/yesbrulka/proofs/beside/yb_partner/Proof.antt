@@ -13,10 +13,10 @@ judge-requires : tie.Need-judge-requires
 judge-requires c κs = search needs
 
 enum-known-v : tie.Need-enum-known-v
-enum-known-v c = search needs
+enum-known-v c = c .match .keys1
 
 enum-known-a : tie.Need-enum-known-a
-enum-known-a c = search needs
+enum-known-a c = c .match .keys2
 
 cast-result : tie.Need-cast-result
 cast-result c = search needs

@@ -9,16 +9,16 @@ use Rattle.yesbrulka.proofs.feeds.yb_feed.Statement.{statement}
 use Rattle.yesbrulka.proofs.feeds.yb_feed.Tie as tie
 
 feed-requires : tie.Need-feed-requires
-feed-requires c κs = search needs
+feed-requires c κs = tt
 
 cast-result : tie.Need-cast-result
 cast-result c = search needs
 
 same-length : tie.Need-same-length
-same-length c = search needs
+same-length c = c .before .before .before .before .before .feed .kept .0
 
 same-length-2 : tie.Need-same-length-2
-same-length-2 c = search needs
+same-length-2 c = c .before .before .before .before .before .feed .kept .1 .1 .0
 
 returns : tie.Need-returns
 returns c =
@@ -28,10 +28,10 @@ returns c =
     (en, (es, (em, sym (ap (λ (b : Bool). cond b (roomFor (a .state .now) (a .chunk .now)) (a .written .now)) (ne-eqb (u .feed .result .number) 0 (c .if1 .taken))))))
 
 same-length-3 : tie.Need-same-length-3
-same-length-3 c = search needs
+same-length-3 c = c .before .before .before .before .before .feed .kept .0
 
 same-length-4 : tie.Need-same-length-4
-same-length-4 c = search needs
+same-length-4 c = c .before .before .before .before .before .feed .kept .1 .1 .0
 
 returns-2 : tie.Need-returns-2
 returns-2 c =

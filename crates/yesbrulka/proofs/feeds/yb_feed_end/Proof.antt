@@ -8,16 +8,16 @@ use Rattle.yesbrulka.proofs.feeds.yb_feed_end.Statement.{statement}
 use Rattle.yesbrulka.proofs.feeds.yb_feed_end.Tie as tie
 
 end-requires : tie.Need-end-requires
-end-requires c κs = search needs
+end-requires c κs = tt
 
 cast-result : tie.Need-cast-result
 cast-result c = search needs
 
 same-length : tie.Need-same-length
-same-length c = search needs
+same-length c = c .before .before .before .before .before .end .kept .0
 
 same-length-2 : tie.Need-same-length-2
-same-length-2 c = search needs
+same-length-2 c = c .before .before .before .before .before .end .kept .1 .0
 
 returns : tie.Need-returns
 returns c =
@@ -27,10 +27,10 @@ returns c =
     (en, (es, (em, sym (ap (λ (b : Bool). cond b 7 (a .written .now)) (ne-eqb (u .end .result .number) 0 (c .if1 .taken))))))
 
 same-length-3 : tie.Need-same-length-3
-same-length-3 c = search needs
+same-length-3 c = c .before .before .before .before .before .end .kept .0
 
 same-length-4 : tie.Need-same-length-4
-same-length-4 c = search needs
+same-length-4 c = c .before .before .before .before .before .end .kept .1 .0
 
 returns-2 : tie.Need-returns-2
 returns-2 c =

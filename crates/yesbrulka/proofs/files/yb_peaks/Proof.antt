@@ -31,16 +31,16 @@ peaks-requires : tie.Need-peaks-requires
 peaks-requires c κs = search needs
 
 enum-told : tie.Need-enum-told
-enum-told c = search needs
+enum-told c = c .match .keys1
 
 enum-known-r : tie.Need-enum-known-r
-enum-known-r c = search needs
+enum-known-r c = c .match .keys2
 
 cast-result : tie.Need-cast-result
 cast-result c = search needs
 
 same-length : tie.Need-same-length
-same-length c = search needs
+same-length c = c .before .before .before .peaks .kept .1 .1 .0
 
 returns : tie.Need-returns
 returns c =
@@ -49,7 +49,7 @@ returns c =
     (sym (ap (λ (x : PeaksAnswer). numberOf (peaksCall x)) (sym (is p) ∙ c .enum-told .given .1)), left p)
 
 same-length-2 : tie.Need-same-length-2
-same-length-2 c = search needs
+same-length-2 c = c .before .before .before .before .before .peaks .kept .1 .1 .0
 
 returns-2 : tie.Need-returns-2
 returns-2 c =

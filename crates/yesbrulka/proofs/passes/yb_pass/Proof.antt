@@ -27,19 +27,19 @@ pass-requires : tie.Need-pass-requires
 pass-requires c κs = search needs
 
 enum-known-p : tie.Need-enum-known-p
-enum-known-p c = search needs
+enum-known-p c = c .match .keys1
 
 cast-changed : tie.Need-cast-changed
 cast-changed c = search needs
 
 enum-known-r : tie.Need-enum-known-r
-enum-known-r c = search needs
+enum-known-r c = c .match .keys2
 
 cast-result : tie.Need-cast-result
 cast-result c = search needs
 
 same-length : tie.Need-same-length
-same-length c = search needs
+same-length c = c .before .before .before .before .before .before .pass .kept .1 .1 .1 .1 .1 .1 .1 .0
 
 returns : tie.Need-returns
 returns c =
@@ -51,7 +51,7 @@ returns c =
     pass-done (answer s) (leaves s) (a .mode) (a .target) (a .band) (a .factor) (a .measure) (s .fits .target .sfits) (s .fits .measure .sfits) (p .pass .result) (p .pass .last .1 .1 .1 .1 .1 .1 .1 .0) (p .pass .ensures .0) (p .pass .ensures .1) (a .need .now) (a .changed .now) (q .p .given .0 .0) (q .p .given .1) (t .struct-told .given .0 .1)
 
 same-length-2 : tie.Need-same-length-2
-same-length-2 c = search needs
+same-length-2 c = c .before .before .before .before .before .pass .kept .1 .1 .1 .1 .1 .1 .1 .0
 
 returns-2 : tie.Need-returns-2
 returns-2 c =

@@ -9,19 +9,19 @@ settle-requires : tie.Need-settle-requires
 settle-requires c κs = search needs
 
 enum-known-found : tie.Need-enum-known-found
-enum-known-found c = search needs
+enum-known-found c = c .match .keys1
 
 cast-settled : tie.Need-cast-settled
 cast-settled c = search needs
 
 enum-known-r : tie.Need-enum-known-r
-enum-known-r c = search needs
+enum-known-r c = c .match .keys2
 
 cast-result : tie.Need-cast-result
 cast-result c = search needs
 
 same-length : tie.Need-same-length
-same-length c = search needs
+same-length c = c .before .before .before .before .before .settle .kept .1 .1 .1 .1 .1 .1 .0
 
 returns : tie.Need-returns
 returns c =
@@ -32,7 +32,7 @@ returns c =
     study-done (a .load) (a .target) (a .band) (a .factor) (a .budget) (fleetOf (a .rated .now) (a .reserve .now) (a .stored .now) (a .rating .now) (a .weight .now)) (a .requests .now) (s .fits .load .sfits) (s .fits .target .sfits) (p .settle .result) (p .settle .last .1 .1 .1 .1 .1 .1 .0) (p .settle .ensures .0) (p .settle .ensures .1) (a .settled .now) (a .passes .now) (q .found .given .0 .0) (q .found .given .1)
 
 same-length-2 : tie.Need-same-length-2
-same-length-2 c = search needs
+same-length-2 c = c .before .before .before .before .before .settle .kept .1 .1 .1 .1 .1 .1 .0
 
 returns-2 : tie.Need-returns-2
 returns-2 c =

@@ -14,10 +14,10 @@ head-requires : tie.Need-head-requires
 head-requires c κs = search needs
 
 enum-known-h : tie.Need-enum-known-h
-enum-known-h c = search needs
+enum-known-h c = c .match .keys1
 
 enum-known-r : tie.Need-enum-known-r
-enum-known-r c = search needs
+enum-known-r c = c .match .keys2
 
 cast-result : tie.Need-cast-result
 cast-result c = search needs

@@ -14,19 +14,19 @@ study-requires : tie.Need-study-requires
 study-requires c κs = search needs
 
 enum-known-found : tie.Need-enum-known-found
-enum-known-found c = search needs
+enum-known-found c = c .match .keys1
 
 cast-settled : tie.Need-cast-settled
 cast-settled c = search needs
 
 enum-known-r : tie.Need-enum-known-r
-enum-known-r c = search needs
+enum-known-r c = c .match .keys2
 
 cast-result : tie.Need-cast-result
 cast-result c = search needs
 
 same-length : tie.Need-same-length
-same-length c = search needs
+same-length c = c .before .before .before .before .before .study .kept .1 .1 .1 .0
 
 returns : tie.Need-returns
 returns c =
@@ -43,7 +43,7 @@ returns c =
     )
 
 same-length-2 : tie.Need-same-length-2
-same-length-2 c = search needs
+same-length-2 c = c .before .before .before .before .before .study .kept .1 .1 .1 .0
 
 returns-2 : tie.Need-returns-2
 returns-2 c =

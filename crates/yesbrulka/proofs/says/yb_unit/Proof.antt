@@ -15,13 +15,13 @@ unit-requires : tie.Need-unit-requires
 unit-requires c κs = search needs
 
 enum-known-u : tie.Need-enum-known-u
-enum-known-u c = search needs
+enum-known-u c = c .match .keys1
 
 idle-loss-requires : tie.Need-idle-loss-requires
 idle-loss-requires c κs = search needs
 
 enum-known-r : tie.Need-enum-known-r
-enum-known-r c = search needs
+enum-known-r c = c .match .keys2
 
 cast-result : tie.Need-cast-result
 cast-result c = search needs

@@ -11,13 +11,13 @@ step-requires : tie.Need-step-requires
 step-requires c κs = search needs
 
 enum-known-g : tie.Need-enum-known-g
-enum-known-g c = search needs
+enum-known-g c = c .match .keys1
 
 cast-after : tie.Need-cast-after
 cast-after c = search needs
 
 enum-known-r : tie.Need-enum-known-r
-enum-known-r c = search needs
+enum-known-r c = c .match .keys2
 
 cast-result : tie.Need-cast-result
 cast-result c = search needs

@@ -10,10 +10,10 @@ step-as-requires : tie.Need-step-as-requires
 step-as-requires c κs = search needs
 
 enum-known-o : tie.Need-enum-known-o
-enum-known-o c = search needs
+enum-known-o c = c .match .keys1
 
 enum-known-r : tie.Need-enum-known-r
-enum-known-r c = search needs
+enum-known-r c = c .match .keys2
 
 cast-result : tie.Need-cast-result
 cast-result c = search needs
