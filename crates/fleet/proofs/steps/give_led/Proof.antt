@@ -94,7 +94,7 @@ give-requires c κs =
         rd .rested,
         (
           holding-ranged (unitBy (getD rows (p .i) [])) (getD (p .stored) (p .i) 0) (head .seconds)
-          (subst (λ (v : Unit). Ranged v (head .seconds)) u (unit-ranged (site s) (rd .sited) (p .i) (below t))) (le-trans within (le-of-eq (ap (λ (v : Unit). v .rated) u))),
+              (subst (λ (v : Unit). Ranged v (head .seconds)) u (unit-ranged (site s) (rd .sited) (p .i) (below t))) (le-trans within (le-of-eq (ap (λ (v : Unit). v .rated) u))),
           next-guiding (site s) (a .m) (a .stored .now) (a .requests .now) (a .vars .now) (a .room .now) st f (p .i) (p .stored) (p .vars) (p .room) (p .inv) (below t) y,
         ),
       ),
