@@ -192,7 +192,7 @@ ahead=$!
 
 # The proofs. When every crate has been checked rt tries the wrong programs, which takes as long again: all other tests run
 # beside these, and go before them. As many checks at a time as there are cores: natively each of four on two cores takes a
-# sixth more of the processor, and of ten a third.
+# sixth more of the processor.
 proofs() {
     rm -rf target/must-fail
     env RT_JOBS="${RT_JOBS:-$(nproc)}" nice -n 5 rt ci
