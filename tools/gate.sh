@@ -191,11 +191,11 @@ ahead >"$log/ahead" 2>&1 &
 ahead=$!
 
 # The proofs. When every crate has been checked rt tries the wrong programs, which takes as long again: all other tests run
-# beside these, and go before them. As many checks at a time as there are cores: natively each of four on two cores takes a
-# sixth more of the processor.
+# beside these, and go before them. More checks at a time than there are cores, since each waits for the slowest of its
+# batch: two at a time took 1,873 s on two quiet cores, and left one idle for much of the proofs.
 proofs() {
     rm -rf target/must-fail
-    env RT_JOBS="${RT_JOBS:-$(nproc)}" nice -n 5 rt ci
+    env RT_JOBS="${RT_JOBS:-6}" nice -n 5 rt ci
 }
 later line 'proofs' proofs
 echo '== proofs: under way; they are told below, when all else is done'
