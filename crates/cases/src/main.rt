@@ -2,6 +2,9 @@
 // A case is a kind byte, a two-byte length and that many bytes; the answer is the refusal's number
 // and, where that is 0, the results. `reference/` writes the cases and the answers that rt ci
 // compares with: the proved functions are held to a second opinion on every check.
+
+#![tactic(auto)]
+
 mod files;
 mod fleets;
 mod lights;

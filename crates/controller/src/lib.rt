@@ -1,4 +1,7 @@
 // The controller: one pass over a fleet. Requests are whole watts, positive for discharge.
+
+#![tactic(auto)]
+
 mod current;
 mod passes;
 
@@ -8,21 +11,21 @@ use rules::Settings;
 use whole::Refusal;
 
 // What a pass goes by: the settings, and the measure.
-#[derive(Drop)]
+#[derive(Clone, Copy)]
 pub struct Aim {
     pub settings: Settings,
     pub measure: i64,
 }
 
 // What a pass reports: the need after rule 2, by current that of rule 1, and whether a request changed.
-#[derive(Drop)]
+#[derive(Clone, Copy)]
 pub struct Passed {
     pub need: i64,
     pub changed: bool,
 }
 
 // A pass of any numbers: what it reports, or the refusal.
-#[derive(Drop)]
+#[derive(Clone, Copy)]
 pub enum PassAnswer {
     PassDone(Passed),
     PassRefused(Refusal),

@@ -1,5 +1,8 @@
 // Curves of 2 to 16 points with rising x, as they lie in bytes: the value anywhere, the tests of the
 // bytes, and lists laid as such bytes.
+
+#![tactic(auto)]
+
 mod laying;
 mod points;
 mod ranges;
@@ -10,7 +13,7 @@ pub use ranges::{curve_in, points_in};
 pub use values::value;
 
 // The bounds of a curve's x and y.
-#[derive(Drop)]
+#[derive(Clone, Copy)]
 pub struct Bounds {
     pub x_least: i32,
     pub x_most: i32,

@@ -1,5 +1,8 @@
 // Whole fields of a chunk taken into the state of a fed run: how far they go behind the kept tail, the
 // run over them, and what is kept afterwards.
+
+#![tactic(auto)]
+
 mod absorbing;
 mod feeding;
 mod heads;
@@ -21,7 +24,7 @@ const CLOSING: usize = 7;
 
 // What the run over whole fields goes by: the mark before them, the bytes of the site part, where
 // their steps begin, the state that they lead to, and where their records go.
-#[derive(Drop)]
+#[derive(Clone, Copy)]
 struct Course {
     mark: Mark,
     site: usize,

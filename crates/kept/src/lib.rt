@@ -1,5 +1,8 @@
 // The state of a run that is fed, in lent bytes: whether they are a state, and its parts read and
 // written.
+
+#![tactic(auto)]
+
 mod numbers;
 mod pieces;
 mod stands;
@@ -35,7 +38,7 @@ const PLACE_MOST: u64 = 22523;
 
 // What is kept beside lists: the place, the state between fields, the bytes of the site part and of
 // the tail, and what the step under way has so far.
-#[derive(Drop)]
+#[derive(Clone, Copy)]
 pub struct Mark {
     pub place: u64,
     pub state: State,

@@ -1,5 +1,8 @@
 // A fleet as a pass sees it, in lists and in rows: its ranges, its sums, and each unit's next request.
 // Requests are whole watts, positive for discharge.
+
+#![tactic(auto)]
+
 mod calls;
 mod filling;
 mod ranges;
@@ -14,7 +17,7 @@ pub use shares::{clear, share_all};
 pub use sums::{asked as asked_of, is_spent, signs, summed};
 
 // The sums over a fleet that no step changes.
-#[derive(Drop)]
+#[derive(Clone, Copy)]
 pub struct Totals {
     pub rated: u64,
     pub reserve: u64,

@@ -1,1 +1,3 @@
 // Charging as the mirror image of discharging: laws, which need no code.
+
+#![tactic(auto)]

@@ -1,5 +1,8 @@
 // Big-endian numbers and doubles at a place of lent bytes, read and written. Each read states its
 // value as one definition over the width, and each write the whole slice at exit.
+
+#![tactic(auto)]
+
 mod complement;
 mod doubles;
 mod lows;

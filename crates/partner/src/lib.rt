@@ -1,4 +1,7 @@
 // A partner's result beside the run file that it is for: right, or the first field that is wrong.
+
+#![tactic(auto)]
+
 mod alike;
 mod judging;
 mod places;
@@ -10,7 +13,7 @@ use stick::Answer;
 
 // The verdict: 0 for a right result; 1 for bytes of the partner's and 2 for a field of the run file,
 // with the place of the first and how many there are.
-#[derive(Drop)]
+#[derive(Clone, Copy)]
 pub struct Verdict {
     pub number: u8,
     pub start: u64,
@@ -18,14 +21,14 @@ pub struct Verdict {
 }
 
 // A verdict, or the check's refusal of the run file.
-#[derive(Drop)]
+#[derive(Clone, Copy)]
 pub enum PartnerAnswer {
     Judged(Verdict),
     Unjudged(Answer),
 }
 
 // A field within a step's records: where it begins, and how many bytes it has.
-#[derive(Drop)]
+#[derive(Clone, Copy)]
 struct Part {
     start: usize,
     size: usize,

@@ -1,4 +1,3 @@
--- Laws about the parts, and what the walks by hand over the reader share.
+-- Laws about the parts.
 pub mod PartLaws
-pub mod HeldReader
 pub mod ReaderLaws

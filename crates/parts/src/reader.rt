@@ -4,7 +4,7 @@ ghost use Rattle.parts.specs.Parts.{part_start, part_size, PartOf};
 use super::parts;
 
 // Walks the lent file and keeps its place.
-#[derive(Drop)]
+#[derive(Clone, Copy)]
 pub struct Reader<'a> {
     pub file: &'a [u8],
     pub place: u64,

@@ -1,6 +1,9 @@
 // The figures of a season, of an accepted file and a target in place of its own: what the meter shows
 // at its least and at its most, with and without the fleet, what the fleet holds at its least, what it
 // loses, and how often it is not enough.
+
+#![tactic(auto)]
+
 mod fleets;
 mod seasons;
 mod walking;
@@ -12,14 +15,14 @@ use tally::Figures;
 use whole::Refusal;
 
 // The figures, or the refusal.
-#[derive(Drop)]
+#[derive(Clone, Copy)]
 pub enum PeaksAnswer {
     Told(Figures),
     Untold(Refusal),
 }
 
 // What no step changes: the frame, and whether there is a function and where.
-#[derive(Drop)]
+#[derive(Clone, Copy)]
 struct Course {
     frame: Frame,
     led: bool,
@@ -27,7 +30,7 @@ struct Course {
 }
 
 // The steps so far: what the step under way has, and the figures of those before it.
-#[derive(Drop)]
+#[derive(Clone, Copy)]
 struct Seen {
     due: Due,
     figures: Figures,

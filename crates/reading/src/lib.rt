@@ -1,5 +1,8 @@
 // A reading of the meter: three phase powers in kW or three currents in A, as doubles, or none. Each
 // becomes whole watts or milliamperes or is refused; then one measure is chosen of the three.
+
+#![tactic(auto)]
+
 mod choosing;
 mod convert;
 mod kilowatts;
@@ -13,14 +16,14 @@ use whole::Refusal;
 
 // What a kW double becomes: whole watts, at most 10^8 in size, or nothing that can be used. An A
 // double becomes whole milliamperes so, none below 0.
-#[derive(Drop)]
+#[derive(Clone, Copy)]
 pub enum Watts {
     Whole(i32),
     Refused,
 }
 
 // The powers of the three phases in kW, or their currents in A, as the meter wrote them.
-#[derive(Drop)]
+#[derive(Clone, Copy)]
 pub struct Phases {
     pub first: f64,
     pub second: f64,
@@ -28,7 +31,7 @@ pub struct Phases {
 }
 
 // A step's reading: the meter wrote nothing, or three powers, or three currents.
-#[derive(Drop)]
+#[derive(Clone, Copy)]
 pub enum Reading {
     Missing,
     Power(Phases),
@@ -36,14 +39,14 @@ pub enum Reading {
 }
 
 // What the meter shows in a step: nothing, where its reading is missing, or the measure.
-#[derive(Drop)]
+#[derive(Clone, Copy)]
 pub enum Meter {
     Silent,
     Shows(i64),
 }
 
 // The regulated measure in watts or milliamperes, or the refusal.
-#[derive(Drop)]
+#[derive(Clone, Copy)]
 pub enum Measure {
     Chosen(i64),
     RefusedBy(Refusal),

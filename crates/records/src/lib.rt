@@ -1,4 +1,7 @@
 // The result file's records, laid at a place of a lent room.
+
+#![tactic(auto)]
+
 mod records;
 mod roofs;
 

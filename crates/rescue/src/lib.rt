@@ -1,4 +1,7 @@
 // Rescue of a damaged stick: what can be kept of any bytes, and what was changed.
+
+#![tactic(auto)]
+
 mod calls;
 mod groups;
 mod walking;
@@ -20,7 +23,7 @@ const END_BYTES: usize = 7;
 // A field, or a weather, a voltage or both and the reading behind them: whether the walk goes on over
 // them; if not, the number of what stands there, 0 where the bytes end; the state behind them; how
 // many bytes they have; and whether their reading is made missing.
-#[derive(Drop)]
+#[derive(Clone, Copy)]
 struct Group {
     on: bool,
     number: u8,
@@ -31,7 +34,7 @@ struct Group {
 
 // Where the walk ends: the number of what stands there, 0 where the bytes end; the place; the state
 // between fields; the bytes kept before it, and the readings made missing.
-#[derive(Drop)]
+#[derive(Clone, Copy)]
 struct Walk {
     number: u8,
     at: usize,
@@ -42,7 +45,7 @@ struct Walk {
 
 // What a rescue comes to, rooms aside: the number of a refusal, 0 for none, its place and steps, or
 // the file's length and the output's steps; the output's bytes and the changes, 0 on a refusal.
-#[derive(Drop)]
+#[derive(Clone, Copy)]
 pub struct Extent {
     pub number: u8,
     pub place: u64,

@@ -1,1 +1,3 @@
 // What holds of a rescue: laws, which need no code.
+
+#![tactic(auto)]

@@ -1,5 +1,8 @@
 // Rows of storage units, as the code carries a fleet: a unit's values and what is kept beside them as
 // 24 numbers, and back.
+
+#![tactic(auto)]
+
 mod rows;
 
 pub use rows::{
@@ -12,7 +15,7 @@ pub use rows::{
 // which on it can give a watt, and that up to which it may have room for what a watt adds; its var
 // request, limited, and the most watts that leave room for it; and what its circle leaves beside the
 // idle draw.
-#[derive(Drop)]
+#[derive(Clone, Copy)]
 pub struct Kept {
     pub draw: u32,
     pub vars: i32,

@@ -1,5 +1,8 @@
 // What a pass goes by: the settings with their ranges, and its rules over plain numbers: the need, and
 // what one unit's request becomes. Requests are whole watts, positive for discharge.
+
+#![tactic(auto)]
+
 mod ranges;
 mod rules;
 
@@ -12,7 +15,7 @@ pub use rules::{
 // What the controller is set to. Mode 1 shaves the peak, 2 supports, 3 fills the valley; 4 and 5 are
 // 1 and 3 by current. Target -10^8 to 10^8 and band 0 to 2 * 10^8, in W or by current in mA; factor
 // 1 to 1,000 thousandths.
-#[derive(Drop)]
+#[derive(Clone, Copy)]
 pub struct Settings {
     pub mode: u8,
     pub target: i32,
@@ -21,7 +24,7 @@ pub struct Settings {
 }
 
 // What a fleet's requests say: F, and whether some are above and some below 0.
-#[derive(Drop)]
+#[derive(Clone, Copy)]
 pub struct Asked {
     pub sum: i64,
     pub above: bool,
@@ -30,7 +33,7 @@ pub struct Asked {
 
 // Where each unit's own need comes from: the need, in mA by current; and F, which is added to a
 // unit's own need where the fleet is in the state that is not the mode's own.
-#[derive(Drop)]
+#[derive(Clone, Copy)]
 pub struct Wanted {
     pub current: bool,
     pub plain: i64,

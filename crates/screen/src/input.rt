@@ -3,7 +3,7 @@ ghost use Rattle.io.specs.Counts.{IsPrefixLen};
 
 // What reading came to: the bytes at a buffer's start, and whether the input ended there or a read
 // failed; where neither is so, the buffer is full.
-#[derive(Drop)]
+#[derive(Clone, Copy)]
 pub struct Filled {
     pub count: usize,
     pub ended: bool,

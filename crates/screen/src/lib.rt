@@ -1,5 +1,8 @@
 // What the programs read, and what they say of the run file on standard input: the line that the
 // import tool prints of a file, that it cannot be read, and that it is longer than a program holds.
+
+#![tactic(auto)]
+
 mod dump;
 mod input;
 mod words;

@@ -3,7 +3,7 @@ ghost use Rattle.std.specs.Prelude.{◌≤◌};
 use libc::STDERR_FILENO;
 
 // A word of the call: the number that it is, or that it is none.
-#[derive(Drop)]
+#[derive(Clone, Copy)]
 pub enum Given {
     Number(u32),
     NoNumber,

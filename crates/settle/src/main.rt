@@ -1,5 +1,8 @@
 // Studies where the fleet of the run file on standard input settles over a fixed load, in watts,
 // within a budget of passes: settle LOAD [BUDGET]. It prints what the import tool prints of a file.
+
+#![tactic(auto)]
+
 mod arguments;
 mod lines;
 mod study;

@@ -5,7 +5,7 @@ use unit::Unit;
 
 // What a study leaves: the sum of the requests, the reading, how far this is from the target, and
 // whether that is within half the band.
-#[derive(Drop)]
+#[derive(Clone, Copy)]
 pub struct Left {
     pub sum: i64,
     pub reading: i64,

@@ -1,4 +1,7 @@
 // The settling study: where a peak-shaving fleet settles over a fixed load.
+
+#![tactic(auto)]
+
 mod study;
 
 use rules::Settings;
@@ -7,7 +10,7 @@ use whole::Refusal;
 
 // What a study is asked: the settings, of which the mode has no say, the load in watts and the most
 // passes.
-#[derive(Drop)]
+#[derive(Clone, Copy)]
 pub struct Trial {
     pub settings: Settings,
     pub load: i64,
@@ -15,14 +18,14 @@ pub struct Trial {
 }
 
 // What a study reports: whether it settled, and the number of passes that changed a request.
-#[derive(Drop)]
+#[derive(Clone, Copy)]
 pub struct Studied {
     pub settled: bool,
     pub passes: u32,
 }
 
 // A study of any numbers: what it reports, or the refusal.
-#[derive(Drop)]
+#[derive(Clone, Copy)]
 pub enum StudyAnswer {
     StudyDone(Studied),
     StudyRefused(Refusal),

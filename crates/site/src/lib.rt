@@ -1,5 +1,8 @@
 // What a run file says of a site: its head, and its units as rows. One step of it: the reading that
 // closes the step, the sun and the voltage.
+
+#![tactic(auto)]
+
 use lead::Voltage;
 use reading::Reading;
 use rules::Settings;
@@ -7,7 +10,7 @@ use solar::Sun;
 
 // What a file says of a site beside its units: the edition, the seconds of a step, the controller's
 // settings and the phase choice.
-#[derive(Drop)]
+#[derive(Clone, Copy)]
 pub struct Head {
     pub edition: u8,
     pub seconds: u32,
@@ -17,7 +20,7 @@ pub struct Head {
 
 // One step: a group of fields that its reading closes, with the sun of its weather, or none, and its
 // voltage, or none.
-#[derive(Drop)]
+#[derive(Clone, Copy)]
 pub struct Step {
     pub reading: Reading,
     pub sun: Sun,
@@ -25,7 +28,7 @@ pub struct Step {
 }
 
 // What a step under way has before its reading.
-#[derive(Drop)]
+#[derive(Clone, Copy)]
 pub struct Due {
     pub sun: Sun,
     pub voltage: Voltage,

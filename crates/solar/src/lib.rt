@@ -1,5 +1,8 @@
 // One step of a solar inverter, and the weather it goes by. The curves of an inverter lie in lent
 // bytes, as they do in a run file.
+
+#![tactic(auto)]
+
 mod calls;
 mod powers;
 mod ranges;
@@ -14,7 +17,7 @@ use whole::Refusal;
 
 // An inverter: array power in W, S in VA, cut-in and cut-out in parts in 10,000 of S, the limit in
 // parts in 10,000 of array power, the vars wanted, and what comes first, watts (0) or vars (1).
-#[derive(Drop)]
+#[derive(Clone, Copy)]
 pub struct Inverter {
     pub array: u32,
     pub kva: u32,
@@ -26,28 +29,28 @@ pub struct Inverter {
 }
 
 // The weather as it was written: irradiance in kW/m2 and temperature in degrees Celsius.
-#[derive(Drop)]
+#[derive(Clone, Copy)]
 pub struct Weather {
     pub irradiance: f64,
     pub temperature: f64,
 }
 
 // The same in whole thousandths.
-#[derive(Drop)]
+#[derive(Clone, Copy)]
 pub struct Sun {
     pub irradiance: u32,
     pub temperature: i32,
 }
 
 // What a weather becomes: a sun, or nothing that can be used.
-#[derive(Drop)]
+#[derive(Clone, Copy)]
 pub enum Sky {
     Clear(Sun),
     Unknown,
 }
 
 // What a step gives: whether the inverter is on, watts at the grid, vars, and DC power in W.
-#[derive(Drop)]
+#[derive(Clone, Copy)]
 pub struct Given {
     pub on: bool,
     pub watts: i32,
@@ -56,7 +59,7 @@ pub struct Given {
 }
 
 // A step of any numbers: what it gives, or the refusal.
-#[derive(Drop)]
+#[derive(Clone, Copy)]
 pub enum Lit {
     Done(Given),
     RefusedBy(Refusal),

@@ -1,5 +1,8 @@
 // Checks the run file on standard input and prints the line that the import tool prints of a file;
 // of a refused file the value bytes of the refused field too, as the support screen gets them.
+
+#![tactic(auto)]
+
 use libc::{STDIN_FILENO, STDOUT_FILENO};
 use stick::Known;
 

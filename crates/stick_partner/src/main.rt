@@ -1,5 +1,8 @@
 // Judges a result that a partner made of a run file: stick_partner RUN RESULT. It prints the
 // verdict and, of a wrong result, the bytes that show it, as they lie in one of the two files.
+
+#![tactic(auto)]
+
 mod files;
 mod lines;
 

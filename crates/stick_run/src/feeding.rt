@@ -9,7 +9,7 @@ const TURNS: u32 = 64;
 
 // How a run goes: the number of a refusal, 0 for none; whether anything was written, and whether all
 // that should be was.
-#[derive(Drop)]
+#[derive(Clone, Copy)]
 pub struct Went {
     pub number: u8,
     pub begun: bool,
@@ -61,7 +61,7 @@ fn chunk(state: &mut [u8], bytes: &[u8], room: &mut [u8], begun: bool) -> Went {
 }
 
 // What a buffer leaves: how the run goes, and whether the input ended there or a read failed.
-#[derive(Drop)]
+#[derive(Clone, Copy)]
 struct Read {
     went: Went,
     ended: bool,
@@ -115,7 +115,7 @@ fn put_end(k: Known, room: &[u8]) -> bool
 
 // What a run came to: what is known of the stick, whether a read failed, whether anything was written,
 // and whether all that should be was.
-#[derive(Drop)]
+#[derive(Clone, Copy)]
 pub struct Ran {
     pub known: Known,
     pub failed: bool,

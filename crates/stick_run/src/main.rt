@@ -1,5 +1,8 @@
 // Runs the run file on standard input, of any length, and writes its result to standard output as it
 // goes: what is read is fed to the run in chunks. What is known of the file goes to standard error.
+
+#![tactic(auto)]
+
 mod feeding;
 
 use feeding::Ran;

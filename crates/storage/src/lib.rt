@@ -1,5 +1,8 @@
 // One step of a storage unit. Power is whole watts, positive for discharge; energy is whole joules;
 // efficiencies are parts in 10,000.
+
+#![tactic(auto)]
+
 mod giving;
 mod resting;
 mod steps;
@@ -21,7 +24,7 @@ pub const TAKES: u8 = 2;
 pub const OPEN: u8 = 3;
 
 // What a step gives: watts at the grid, vars, the store after it, and the loss in joules.
-#[derive(Drop)]
+#[derive(Clone, Copy)]
 pub struct Outcome {
     pub watts: i32,
     pub vars: i32,
@@ -30,7 +33,7 @@ pub struct Outcome {
 }
 
 // A step of any numbers: its outcome, or the refusal.
-#[derive(Drop)]
+#[derive(Clone, Copy)]
 pub enum Stepped {
     Done(Outcome),
     RefusedBy(Refusal),

@@ -1,5 +1,8 @@
 // The steps in a stretch of a run file, one field at a time: what stands, and the records, into a lent
 // room.
+
+#![tactic(auto)]
+
 mod halves;
 mod stretches;
 
@@ -9,7 +12,7 @@ use site::Due;
 pub use stretches::{along, on_field};
 
 // A step under way: its number, and what it has so far.
-#[derive(Drop)]
+#[derive(Clone, Copy)]
 pub struct Way {
     pub step: u32,
     pub due: Due,
@@ -17,7 +20,7 @@ pub struct Way {
 
 // Where a stretch goes on: what no step changes, where the inverters lie in the bytes of the site,
 // whether there is a function and where, where to read, where to write, and the step under way.
-#[derive(Drop)]
+#[derive(Clone, Copy)]
 pub struct Track {
     pub frame: Frame,
     pub first: usize,

@@ -1,5 +1,8 @@
 // A storage unit's values and their ranges. Power is whole watts, positive for discharge; energy is
 // whole joules; efficiencies are parts in 10,000.
+
+#![tactic(auto)]
+
 mod ranges;
 
 pub use ranges::{
@@ -10,7 +13,7 @@ pub use ranges::{
 // A unit's values, in the order of the file. Priority 0 is watts, 1 vars; `provide` and `absorb` are
 // the most vars either way. The idle loss sits on the DC side, or at the grid. `link` is what an
 // ampere of its connection is in watts, 0 where no connection is given.
-#[derive(Drop)]
+#[derive(Clone, Copy)]
 pub struct Unit {
     pub rated: u64,
     pub reserve: u64,

@@ -1,6 +1,9 @@
 // Whole numbers: the smaller of two, quotients rounded up and cut toward zero, sign and size of a
 // signed number, and the largest leg in the kVA circle; and what a refusal is. Nothing here knows of
 // batteries.
+
+#![tactic(auto)]
+
 mod calls;
 mod circle;
 mod order;
@@ -14,7 +17,7 @@ pub use quotients::{ceil, cut};
 pub use sign::{below_zero32, below_zero64, signed32, signed64, size32, size64};
 
 // A whole refusal: its number, its place and the steps accepted before it.
-#[derive(Drop)]
+#[derive(Clone, Copy)]
 pub struct Refusal {
     pub number: u8,
     pub place: u64,

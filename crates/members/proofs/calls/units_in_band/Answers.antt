@@ -1,0 +1,71 @@
+use Prim.Native.Nat.{ℕ, ◌-◌, ◌≤◌}
+use mathlib.Core.Path.{◌≡◌, refl, sym, ap, ap₂, ◌∙◌, subst⁻¹}
+use mathlib.Core.Bool.{Bool, ◌&&◌, not}
+use native.Mathlib.Nat.{le_trans, le_of_eq}
+use native.Mathlib.Omega.{arith}
+use lib.Dec.{lit≤}
+use lib.IntN.{ℤ, nat_abs}
+use lib.ListN.{length, get_or}
+use mir.Syntax.{w64}
+use borrow.Author.Tests.{not-true, not-false}
+use Rattle.whole.specs.Over.{all_of}
+use Rattle.whole.proofs.OverLaws.{all_next}
+use Rattle.whole.proofs.SignLaws.{read}
+use Rattle.rules.specs.Rules.{in_band, band_in_watts}
+use Rattle.members.specs.Posts.{fleet_by, own_by, all_in_band_by}
+use Rattle.members.proofs.ColumnLaws.{link_at_lem, own_at}
+use Rattle.members.proofs.CallLaws.{one_fails}
+use Rattle.members.proofs.calls.units_in_band.Goals as goal
+use Rattle.members.proofs.calls.units_in_band.Goals.{After-in_band, After-link_of-link, At-loop-i, Start}
+
+abbrev at : (s : Start) → ℕ → Bool
+at s k =
+    let a = s.args in
+    let f = fleet_by a.units.now a.stored.now in
+    in_band (band_in_watts a.w.current (get_or f.link k 0) a.band) (own_by a.w f k)
+
+-- the link that was read is the unit's
+link_is : (c : After-link_of-link) → let a = c.args in
+    c.link_of-link.result ≡ get_or (fleet_by a.units.now a.stored.now).link c.loop-i.i 0
+link_is c = let a = c.args in c.link_of-link.ensures ∙ sym (link_at_lem a.units.now a.stored.now c.loop-i.i)
+
+link_ok : (c : After-link_of-link) → c.link_of-link.result ≤ 120000
+link_ok c = le_trans (le_of_eq (link_is c)) (c.requires.link_small c.loop-i.i)
+
+-- and so is the test
+test_is : (c : After-in_band) → c.in_band.result ≡ at c.before.before.before.before.before.before.before.before c.loop-i.i
+test_is c =
+    let a = c.args in
+    let band = c.own_band-own.ensures ∙ ap (λ (link : ℕ). band_in_watts a.w.current link a.band) (link_is (record { before = c.before.before.before.before; type_inv = record { stored = c.shared_slice_known-1.given } })) in
+    let need = read w64 c.own_need.result c.own_need.type_inv ∙ c.own_need.ensures.value
+    ∙ own_at a.w a.units.now a.stored.now c.loop-i.i c.link_of-link.result c.link_of-link.ensures in
+    c.in_band.ensures ∙ ap₂ in_band band need
+
+pub loop-i-init : goal.loop-i-init
+unfolding all_of
+loop-i-init c = (omega arith, refl)
+
+pub own_band-own-requires : goal.own_band-own-requires
+own_band-own-requires c = link_ok c
+
+pub own_need-requires : goal.own_need-requires
+own_need-requires c = record { modest = c.requires.modest; link_bound = link_ok (goal.at.own_need-requires c).After-link_of-link }
+
+pub in_band-requires : goal.in_band-requires
+in_band-requires c =
+    subst⁻¹ (λ (z : ℤ). nat_abs z ≤ 10000000000000) (read w64 c.own_need.result c.own_need.type_inv) (le_trans c.own_need.ensures.result_bound (lit≤ tt))
+
+pub returns-then-not-in_band : goal.returns-then-not-in_band
+unfolding all_in_band_by
+returns-then-not-in_band c =
+    sym (one_fails (length c.args.units.now) (at (goal.at.returns-then-not-in_band c).Start) c.loop-i.i (omega arith) (sym (test_is (goal.at.returns-then-not-in_band c).After-in_band) ∙ not-true c.in_band.result (ap not c.if-not-in_band.true)))
+
+pub loop-i-preserved : goal.loop-i-preserved
+loop-i-preserved c =
+    (omega arith, all_next c.loop-i.i (at (goal.at.loop-i-preserved c).Start) ∙ ap₂ ◌&&◌ c.loop-i.invariant.1 (sym (test_is (goal.at.loop-i-preserved c).After-in_band) ∙ not-false c.in_band.result (ap not c.if-not-in_band.false)))
+
+pub returns : goal.returns
+unfolding all_in_band_by
+returns c =
+    let e : c.loop-i.i ≡ length c.args.units.now = omega arith in
+    sym c.loop-i.invariant.1 ∙ ap (λ (n : ℕ). all_of n (at (goal.at.returns c).Start)) e

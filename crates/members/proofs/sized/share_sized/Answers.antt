@@ -1,0 +1,84 @@
+use Prim.Native.Nat.{ℕ, ◌-◌}
+use mathlib.Core.Path.{◌≡◌, ap, ap₂, ◌∙◌}
+use native.Mathlib.Nat.{lt_of_le_of_lt, le_trans, le_of_eq}
+use native.Mathlib.Omega.{arith}
+use lib.Dec.{lit<}
+use lib.IntN.{ℤ, nat_abs}
+use lib.ListN.{length}
+use Rattle.whole.specs.Over.{each}
+use Rattle.whole.specs.Signed.{negative, signed}
+use Rattle.whole.proofs.SignLaws.{sign_size}
+use Rattle.rules.proofs.RuleLaws.{back64, read_sized}
+use Rattle.members.proofs.PlaceLaws.{reached_none, reached_length, reached_step, reached_requests, reached_flag}
+use Rattle.members.proofs.ShareLaws.{row_there, may_size, row_sized, sized_is}
+use Rattle.members.proofs.sized.share_sized.Goals as goal
+use Rattle.members.proofs.sized.share_sized.Goals.{After-old-1, After-size64-size, At-loop-i, Start}
+
+abbrev begun : After-size64-size → Start
+begun z = z.before.before.before.before.before.before
+
+-- the function that the loop maps
+abbrev at : After-size64-size → ℕ → ℤ → ℤ
+at z = let a = (begun z).args in row_sized a.charging z.below_zero64-below.result a.factor z.size64-size.result a.weights a.units.now a.stored.now
+
+long : (c : At-loop-i) → length c.loop-i.requests ≡ length (begun (record { before = c.before.before; type_inv = record { stored = c.shared_slice_known-1.given } })).args.requests.now
+long c = reached_length (at (record { before = c.before.before; type_inv = record { stored = c.shared_slice_known-1.given } })) (begun (record { before = c.before.before; type_inv = record { stored = c.shared_slice_known-1.given } })).args.requests.now c.loop-i.requests c.loop-i.changed c.loop-i.i c.loop-i.invariant
+
+-- the sign and the size are the plain need's
+plain_read : (s : Start) → back64 s.args.w.plain ≡ s.args.w.plain
+plain_read s = read_sized s.args.w.plain (lt_of_le_of_lt s.requires.sharing.linked.modest.plain_small (lit< tt))
+
+plain_is : (z : After-size64-size) → signed z.below_zero64-below.result z.size64-size.result ≡ (begun z).args.w.plain
+plain_is z =
+    let e = plain_read (begun z) in
+    ap₂ signed (z.below_zero64-below.ensures ∙ ap negative e) (z.size64-size.ensures ∙ ap nat_abs e) ∙ sign_size (begun z).args.w.plain
+
+pub loop-i-init : goal.loop-i-init
+loop-i-init c = reached_none (at c) (begun c).args.requests.now
+
+pub offset_bounds-requests-i : goal.offset_bounds-requests-i
+offset_bounds-requests-i c = omega (arith, long (goal.at.offset_bounds-requests-i c).At-loop-i)
+
+pub slice_copy_out-old : goal.slice_copy_out-old
+slice_copy_out-old c = omega (arith, long (goal.at.slice_copy_out-old c).At-loop-i)
+
+pub offset_bounds-stored-i : goal.offset_bounds-stored-i
+offset_bounds-stored-i c = omega (arith, long (goal.at.offset_bounds-stored-i c).At-loop-i, (begun (goal.at.offset_bounds-stored-i c).After-size64-size).requires.sharing.lengths.stored)
+
+pub bounds-stored-i : goal.bounds-stored-i
+bounds-stored-i c = omega (arith, long (goal.at.bounds-stored-i c).At-loop-i, (begun (goal.at.bounds-stored-i c).After-size64-size).requires.sharing.lengths.stored)
+
+pub next_sized-next-requires : goal.next_sized-next-requires
+next_sized-next-requires c =
+    let s = begun (goal.at.next_sized-next-requires c).After-size64-size in
+    let a = s.args in
+    let p = s.requires.sharing in
+    let small = le_trans (le_of_eq (c.size64-size.ensures ∙ ap nat_abs (plain_read s))) (p.linked.modest.current_small s.requires.current_value) in record { i_in_bounds = row_there a.factor a.w a.weights a.units.now a.stored.now (length a.requests.now) p c.loop-i.i (omega (arith, long (goal.at.next_sized-next-requires c).At-loop-i)); sharable_by_size = may_size a.factor a.w a.weights a.units.now a.stored.now (length a.requests.now) p c.loop-i.i c.size64-size.result small s.requires.le_weights }
+
+pub offset_bounds-requests-i-in-loop-i : goal.offset_bounds-requests-i-in-loop-i
+offset_bounds-requests-i-in-loop-i c = omega (arith, long (goal.at.offset_bounds-requests-i-in-loop-i c).At-loop-i)
+
+pub bounds-requests-i : goal.bounds-requests-i
+bounds-requests-i c = omega (arith, long (goal.at.bounds-requests-i c).At-loop-i)
+
+pub overflow_add-i : goal.overflow_add-i
+overflow_add-i c = omega (arith, long (goal.at.overflow_add-i c).At-loop-i)
+
+pub loop-i-smaller : goal.loop-i-smaller
+loop-i-smaller c = omega (arith, long (goal.at.loop-i-smaller c).At-loop-i)
+
+pub loop-i-preserved : goal.loop-i-preserved
+loop-i-preserved c =
+    reached_step (at (goal.at.loop-i-preserved c).After-size64-size) (begun (goal.at.loop-i-preserved c).After-size64-size).args.requests.now c.loop-i.requests c.loop-i.changed c.loop-i.i c.loop-i.invariant (omega (arith, long (goal.at.loop-i-preserved c).At-loop-i))
+    c.next_sized-next.result c.old-1.given c.next_sized-next.type_inv c.next_sized-next.ensures
+
+pub shape_of-requests : goal.shape_of-requests
+shape_of-requests c = long (goal.at.shape_of-requests c).At-loop-i
+
+pub returns : goal.returns
+returns c =
+    let s = begun (goal.at.returns c).After-size64-size in
+    let a = s.args in
+    let rs = a.requests.now in
+    let same = sized_is a.charging a.factor a.w a.weights a.units.now a.stored.now c.below_zero64-below.result c.size64-size.result s.requires.current_value s.requires.other_value (plain_is (goal.at.returns c).After-size64-size) in
+    let e : c.loop-i.i ≡ length rs = omega (arith, long (goal.at.returns c).At-loop-i, c.loop-i.invariant.upto) in record { requests_after = reached_requests (at (goal.at.returns c).After-size64-size) rs c.loop-i.requests c.loop-i.changed c.loop-i.i c.loop-i.invariant e ∙ ap (λ (f : ℕ → ℤ → ℤ). each f rs) same; value = reached_flag (at (goal.at.returns c).After-size64-size) rs c.loop-i.requests c.loop-i.changed c.loop-i.i c.loop-i.invariant e }

@@ -1,0 +1,10 @@
+-- The machine compares what it reads back, which are the two numbers.
+use mir.Syntax.{w64}
+use Rattle.reading.proofs.ChoiceLaws.{larger_second, larger_first}
+use Rattle.reading.proofs.choosing.larger.Goals as goal
+
+pub returns-then-a-b : goal.returns-then-a-b
+returns-then-a-b c = larger_second w64 c.args.a c.args.b c.ranges.a c.ranges.b c.if-a-b.true
+
+pub returns-else-a-b : goal.returns-else-a-b
+returns-else-a-b c = larger_first w64 c.args.a c.args.b c.ranges.a c.ranges.b c.if-a-b.false
