@@ -12,7 +12,7 @@ abbrev at : (s : Start) → ℕ → ℕ
 at s = link_at s.args.phases.now s.args.volts.now
 
 long : (c : At-loop-i) → length c.loop-i.links ≡ length c.args.links.now
-long c = filling_length (at c.before) c.args.links.now c.loop-i.links c.loop-i.i c.loop-i.invariant
+long c = filling_length (at (record { before = c.before.before; type_inv = record { links = c.items_fit3; volts = c.items_fit2; phases = c.items_fit } })) c.args.links.now c.loop-i.links c.loop-i.i c.loop-i.invariant
 
 pub loop-i-init : goal.loop-i-init
 loop-i-init c = filling_none (at c) c.args.links.now

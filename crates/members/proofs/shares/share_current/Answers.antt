@@ -27,13 +27,13 @@ abbrev left : Start → Bool → List ℤ
 left s way = let a = s.args in each (shared_by way a.factor a.w a.weights (fleet_by a.units.now a.stored.now)) a.requests.now
 
 pub share_sized-requires : goal.share_sized-requires
-share_sized-requires c = let p = (begun (goal.at.share_sized-requires c).Then-w-weights).requires in record { current_value = p.0; other_value = (plain (goal.at.share_sized-requires c).Then-w-weights).0; le_weights = (plain (goal.at.share_sized-requires c).Then-w-weights).1; sharing = p.1 }
+share_sized-requires c = record { current_value = (begun (goal.at.share_sized-requires c).Then-w-weights).requires.current_value; other_value = (plain (goal.at.share_sized-requires c).Then-w-weights).0; le_weights = (plain (goal.at.share_sized-requires c).Then-w-weights).1; sharing = (begun (goal.at.share_sized-requires c).Then-w-weights).requires.sharing }
 
 pub returns-then-charging : goal.returns-then-charging
 returns-then-charging c = record { requests_after = c.share_sized.ensures.requests_after ∙ sym (ap (left (begun (goal.at.returns-then-charging c).Then-w-weights)) c.if-charging.true); value = c.share_sized.ensures.value }
 
 pub share_sized-requires-then-w-weights : goal.share_sized-requires-then-w-weights
-share_sized-requires-then-w-weights c = let p = (begun (goal.at.share_sized-requires-then-w-weights c).Then-w-weights).requires in record { current_value = p.0; other_value = (plain (goal.at.share_sized-requires-then-w-weights c).Then-w-weights).0; le_weights = (plain (goal.at.share_sized-requires-then-w-weights c).Then-w-weights).1; sharing = p.1 }
+share_sized-requires-then-w-weights c = record { current_value = (begun (goal.at.share_sized-requires-then-w-weights c).Then-w-weights).requires.current_value; other_value = (plain (goal.at.share_sized-requires-then-w-weights c).Then-w-weights).0; le_weights = (plain (goal.at.share_sized-requires-then-w-weights c).Then-w-weights).1; sharing = (begun (goal.at.share_sized-requires-then-w-weights c).Then-w-weights).requires.sharing }
 
 pub returns-then-w-weights : goal.returns-then-w-weights
 returns-then-w-weights c = record { requests_after = c.share_sized-then-w-weights.ensures.requests_after ∙ sym (ap (left (begun (goal.at.returns-then-w-weights c).Then-w-weights)) c.if-charging.false); value = c.share_sized-then-w-weights.ensures.value }
