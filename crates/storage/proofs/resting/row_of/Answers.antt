@@ -18,7 +18,7 @@ use Rattle.storage.proofs.StepLaws.{idle_draw_small, rest_draw_small}
 use Rattle.storage.proofs.KindLaws.{limited_most}
 use Rattle.storage.proofs.GivingLaws.{removal_small, row_unit_lem, row_told}
 use Rattle.storage.proofs.resting.row_of.Goals as goal
-use Rattle.storage.proofs.resting.row_of.Goals.{After-below_zero32, After-idle_draw-idle, After-idle_vars, After-leg, After-leg-2, After-limited-size, After-most, After-removed, After-signed32, After-struct_told-1, Joined-least-u, Start}
+use Rattle.storage.proofs.resting.row_of.Goals.{then-least-u, else-least-u, After-below_zero32, After-idle_draw-idle, After-idle_vars, After-leg, After-leg-2, After-limited-size, After-most, After-removed, After-signed32, After-struct_told-1, Joined-least-u, Start}
 
 pub overflow_cast-idle : goal.overflow_cast-idle
 overflow_cast-idle c = omega (arith, idle_draw_small c.args.u c.requires.unit c.idle_draw-idle.result c.idle_draw-idle.ensures)
@@ -62,15 +62,17 @@ back_fits z h = subst⁻¹ (SFits w32) (read w32 z h) (record { sfits = h })
 
 pub returns : goal.returns
 returns c =
-    let u = c.args.u in let parts = -- its link is a number of 32 bits
+    let u = c.args.u in
+    -- its link is a number of 32 bits
     let link : u.link < 4294967296 = omega (arith, c.well_formed.0.1.1.1.1.1.1.1.1.1.1.1.1.1.1.1) in
-    let top : c.if-least-u.k ≡ top_of u c.args.seconds = ⊎_elim (λ w. w.1) (λ w. omega (arith, w.0.left, w.1)) c.if-least-u.branch in
-    let full : c.signed32.result ≡ full_vars u = c.signed32.ensures ∙ ap₂ signed (c.below_zero32.ensures ∙ ap negative (read w32 u.var_request c.struct_told-1.given.1.1.1.1.1.1.0.1)) c.limited-size.ensures in (
-      row_unit_lem u c.args.seconds c.requires link _ c.row.result c.row.ensures,
-      row_told u c.args.seconds c.requires link _ c.row.result c.row.ensures
+    let top : c.if-least-u.k ≡ top_of u c.args.seconds = elim c.if-least-u.branch [ then-least-u w ↦ w.k-is | else-least-u w ↦ omega (arith, w.if-least-u.false, w.k-is) ] in
+    let full : c.signed32.result ≡ full_vars u = c.signed32.ensures ∙ ap₂ signed (c.below_zero32.ensures ∙ ap negative (read w32 u.var_request c.struct_told-1.given.1.1.1.1.1.1.0.1)) c.limited-size.ensures in
+    record {
+      result_value = row_unit_lem u c.args.seconds c.requires link _ c.row.result c.row.ensures;
+      told = row_told u c.args.seconds c.requires link _ c.row.result c.row.ensures
           (omega (arith, draws (goal.at.returns c).After-idle_draw-idle)) (back_fits c.idle_vars.result c.idle_vars.type_inv) (omega (arith, c.most.type_inv)) (back_fits c.signed32.result c.signed32.type_inv)
           (omega (arith, c.leg.type_inv)) (omega (arith, c.leg-2.type_inv))
           (ap (λ (n : ℕ). n + u.grid_loss) c.idle_draw-idle.ensures) (read w32 c.idle_vars.result c.idle_vars.type_inv ∙ c.idle_vars.ensures) c.most.ensures
           (ap (λ (n : ℕ). u.reserve + n) c.removed.ensures) top (read w32 c.signed32.result c.signed32.type_inv ∙ full)
-          (c.leg.ensures ∙ ap (leg_of u.kva) c.limited-size.ensures) (c.leg-2.ensures ∙ ap (leg_of u.kva) c.idle_draw-idle.ensures),
-    ) in record { result_value = parts.0; told = parts.1 }
+          (c.leg.ensures ∙ ap (leg_of u.kva) c.limited-size.ensures) (c.leg-2.ensures ∙ ap (leg_of u.kva) c.idle_draw-idle.ensures);
+    }
