@@ -1,6 +1,6 @@
 use Prim.Native.Nat.{ℕ, ◌-◌, ◌≤◌}
 use mathlib.Core.Path.{◌≡◌, refl, sym, ap, ◌∙◌, subst⁻¹}
-use mathlib.Core.Bool.{true, false, not}
+use mathlib.Core.Bool.{true, false}
 use native.Mathlib.Nat.{lt_of_le_of_lt}
 use native.Mathlib.Omega.{arith}
 use lib.Dec.{lit<}
@@ -49,7 +49,7 @@ pass_within-p-requires c =
 
 pub shape_of-requests-then-not-p : goal.shape_of-requests-then-not-p
 shape_of-requests-then-not-p c =
-    c.pass_within-p.auto.1.1.1.1.1.0 ∙ c.loop-passes.invariant.units ∙ count (goal.at.shape_of-requests-then-not-p c).After-clear
+    c.pass_within-p.auto.requests ∙ c.loop-passes.invariant.units ∙ count (goal.at.shape_of-requests-then-not-p c).After-clear
 
 pub returns-then-not-p : goal.returns-then-not-p
 returns-then-not-p c =
@@ -62,7 +62,7 @@ returns-then-not-p c =
     let after = c.pass_within-p.new.requests in
     asked_for q (fleet s) (length s.args.requests.now) s.requires.trying c.shaved-s.result c.shaved-s.ensures n (count (goal.at.returns-then-not-p c).After-clear) after (record { settled = true; passes = c.loop-passes.passes })
     (way_settles c.shaved-s.result (back64 q.load) (fleet s) q.budget n c.loop-passes.requests c.loop-passes.passes c.loop-passes.invariant c.loop-passes-test.true (back64 m)
-    (subst⁻¹ (Measured (back64 q.load) c.loop-passes.requests) eb em) after c.pass_within-p.result c.pass_within-p.ensures (ap not c.if-not-p.true))
+    (subst⁻¹ (Measured (back64 q.load) c.loop-passes.requests) eb em) after c.pass_within-p.result c.pass_within-p.ensures c.if-not-p.true)
 
 pub loop-passes-preserved : goal.loop-passes-preserved
 loop-passes-preserved c =
@@ -72,7 +72,7 @@ loop-passes-preserved c =
     let em = c.measure-m.ensures in
     let eb = read_sized m (lt_of_le_of_lt em.small (lit< tt)) in
     way_goes_on c.shaved-s.result (back64 q.load) (fleet s) q.budget (length c.clear.new.requests) c.loop-passes.requests c.loop-passes.passes c.loop-passes.invariant c.loop-passes-test.true (back64 m)
-    (subst⁻¹ (Measured (back64 q.load) c.loop-passes.requests) eb em) c.pass_within-p.new.requests c.pass_within-p.result c.pass_within-p.ensures (ap not c.if-not-p.false)
+    (subst⁻¹ (Measured (back64 q.load) c.loop-passes.requests) eb em) c.pass_within-p.new.requests c.pass_within-p.result c.pass_within-p.ensures c.if-not-p.false
 
 pub shape_of-requests : goal.shape_of-requests
 shape_of-requests c = c.loop-passes.invariant.units ∙ count (goal.at.shape_of-requests c).After-clear
