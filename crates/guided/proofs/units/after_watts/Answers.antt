@@ -27,37 +27,32 @@ ranged w = subst⁻¹ (λ (x : Unit). Ranged x w.args.seconds) w.unit_holding-u.
 pub kind_of-kind-requires : goal.kind_of-kind-requires
 kind_of-kind-requires c =
     let a = c.args in
-    let h = c.requires.1.1 in
-    let few = first_few a.l (row (goal.at.kind_of-kind-requires c).Start) a.held a.seconds (told (goal.at.kind_of-kind-requires c).Start) h.0 a.last h.1.0 h.1.1 a.request c.ranges.request.sfits
-    c.unit_holding-u.result c.unit_holding-u.ensures c.size32.result c.size32.ensures c.least32-p.result c.least32-p.ensures in record { i_in_bounds = c.requires.i_in_bounds; rested = c.requires.rested; ranged = h.0; p_bound = few }
+    let few = first_few a.l (row (goal.at.kind_of-kind-requires c).Start) a.held a.seconds (told (goal.at.kind_of-kind-requires c).Start) c.requires.ranged a.last c.requires.guiding c.requires.after_value a.request c.ranges.request.sfits
+    c.unit_holding-u.result c.unit_holding-u.ensures c.size32.result c.size32.ensures c.least32-p.result c.least32-p.ensures in record { i_in_bounds = c.requires.i_in_bounds; rested = c.requires.rested; ranged = c.requires.ranged; p_bound = few }
 
 pub open_after-requires : goal.open_after-requires
 open_after-requires c =
-    let a = c.args in
-    let h = c.requires.1.1 in record { ranged = ranged (goal.at.open_after-requires c).After-unit_holding-u; guiding = guiding_back a.l a.last h.1.0; after_value = h.1.1 }
+    let a = c.args in record { ranged = ranged (goal.at.open_after-requires c).After-unit_holding-u; guiding = guiding_back a.l a.last c.requires.guiding; after_value = c.requires.after_value }
 
 pub returns-then-kind-eq-OPEN : goal.returns-then-kind-eq-OPEN
 returns-then-kind-eq-OPEN c =
     let a = c.args in
-    let h = c.requires.1.1 in
     let u = c.unit_holding-u in
-    let o = c.open_after in record { outcome_value = step_read a.l u.result a.last a.seconds a.request (ranged (goal.at.returns-then-kind-eq-OPEN c).After-unit_holding-u) h.1.0 c.ranges.request.sfits o.result.outcome o.ensures.outcome_value
-          ∙ ap (λ (x : Unit). led_step a.l x a.last a.seconds a.request) u.ensures; vars_value = kept_read a.l u.result a.last a.seconds a.request (ranged (goal.at.returns-then-kind-eq-OPEN c).After-unit_holding-u) h.1.0 c.ranges.request.sfits o.result.vars o.ensures.vars_value
+    let o = c.open_after in record { outcome_value = step_read a.l u.result a.last a.seconds a.request (ranged (goal.at.returns-then-kind-eq-OPEN c).After-unit_holding-u) c.requires.guiding c.ranges.request.sfits o.result.outcome o.ensures.outcome_value
+          ∙ ap (λ (x : Unit). led_step a.l x a.last a.seconds a.request) u.ensures; vars_value = kept_read a.l u.result a.last a.seconds a.request (ranged (goal.at.returns-then-kind-eq-OPEN c).After-unit_holding-u) c.requires.guiding c.ranges.request.sfits o.result.vars o.ensures.vars_value
           ∙ ap (λ (x : Unit). vars_kept a.l x a.last a.seconds a.request) u.ensures }
 
 pub part-asked-requires : goal.part-asked-requires
 part-asked-requires c =
     let a = c.args in
-    let h = c.requires.1.1 in
-    let few = left_few a.l (row (goal.at.part-asked-requires c).Start) a.held a.seconds (told (goal.at.part-asked-requires c).Start) h.0 a.last h.1.0 h.1.1 a.request c.ranges.request.sfits
+    let few = left_few a.l (row (goal.at.part-asked-requires c).Start) a.held a.seconds (told (goal.at.part-asked-requires c).Start) c.requires.ranged a.last c.requires.guiding c.requires.after_value a.request c.ranges.request.sfits
     c.unit_holding-u.result c.unit_holding-u.ensures c.size32.result c.size32.ensures c.least32-p.result c.least32-p.ensures
-    _ c.kind_of-kind.result c.kind_of-kind.ensures c.if-kind-eq-OPEN.false c.left.result c.left.ensures in record { modest = h.1.0.modest; base_bound = few }
+    _ c.kind_of-kind.result c.kind_of-kind.ensures c.if-kind-eq-OPEN.false c.left.result c.left.ensures in record { modest = c.requires.guiding.modest; base_bound = few }
 
 pub signed32-vars-requires : goal.signed32-vars-requires
 signed32-vars-requires c =
     let a = c.args in
-    let h = c.requires.1.1 in
-    limited_fits a.l (row (goal.at.signed32-vars-requires c).Start) a.held a.seconds (told (goal.at.signed32-vars-requires c).Start) h.0 a.last h.1.0 h.1.1 a.request c.ranges.request.sfits
+    limited_fits a.l (row (goal.at.signed32-vars-requires c).Start) a.held a.seconds (told (goal.at.signed32-vars-requires c).Start) c.requires.ranged a.last c.requires.guiding c.requires.after_value a.request c.ranges.request.sfits
     c.unit_holding-u.result c.unit_holding-u.ensures c.size32.result c.size32.ensures c.least32-p.result c.least32-p.ensures
     _ c.kind_of-kind.result c.kind_of-kind.ensures c.if-kind-eq-OPEN.false c.left.result c.left.ensures c.part-asked.result c.part-asked.ensures
     c.led_unit.result c.led_unit.ensures c.limited-size.result c.limited-size.ensures c.below_zero32.result c.below_zero32.ensures
@@ -65,19 +60,17 @@ signed32-vars-requires c =
 pub done-requires : goal.done-requires
 done-requires c =
     let a = c.args in
-    let h = c.requires.1.1 in
-    let carried = first_carried a.l (row (goal.at.done-requires c).Start) a.held a.seconds (told (goal.at.done-requires c).Start) h.0 a.last h.1.0 h.1.1 a.request c.ranges.request.sfits
+    let carried = first_carried a.l (row (goal.at.done-requires c).Start) a.held a.seconds (told (goal.at.done-requires c).Start) c.requires.ranged a.last c.requires.guiding c.requires.after_value a.request c.ranges.request.sfits
     c.unit_holding-u.result c.unit_holding-u.ensures c.size32.result c.size32.ensures c.least32-p.result c.least32-p.ensures
-    _ c.kind_of-kind.result c.kind_of-kind.ensures c.if-kind-eq-OPEN.false in record { i_in_bounds = c.requires.i_in_bounds; rested = c.requires.rested; ranged = h.0; carried = carried }
+    _ c.kind_of-kind.result c.kind_of-kind.ensures c.if-kind-eq-OPEN.false in record { i_in_bounds = c.requires.i_in_bounds; rested = c.requires.rested; ranged = c.requires.ranged; carried = carried }
 
 pub returns : goal.returns
 returns c =
-    let a = c.args in
-    let h = c.requires.1.1 in record { outcome_value = first_step a.l (row (goal.at.returns c).Start) a.held a.seconds (told (goal.at.returns c).Start) h.0 a.last h.1.0 h.1.1 a.request c.ranges.request.sfits
+    let a = c.args in record { outcome_value = first_step a.l (row (goal.at.returns c).Start) a.held a.seconds (told (goal.at.returns c).Start) c.requires.ranged a.last c.requires.guiding c.requires.after_value a.request c.ranges.request.sfits
           c.unit_holding-u.result c.unit_holding-u.ensures c.size32.result c.size32.ensures c.least32-p.result c.least32-p.ensures
           _ c.kind_of-kind.result c.kind_of-kind.ensures c.if-kind-eq-OPEN.false c.left.result c.left.ensures c.part-asked.result c.part-asked.ensures
           c.led_unit.result c.led_unit.ensures c.limited-size.result c.limited-size.ensures c.below_zero32.result c.below_zero32.ensures
-          c.signed32-vars.result c.signed32-vars.type_inv c.signed32-vars.ensures c.done.result c.done.ensures; vars_value = first_kept a.l (row (goal.at.returns c).Start) a.held a.seconds (told (goal.at.returns c).Start) h.0 a.last h.1.0 h.1.1 a.request c.ranges.request.sfits
+          c.signed32-vars.result c.signed32-vars.type_inv c.signed32-vars.ensures c.done.result c.done.ensures; vars_value = first_kept a.l (row (goal.at.returns c).Start) a.held a.seconds (told (goal.at.returns c).Start) c.requires.ranged a.last c.requires.guiding c.requires.after_value a.request c.ranges.request.sfits
           c.unit_holding-u.result c.unit_holding-u.ensures c.size32.result c.size32.ensures c.least32-p.result c.least32-p.ensures
           _ c.kind_of-kind.result c.kind_of-kind.ensures c.if-kind-eq-OPEN.false c.left.result c.left.ensures c.part-asked.result c.part-asked.ensures
           c.kept.result c.kept.type_inv c.kept.ensures }

@@ -21,20 +21,18 @@ requested-asked-requires c =
 pub step_led-requires : goal.step_led-requires
 step_led-requires c =
     let a = c.args in
-    let h = c.requires.1.1 in
     let u = c.unit_holding-u in
     let v = c.led_unit in
     let b = bounds
-    (before_ranged a.l u.result a.last a.seconds a.request (ranged (goal.at.step_led-requires c).After-unit_holding-u) h.1.0 c.ranges.request.sfits h.1.1
+    (before_ranged a.l u.result a.last a.seconds a.request (ranged (goal.at.step_led-requires c).After-unit_holding-u) c.requires.guiding c.ranges.request.sfits c.requires.after_value
     c.requested-asked.result c.requested-asked.ensures v.result v.ensures) in
-    let from = led_from_lem a.l _ u.result v.result u.ensures (back c.requested-asked.result) v.ensures in record { i_in_bounds = c.requires.i_in_bounds; rested = c.requires.rested; ranged = h.0; led_from = from; var_request_bound = b.vars_most; priority_bound = b.priority_most }
+    let from = led_from_lem a.l _ u.result v.result u.ensures (back c.requested-asked.result) v.ensures in record { i_in_bounds = c.requires.i_in_bounds; rested = c.requires.rested; ranged = c.requires.ranged; led_from = from; var_request_bound = b.vars_most; priority_bound = b.priority_most }
 
 pub returns : goal.returns
 returns c =
     let a = c.args in
-    let h = c.requires.1.1 in
-    let u = c.unit_holding-u in record { outcome_value = before_step a.l u.result a.last a.seconds a.request (ranged (goal.at.returns c).After-unit_holding-u) h.1.0 c.ranges.request.sfits h.1.1
+    let u = c.unit_holding-u in record { outcome_value = before_step a.l u.result a.last a.seconds a.request (ranged (goal.at.returns c).After-unit_holding-u) c.requires.guiding c.ranges.request.sfits c.requires.after_value
           c.requested-asked.result c.requested-asked.ensures c.led_unit.result c.led_unit.ensures c.step_led.result c.step_led.ensures
-          ∙ ap (λ (x : Unit). led_step a.l x a.last a.seconds a.request) u.ensures; vars_value = before_kept a.l u.result a.last a.seconds a.request (ranged (goal.at.returns c).After-unit_holding-u) h.1.0 c.ranges.request.sfits h.1.1
+          ∙ ap (λ (x : Unit). led_step a.l x a.last a.seconds a.request) u.ensures; vars_value = before_kept a.l u.result a.last a.seconds a.request (ranged (goal.at.returns c).After-unit_holding-u) c.requires.guiding c.ranges.request.sfits c.requires.after_value
           c.requested-asked.result c.requested-asked.ensures c.kept.result c.kept.type_inv c.kept.ensures
           ∙ ap (λ (x : Unit). vars_kept a.l x a.last a.seconds a.request) u.ensures }
