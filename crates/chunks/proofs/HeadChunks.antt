@@ -259,9 +259,9 @@ module _ (file : List ℕ) (st m : State) (i : ℕ) (upto : i ≤ length file) (
       subst (λ (s : State). Placed s (past file i)) a.is (placed_next file st i a.head a.allows a.value o p)
 
 -- ---- so far the fields go, or the head ends there
-went_short : (file : List ℕ) {s st : State} {j i : ℕ} → Went file s j st i → Placed st i → (head_end file i ≤ head_most) ⊎ (j ≤ head_most)
+went_short : (file : List ℕ) {s : State} {j : ℕ} {st : State} {i : ℕ} → Went file s j st i → Placed st i → (head_end file i ≤ head_most) ⊎ (j ≤ head_most)
 went_short file (there e f) p = let m = placed_most p in inr (omega arith)
-went_short file {s} {st} {j} {i} (passing m l e f w more) p = go (of_steps (tag_at file i)) refl (went_short file more)
+went_short file {s} {j} {st} {i} (passing m l e f w more) p = go (of_steps (tag_at file i)) refl (went_short file more)
   where
     go : (b : Bool) → of_steps (tag_at file i) ≡ b → (Placed m (past file i) → (head_end file (past file i) ≤ head_most) ⊎ (j ≤ head_most)) → (head_end file i ≤ head_most) ⊎ (j ≤ head_most)
     go true o further =

@@ -259,9 +259,9 @@ pub record HeadWent (file : List ℕ) (st : State) (i : ℕ) : Type 0 where
   pub stage : Opening middle
   pub none : middle.steps ≡ 0
 
-pub went_head : (file : List ℕ) {s st : State} {j i : ℕ} → Went file s j st i → Placed st i → st.steps ≡ 0 → head_end file i < j → HeadWent file st i
-went_head file {s} {st} {j} {i} (there e f) p z h = let l = head_from_least file (length file) i in absurd (omega arith)
-went_head file {s} {st} {j} {i} (passing m l e f w more) p z h = go (of_steps (tag_at file i)) refl (went_head file more)
+pub went_head : (file : List ℕ) {s : State} {j : ℕ} {st : State} {i : ℕ} → Went file s j st i → Placed st i → st.steps ≡ 0 → head_end file i < j → HeadWent file st i
+went_head file {s} {j} {st} {i} (there e f) p z h = let l = head_from_least file (length file) i in absurd (omega arith)
+went_head file {s} {j} {st} {i} (passing m l e f w more) p z h = go (of_steps (tag_at file i)) refl (went_head file more)
   where
     taken : FieldTaken file st m i
     taken = accepted_field file st m i (omega arith) f

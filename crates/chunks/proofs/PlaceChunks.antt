@@ -59,9 +59,9 @@ accepted_there st m a i h f =
     (λ n z e. let o : ◌≡◌ {A = ℕ} 0 1 = cc in absurd (omega arith))
     (λ hd z e. let s = size_least st (tag_at a i) in let n = hd.size in record { size = omega arith; all = hd.all })
 
-pub went_whole : (a : List ℕ) {s st : State} {j i : ℕ} → Went a s j st i → j ≡ length a → Whole a i
+pub went_whole : (a : List ℕ) {s : State} {j : ℕ} {st : State} {i : ℕ} → Went a s j st i → j ≡ length a → Whole a i
 went_whole a (there e f) h = whole_end (f ∙ h)
-went_whole a {s} {st} {j} {i} (passing m l e f w more) h = whole_field (accepted_there st m a i (omega arith) f) (went_whole a more h)
+went_whole a {s} {j} {st} {i} (passing m l e f w more) h = whole_field (accepted_there st m a i (omega arith) f) (went_whole a more h)
 
 pub reach_whole : (p : List ℕ) (st : State) (i : ℕ) (upto : i ≤ length p) → Whole (take (far p st i upto).at p) i
 reach_whole p st i upto =

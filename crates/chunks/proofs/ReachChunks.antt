@@ -114,18 +114,18 @@ module _ (file : List ℕ) where
     passing : {st : State} {i : ℕ} (m : State) → i < length file → eqb st.stage 0 ≡ false → field_at st file i ≡ Next m → past file i ≤ length file
         → Went s j m (past file i) → Went s j st i
 
-  pub went_upto : {s st : State} {j i : ℕ} → Went s j st i → i ≤ length file → (i ≤ j) × (j ≤ length file)
+  pub went_upto : {s : State} {j : ℕ} {st : State} {i : ℕ} → Went s j st i → i ≤ length file → (i ≤ j) × (j ≤ length file)
   went_upto (there e f) h = (omega arith, omega arith)
   went_upto (passing m l e f w more) h = let r = went_upto more w in (omega (arith, r.0), r.1)
 
-  pub went_few : {s st : State} {j i : ℕ} → Went s j st i → Few st → Few s
+  pub went_few : {s : State} {j : ℕ} {st : State} {i : ℕ} → Went s j st i → Few st → Few s
   went_few (there e f) few = subst Few e few
-  went_few {s} {st} {j} {i} (passing m l e f w more) few = went_few more (few_next st m file i (omega arith) f few)
+  went_few {s} {j} {st} {i} (passing m l e f w more) few = went_few more (few_next st m file i (omega arith) f few)
 
-  pub went_reach : {s st : State} {j i : ℕ} → Went s j st i → (k n : ℕ) → length file ≤ i + k → length file ≤ j + n → reach_of k st file i ≡ reach_of n s file j
-  went_reach {s} {st} {j} {i} (there e f) k n h l =
+  pub went_reach : {s : State} {j : ℕ} {st : State} {i : ℕ} → Went s j st i → (k n : ℕ) → length file ≤ i + k → length file ≤ j + n → reach_of k st file i ≡ reach_of n s file j
+  went_reach {s} {j} {st} {i} (there e f) k n h l =
       ap₂ (λ (s : State) (p : ℕ). reach_of k s file p) e f ∙ reach_fuel k n s j (omega arith) l
-  went_reach {s} {st} {j} {i} (passing m l e f w more) k n h o =
+  went_reach {s} {j} {st} {i} (passing m l e f w more) k n h o =
       reach_step k st i false (Next m) h l e f ∙ went_reach more (length file) n (omega arith) o
 
   -- ---- why the fields stop there
@@ -199,23 +199,23 @@ module _ (a b : List ℕ) where
       go false false (Next s) more = more s
 
   -- ---- before other bytes they go over the same fields; and without them too, where the fields end before these
-  pub went_append : {s st : State} {j i : ℕ} → Went a s j st i → Went (a ++ b) s j st i
+  pub went_append : {s : State} {j : ℕ} {st : State} {i : ℕ} → Went a s j st i → Went (a ++ b) s j st i
   went_append (there e f) = there e f
-  went_append {s} {st} {j} {i} (passing m l e f w more) =
+  went_append {s} {j} {st} {i} (passing m l e f w more) =
       passing {st = st} {i = i} m (omega (arith, length-append a b)) e (field_append st a b i (Next m) f (λ t. apart refl t)) (omega (arith, length-append a b, past_append a b i (omega arith)))
       (subst⁻¹ (Went (a ++ b) s j m) (past_append a b i (omega arith)) (went_append more))
 
-  pub went_cut : {s st : State} {j i : ℕ} → Went (a ++ b) s j st i → j ≤ length a → Went a s j st i
+  pub went_cut : {s : State} {j : ℕ} {st : State} {i : ℕ} → Went (a ++ b) s j st i → j ≤ length a → Went a s j st i
   went_cut (there e f) h = there e f
-  went_cut {s} {st} {j} {i} (passing m l e f w more) h =
+  went_cut {s} {j} {st} {i} (passing m l e f w more) h =
       let u = (went_upto (a ++ b) more w).0 in
       let in-a : past (a ++ b) i ≤ length a = omega arith in
       let same : past (a ++ b) i ≡ past a i = past_append a b i (omega arith) in
       passing {st = st} {i = i} m (omega arith) e (field_cut st a b i in-a ∙ f) (omega arith)
       (subst (Went a s j m) same (went_cut more h))
 
-pub went_take : (p : List ℕ) {s st : State} {j i : ℕ} → Went p s j st i → j ≤ length p → Went (take j p) s j st i
-went_take p {s} {st} {j} {i} w h =
+pub went_take : (p : List ℕ) {s : State} {j : ℕ} {st : State} {i : ℕ} → Went p s j st i → j ≤ length p → Went (take j p) s j st i
+went_take p {s} {j} {st} {i} w h =
     let long : length (take j p) ≡ j = length-take-le j p h in
     went_cut (take j p) (drop j p) (subst⁻¹ (λ (l : List ℕ). Went l s j st i) (take-append-drop j p) w) (omega arith)
 

@@ -92,17 +92,17 @@ stepping_tag st tag s g a = go s
     go (at_end_lem e) = absurd (passed_failed (ap (λ (n : ℕ). eqb n 0) e) g)
 
 module _ (a : List ℕ) where
-  pub went_steps : {s st : State} {j i : ℕ} → Went a s j st i → j ≡ length a → Stepping st → StepsHere a i
+  pub went_steps : {s : State} {j : ℕ} {st : State} {i : ℕ} → Went a s j st i → j ≡ length a → Stepping st → StepsHere a i
   went_steps (there e f) h p = steps_end (f ∙ h)
-  went_steps {s} {st} {j} {i} (passing m l e f w more) h p =
+  went_steps {s} {j} {st} {i} (passing m l e f w more) h p =
       let t : FieldTaken a st m i = accepted_field a st m i (omega arith) f in
       let o : of_steps (tag_at a i) ≡ true = stepping_tag st (tag_at a i) p e t.allows in
       steps_on_is (step_here a st m i t o) (went_steps more h (subst Stepping t.is (stepping_after st (tag_at a i) a (i + header) o)))
 
   -- from where the head ends, whatever the stage
-  pub went_steps_from : {s st : State} {j i : ℕ} → Went a s j st i → j ≡ length a → head_end a i ≡ i → StepsHere a i
+  pub went_steps_from : {s : State} {j : ℕ} {st : State} {i : ℕ} → Went a s j st i → j ≡ length a → head_end a i ≡ i → StepsHere a i
   went_steps_from (there e f) h n = steps_end (f ∙ h)
-  went_steps_from {s} {st} {j} {i} (passing m l e f w more) h n = go (of_steps (tag_at a i)) refl
+  went_steps_from {s} {j} {st} {i} (passing m l e f w more) h n = go (of_steps (tag_at a i)) refl
     where
       go : (b : Bool) → of_steps (tag_at a i) ≡ b → StepsHere a i
       go true o =
@@ -123,12 +123,12 @@ module _ (a : List ℕ) where
       let e : m.steps ≡ st.steps = ap (λ (s : State). s.steps) (sym t.is) ∙ steps_kept_lem st (tag_at a i) a (i + header) r in
       omega arith
 
-  pub went_counted : {s st : State} {j i : ℕ} → Went a s j st i → j ≡ length a → (d : Due) → s.steps ≡ st.steps + length (steps_from a d i)
-  went_counted {s} {st} {j} {i} (there e f) h d =
+  pub went_counted : {s : State} {j : ℕ} {st : State} {i : ℕ} → Went a s j st i → j ≡ length a → (d : Due) → s.steps ≡ st.steps + length (steps_from a d i)
+  went_counted {s} {j} {st} {i} (there e f) h d =
       let none : length (steps_from a d i) ≡ 0 = ap length (steps_over a i (omega arith) d) in
       let same : st.steps ≡ s.steps = ap (λ (s : State). s.steps) e in
       omega arith
-  went_counted {s} {st} {j} {i} (passing m l e f w more) h d =
+  went_counted {s} {j} {st} {i} (passing m l e f w more) h d =
       let t : FieldTaken a st m i = accepted_field a st m i (omega arith) f in
       go (is_reading (tag_at a i)) (steps_from a (due_after a d i) (past a i)) (counts st m i t (is_reading (tag_at a i)) refl) (ap length (steps_first a i l d)) (went_counted more h (due_after a d i))
     where
