@@ -78,9 +78,9 @@ first_taken st m b small going e =
     (record { bytes = small; going = going; size = hd.size; all = hd.all; allows = parts.0; few = not_many st (tag_at b 0) b 3 0 (sym z) refl; value = parts.1 }, is))
 
 module _ (file : List ℕ) (small : (i : ℕ) → get_or file i 0 < 256) where
-  went_reads : {s st : State} {j i : ℕ} → Went file s j st i → i ≤ length file → j ≡ length file → s.stage ≡ 0 → Reads st (drop i file)
-  went_reads {s} {st} {j} {i} (there e f) h l z = ended (ap (λ (s : State). s.stage) e ∙ z) (ap (λ (n : ℕ). drop n file) (f ∙ l) ∙ drop-length file)
-  went_reads {s} {st} {j} {i} (passing m n g f w more) h l z =
+  went_reads : {s : State} {j : ℕ} {st : State} {i : ℕ} → Went file s j st i → i ≤ length file → j ≡ length file → s.stage ≡ 0 → Reads st (drop i file)
+  went_reads {s} {j} {st} {i} (there e f) h l z = ended (ap (λ (s : State). s.stage) e ∙ z) (ap (λ (n : ℕ). drop n file) (f ∙ l) ∙ drop-length file)
+  went_reads {s} {j} {st} {i} (passing m n g f w more) h l z =
       let a = take i file in
       let b = drop i file in
       let long : length a ≡ i = length-take-le i file h in

@@ -13,8 +13,7 @@ none : (e : Else-lead) → Unled (start e).args.m.lead
 none e = unled (start e).args.m.lead e.if-lead.false
 
 pub give_own-requires : goal.give_own-requires
-give_own-requires c =
-    let (rd, (st, (y, f))) = (start (goal.at.give_own-requires c).Else-lead).requires in record { ready = rd; stored_len = st.stores; requests_len = st.asks; stored = st.within; unled = none (goal.at.give_own-requires c).Else-lead; rows_in_bounds = f }
+give_own-requires c = record { ready = (start (goal.at.give_own-requires c).Else-lead).requires.ready; stored_len = (start (goal.at.give_own-requires c).Else-lead).requires.held.stores; requests_len = (start (goal.at.give_own-requires c).Else-lead).requires.held.asks; stored = (start (goal.at.give_own-requires c).Else-lead).requires.held.within; unled = none (goal.at.give_own-requires c).Else-lead; rows_in_bounds = (start (goal.at.give_own-requires c).Else-lead).requires.rows_in_bounds }
 
 pub returns-else-lead : goal.returns-else-lead
 returns-else-lead c =

@@ -36,13 +36,13 @@ long c =
 
 -- inside the loop there is such a unit
 below : (c : In-loop-i) → c.loop-i.i < count (site (start c.before))
-below c = let (rd, (st, (y, f))) = (start c.before).requires in omega (arith, st.asks, c.loop-i-test.true)
+below c = omega (arith, (start c.before).requires.held.asks, c.loop-i-test.true)
 
 in_stored : (c : In-loop-i) → c.loop-i.i < length c.loop-i.stored
-in_stored c = let (rd, (st, (y, f))) = (start c.before).requires in omega (arith, st.stores, (long c.before).0, below c)
+in_stored c = omega (arith, (start c.before).requires.held.stores, (long c.before).0, below c)
 
 in_vars : (c : In-loop-i) → c.loop-i.i < length c.loop-i.vars
-in_vars c = let (rd, (st, (y, f))) = (start c.before).requires in omega (arith, st.leads, (long c.before).1.0, below c)
+in_vars c = omega (arith, (start c.before).requires.held.leads, (long c.before).1.0, below c)
 
 pub loop-i-init : goal.loop-i-init
 loop-i-init c =
@@ -86,23 +86,19 @@ bounds-vars-i c = omega (arith, in_vars (goal.at.bounds-vars-i c).In-loop-i)
 
 pub overflow_add-m : goal.overflow_add-m
 overflow_add-m c =
-    let (rd, (st, (y, f))) = (start (goal.at.overflow_add-m c).At-loop-i).requires in
-    omega (arith, below (goal.at.overflow_add-m c).In-loop-i, f, (start (goal.at.overflow_add-m c).At-loop-i).well_formed.1.1.1.1.1.1.0)
+    omega (arith, below (goal.at.overflow_add-m c).In-loop-i, (start (goal.at.overflow_add-m c).At-loop-i).requires.rows_in_bounds, (start (goal.at.overflow_add-m c).At-loop-i).well_formed.1.1.1.1.1.1.0)
 
 pub overflow_cast-i : goal.overflow_cast-i
 overflow_cast-i c =
-    let (rd, (st, (y, f))) = (start (goal.at.overflow_cast-i c).At-loop-i).requires in
-    omega (arith, below (goal.at.overflow_cast-i c).In-loop-i, rd.sited.few)
+    omega (arith, below (goal.at.overflow_cast-i c).In-loop-i, (start (goal.at.overflow_cast-i c).At-loop-i).requires.ready.sited.few)
 
 pub put_record-requires : goal.put_record-requires
 put_record-requires c =
-    let (rd, (st, (y, f))) = (start (goal.at.put_record-requires c).At-loop-i).requires in
-    omega (arith, (long (goal.at.put_record-requires c).At-loop-i).1.1, f, below (goal.at.put_record-requires c).In-loop-i)
+    omega (arith, (long (goal.at.put_record-requires c).At-loop-i).1.1, (start (goal.at.put_record-requires c).At-loop-i).requires.rows_in_bounds, below (goal.at.put_record-requires c).In-loop-i)
 
 pub overflow_add-i : goal.overflow_add-i
 overflow_add-i c =
-    let (rd, (st, (y, f))) = (start (goal.at.overflow_add-i c).At-loop-i).requires in
-    omega (arith, below (goal.at.overflow_add-i c).In-loop-i, rd.sited.few)
+    omega (arith, below (goal.at.overflow_add-i c).In-loop-i, (start (goal.at.overflow_add-i c).At-loop-i).requires.ready.sited.few)
 
 pub loop-i-preserved : goal.loop-i-preserved
 loop-i-preserved c =

@@ -73,8 +73,7 @@ bounds-stored-i-in-loop-i c = omega (arith, in_stored (goal.at.bounds-stored-i-i
 
 pub overflow_add-m : goal.overflow_add-m
 overflow_add-m c =
-    let (rd, (stores, (asks, (within, (n, f))))) = (start (goal.at.overflow_add-m c).At-loop-i).requires in
-    omega (arith, below (goal.at.overflow_add-m c).In-loop-i, f, (start (goal.at.overflow_add-m c).At-loop-i).well_formed.1.1.1.1.1.0)
+    omega (arith, below (goal.at.overflow_add-m c).In-loop-i, (start (goal.at.overflow_add-m c).At-loop-i).requires.rows_in_bounds, (start (goal.at.overflow_add-m c).At-loop-i).well_formed.1.1.1.1.1.0)
 
 pub overflow_cast-i : goal.overflow_cast-i
 overflow_cast-i c =
@@ -82,8 +81,7 @@ overflow_cast-i c =
 
 pub put_record-requires : goal.put_record-requires
 put_record-requires c =
-    let (rd, (stores, (asks, (within, (n, f))))) = (start (goal.at.put_record-requires c).At-loop-i).requires in
-    omega (arith, (long (goal.at.put_record-requires c).At-loop-i).1, f, below (goal.at.put_record-requires c).In-loop-i)
+    omega (arith, (long (goal.at.put_record-requires c).At-loop-i).1, (start (goal.at.put_record-requires c).At-loop-i).requires.rows_in_bounds, below (goal.at.put_record-requires c).In-loop-i)
 
 pub overflow_add-i : goal.overflow_add-i
 overflow_add-i c =
