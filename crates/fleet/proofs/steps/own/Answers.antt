@@ -17,7 +17,7 @@ use Rattle.storage.specs.Posts.{Told, row_unit, clear_watts, kind_of, flow_by}
 use Rattle.storage.specs.Step.{step_of}
 use Rattle.storage.proofs.GivingLaws.{holding_vars, holds, held_few, step_carried, step_is, vars_idle, vars_full}
 use Rattle.fleet.proofs.steps.own.Goals as goal
-use Rattle.fleet.proofs.steps.own.Goals.{After-clear_of, After-kind_of-kind, After-least32-p, After-unit_holding, Else-kind-eq-OPEN, Joined-kind-eq-IDLES, Start}
+use Rattle.fleet.proofs.steps.own.Goals.{then-kind-eq-IDLES, else-kind-eq-IDLES, After-clear_of, After-kind_of-kind, After-least32-p, After-unit_holding, Else-kind-eq-OPEN, Joined-kind-eq-IDLES, Start}
 
 abbrev unit : Start → Unit
 unit s = row_unit s.args.rows.now s.args.i s.args.held
@@ -52,12 +52,12 @@ vars j =
     let a = j.args in
     let u = unit_by (get_or a.rows.now a.i []) in
     let r = j.requires.ranged in
-    ⊎_elim
-    (λ w. ap (to_z w32) w.2 ∙ read w32 w.1.result w.1.ok ∙ w.1.ensures ∙ (told j.before.before.before.before.before.before.before).vars_is ∙ sym (holding_vars u a.held)
-    ∙ vars_idle (unit j.before.before.before.before.before.before.before) a.seconds a.request r j.least32-p.result (held j.before.before.before.before) j.clear_of.result (clear j.before.before.before) j.kind_of-kind.result (kind j.before.before) j.if-kind-eq-OPEN.false w.0.taken)
-    (λ w. ap (to_z w32) w.2 ∙ read w32 w.1.result w.1.ok ∙ w.1.ensures ∙ (told j.before.before.before.before.before.before.before).full_is
-    ∙ vars_full (unit j.before.before.before.before.before.before.before) a.seconds a.request r j.least32-p.result (held j.before.before.before.before) j.clear_of.result (clear j.before.before.before) j.kind_of-kind.result (kind j.before.before) j.if-kind-eq-OPEN.false w.0.left)
-    j.if-kind-eq-IDLES.branch
+    elim j.if-kind-eq-IDLES.branch [
+      | then-kind-eq-IDLES w ↦ w.vars-is ∙ read w32 w.vars_of-vars.result w.vars_of-vars.type_inv ∙ w.vars_of-vars.ensures ∙ (told j.before.before.before.before.before.before.before).vars_is ∙ sym (holding_vars u a.held)
+    ∙ vars_idle (unit j.before.before.before.before.before.before.before) a.seconds a.request r j.least32-p.result (held j.before.before.before.before) j.clear_of.result (clear j.before.before.before) j.kind_of-kind.result (kind j.before.before) j.if-kind-eq-OPEN.false w.if-kind-eq-IDLES.true
+      | else-kind-eq-IDLES w ↦ w.vars-is ∙ read w32 w.full_of-vars.result w.full_of-vars.type_inv ∙ w.full_of-vars.ensures ∙ (told j.before.before.before.before.before.before.before).full_is
+    ∙ vars_full (unit j.before.before.before.before.before.before.before) a.seconds a.request r j.least32-p.result (held j.before.before.before.before) j.clear_of.result (clear j.before.before.before) j.kind_of-kind.result (kind j.before.before) j.if-kind-eq-OPEN.false w.if-kind-eq-IDLES.false
+    ]
 
 pub kind_of-kind-requires : goal.kind_of-kind-requires
 kind_of-kind-requires c =

@@ -12,5 +12,4 @@ pub returns : goal.returns
 returns c =
     let a = c.args in
     let site = site_in a.f a.rows.now in
-    let asked = c.ask.new.requests in
-    let left = c.give_all.new.1.1.1.1 in record { vars_after = step_standing site a.m a.stored.now a.requests.now a.vars.now asked c.ask.ensures left.0 c.give_all.ensures.stored_after left.1.0 c.give_all.ensures.vars_after; room_after = step_laid site a.m a.stored.now a.requests.now a.vars.now asked c.ask.ensures a.room.now left.1.1.0 c.give_all.ensures.room_after; held_2 = step_held site a.m a.stored.now a.requests.now a.vars.now asked c.ask.ensures left.0 c.give_all.ensures.stored_after left.1.0 c.give_all.ensures.vars_after c.requires.ready.sited c.requires.modest c.requires.held }
+    let asked = c.ask.new.requests in record { vars_after = step_standing site a.m a.stored.now a.requests.now a.vars.now asked c.ask.ensures c.give_all.new.stored c.give_all.ensures.stored_after c.give_all.new.vars c.give_all.ensures.vars_after; room_after = step_laid site a.m a.stored.now a.requests.now a.vars.now asked c.ask.ensures a.room.now c.give_all.new.room c.give_all.ensures.room_after; held_2 = step_held site a.m a.stored.now a.requests.now a.vars.now asked c.ask.ensures c.give_all.new.stored c.give_all.ensures.stored_after c.give_all.new.vars c.give_all.ensures.vars_after c.requires.ready.sited c.requires.modest c.requires.held }

@@ -24,7 +24,7 @@ returns-then-not-l c =
 
 pub give-requires : goal.give-requires
 give-requires c =
-    let a = c.args in let parts = (c.requires.i_in_bounds, (c.requires.rested, give_asks a.l (unit (goal.at.give-requires c).Start) a.held a.last a.seconds a.request c.requires.ranged c.requires.held_bound c.requires.guiding c.ranges.request.sfits)) in record { i_in_bounds = parts.0; rested = parts.1.0; ranged = parts.1.1.0; guiding = parts.1.1.1 }
+    let a = c.args in let rest = give_asks a.l (unit (goal.at.give-requires c).Start) a.held a.last a.seconds a.request c.requires.ranged c.requires.held_bound c.requires.guiding c.ranges.request.sfits in record { i_in_bounds = c.requires.i_in_bounds; rested = c.requires.rested; ranged = rest.0; guiding = rest.1 }
 
 pub returns : goal.returns
 returns c =

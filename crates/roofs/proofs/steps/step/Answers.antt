@@ -2,13 +2,26 @@ use mathlib.Core.Path.{◌≡◌}
 use Prim.Native.Nat.{◌-◌, ◌<◌}
 use native.Mathlib.Omega.{arith}
 use lib.ListN.{length}
-use Rattle.roofs.proofs.LoopLaws.{none_lit, on_length, guiding, one_more, all_turned, all_kept, all_held, all_laid}
-use Rattle.roofs.proofs.steps.step.Invariants.{start, vars, long, head}
+use Rattle.roofs.proofs.LoopLaws.{none_lit, on_length, vars_length, room_length, guiding, one_more, all_turned, all_kept, all_held, all_laid}
 use Rattle.roofs.proofs.steps.step.Goals as goal
 use Rattle.roofs.proofs.steps.step.Goals.{After-light-g, After-put_roof, After-struct_told-1, At-loop-i, In-loop-i, Start}
 
+-- where the function starts, seen from the loop's head; there the lists are as long as they came
+abbrev start : At-loop-i → Start
+start l = l.before.before.before.before.before
+
 flags : (c : At-loop-i) → length c.loop-i.on ≡ length (start c).args.on.now
 flags c = on_length c.loop-i.invariant
+
+vars : (c : At-loop-i) → length c.loop-i.vars ≡ length (start c).args.vars.now
+vars c = vars_length c.loop-i.invariant
+
+long : (c : At-loop-i) → length c.loop-i.room ≡ length (start c).args.room.now
+long c = room_length c.loop-i.invariant
+
+-- where the flag and the vars of one have changed
+abbrev head : After-struct_told-1 → At-loop-i
+head c = (record { before = c.before.before.before.before.before.before.before; type_inv = record { bytes = c.shared_slice_known-1.given } })
 
 pub loop-i-init : goal.loop-i-init
 loop-i-init c =
