@@ -108,19 +108,17 @@ module _ (site : Site) (stored : List ℕ) (rs : List ℤ) (r : Reading) where
   unfolding asked_by_current
   currents_are p e = sym (ap (asked_by_current site stored rs) e)
 
-pub no_powers : (site : Site) (stored : List ℕ) (rs : List ℤ) (r : Reading) → (tag_of the_type r ≡ 0) ⊎ (tag_of the_type r ≡ 2) → rs ≡ asked_by_watts site stored rs r
+pub no_powers : (site : Site) (stored : List ℕ) (rs : List ℤ) (r : Reading) → ((p : Phases) → r ≡ Power p → ⊥) → rs ≡ asked_by_watts site stored rs r
 unfolding asked_by_watts
 no_powers site stored rs Missing t = refl
-no_powers site stored rs (Power p) (inl t) = absurd (omega arith)
-no_powers site stored rs (Power p) (inr t) = absurd (omega arith)
+no_powers site stored rs (Power p) t = absurd (t p refl)
 no_powers site stored rs (Current p) t = refl
 
-pub no_currents : (site : Site) (stored : List ℕ) (rs : List ℤ) (r : Reading) → (tag_of the_type r ≡ 0) ⊎ (tag_of the_type r ≡ 1) → rs ≡ asked_by_current site stored rs r
+pub no_currents : (site : Site) (stored : List ℕ) (rs : List ℤ) (r : Reading) → ((p : Phases) → r ≡ Current p → ⊥) → rs ≡ asked_by_current site stored rs r
 unfolding asked_by_current
 no_currents site stored rs Missing t = refl
 no_currents site stored rs (Power p) t = refl
-no_currents site stored rs (Current p) (inl t) = absurd (omega arith)
-no_currents site stored rs (Current p) (inr t) = absurd (omega arith)
+no_currents site stored rs (Current p) t = absurd (t p refl)
 
 -- by the mode
 module _ (site : Site) (stored : List ℕ) (rs : List ℤ) (r : Reading) where

@@ -11,7 +11,7 @@ use Rattle.fleet.proofs.steps.ask_by_current.Goals.{After-current, After-pass_wi
 
 pub returns-in_default : goal.returns-in_default
 returns-in_default c =
-    no_currents (site_in c.args.f c.args.rows.now) c.args.stored.now c.args.requests.now c.args.r c.in_default.in_default-own.keys2
+    no_currents (site_in c.args.f c.args.rows.now) c.args.stored.now c.args.requests.now c.args.r c.in_default.not-Current
 
 pub returns-in_default-current : goal.returns-in_default-current
 returns-in_default-current c =

@@ -11,7 +11,7 @@ use Rattle.fleet.proofs.steps.ask_by_watts.Goals.{After-pass_within, After-regul
 
 pub returns-in_default : goal.returns-in_default
 returns-in_default c =
-    no_powers (site_in c.args.f c.args.rows.now) c.args.stored.now c.args.requests.now c.args.r c.in_default.in_default-own.keys2
+    no_powers (site_in c.args.f c.args.rows.now) c.args.stored.now c.args.requests.now c.args.r c.in_default.not-Power
 
 pub returns-in_default-regulated : goal.returns-in_default-regulated
 returns-in_default-regulated c =
