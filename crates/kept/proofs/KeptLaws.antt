@@ -91,9 +91,9 @@ after_small st tag file at =
     (λ t. by_test P (eqb tag 11) _ _ (λ t. omega arith)
     (λ t. by_test P (eqb tag 12) _ _ (λ t. omega arith) (λ t. omega arith))))))))))
 
-went_small : (file : List ℕ) {s st : State} {j i : ℕ} → Went file s j st i → st.stage ≤ 12 → s.stage ≤ 12
+went_small : (file : List ℕ) {s : State} {j : ℕ} {st : State} {i : ℕ} → Went file s j st i → st.stage ≤ 12 → s.stage ≤ 12
 went_small file (there e f) h = subst (λ (s : State). s.stage ≤ 12) e h
-went_small file {s} {st} {j} {i} (passing m l e f w more) h =
+went_small file {s} {j} {st} {i} (passing m l e f w more) h =
     went_small file more (subst (λ (s : State). s.stage ≤ 12) (accepted_field file st m i (omega arith) f).is (after_small st (tag_at file i) file (i + header)))
 
 known_small : (site : List ℕ) → (known_by site).stage ≤ 12

@@ -1,0 +1,12 @@
+-- So far ok says that the flags passed are 0 or 1.
+use Prim.Native.Nat.{◌-◌, ◌≤◌}
+use mathlib.Core.Path.{◌≡◌}
+use Rattle.whole.specs.Over.{all_of}
+use Rattle.kept.specs.Formed.{flag_fits}
+use Rattle.kept.proofs.tests.flags_fit.Given as goal
+
+abbrev pub invariant-loop-i : goal.invariant-loop-i
+invariant-loop-i l = (l.i ≤ l.n) × (l.ok ≡ all_of l.i (flag_fits l.s))
+
+abbrev pub decreases-loop-i : goal.decreases-loop-i
+decreases-loop-i l = l.n - l.i
