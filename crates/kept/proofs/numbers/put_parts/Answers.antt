@@ -53,8 +53,7 @@ pub returns : goal.returns
 unfolding parts_of
 returns c =
     let s = c.args.s.now in
-    let (long, rest) = (c.requires.s_len, (c.requires.site_le_site_most, c.requires.tail_le_tail_most)) in
-    let h : 14 ≤ length s = inside 14 (length s) long tt in
+    let h : 14 ≤ length s = inside 14 (length s) c.requires.s_len tt in
     let m = c.args.m in
     let sun = m.due.sun in
     let a = bytes_of 2 m.site in

@@ -8,7 +8,7 @@ use Rattle.kept.proofs.numbers.put_top.Goals as goal
 use Rattle.kept.proofs.numbers.put_top.Goals.{After-copy, After-put_numbers, After-zero, Start}
 
 pub put_numbers-requires : goal.put_numbers-requires
-put_numbers-requires c = let (long, (site, (tail, more))) = (c.requires.s_len, (c.requires.site_le_site_most, (c.requires.tail_le_tail_most, (c.requires.tail_value, c.requires.to_in_bounds)))) in record { s_len = long; site_le_site_most = site; tail_le_tail_most = tail }
+put_numbers-requires c = record { s_len = c.requires.s_len; site_le_site_most = c.requires.site_le_site_most; tail_le_tail_most = c.requires.tail_le_tail_most }
 
 pub shape_of-s : goal.shape_of-s
 shape_of-s c = c.zero.auto.s ∙ c.copy.auto.s ∙ c.put_numbers.auto.s

@@ -1,13 +1,12 @@
 use Prim.Native.Nat.{◌+◌, ◌-◌, ◌≤◌}
 use mathlib.Core.Path.{◌≡◌, ◌∙◌}
 use mathlib.Core.Bool.{false, cond}
-use mathlib.Core.Logic.{⊎_elim}
 use native.Mathlib.Omega.{arith}
 use lib.ListN.{length, get_or}
 use Rattle.kept.specs.Layout.{flag_place}
 use Rattle.kept.proofs.StandLaws.{flagging_none, flagging_length, flagging_more, flagging_all, flag_on, flag_off}
 use Rattle.kept.proofs.stands.put_flags.Goals as goal
-use Rattle.kept.proofs.stands.put_flags.Goals.{After-put_u8, At-loop-i, Joined-on-i, Start}
+use Rattle.kept.proofs.stands.put_flags.Goals.{else-on-i, then-on-i, After-put_u8, At-loop-i, Joined-on-i, Start}
 
 -- where the function starts, seen from the loop's head
 abbrev start : At-loop-i → Start
@@ -37,8 +36,8 @@ pub loop-i-preserved : goal.loop-i-preserved
 loop-i-preserved c =
     let a = (start (goal.at.loop-i-preserved c).At-loop-i).args in
     let i = c.loop-i.i in
-    let v : c.if-on-i.put-u8 ≡ cond (get_or a.on.now i false) 1 0 = ⊎_elim (λ w. w.1 ∙ flag_on (get_or a.on.now i false) w.0.taken) (λ w. w.1 ∙ flag_off (get_or a.on.now i false) w.0.left) c.if-on-i.branch in
-    flagging_more a.s.now a.on.now (room (start (goal.at.loop-i-preserved c).At-loop-i)) c.loop-i.s i c.loop-i.invariant c.loop-i-test.true c.if-on-i.put-u8 c.put_u8.new.s v c.put_u8.ensures
+    let v : c.if-on-i.put_u8 ≡ cond (get_or a.on.now i false) 1 0 = elim c.if-on-i.branch [ then-on-i w ↦ w.put_u8-is ∙ flag_on (get_or a.on.now i false) w.if-on-i.true | else-on-i w ↦ w.put_u8-is ∙ flag_off (get_or a.on.now i false) w.if-on-i.false ] in
+    flagging_more a.s.now a.on.now (room (start (goal.at.loop-i-preserved c).At-loop-i)) c.loop-i.s i c.loop-i.invariant c.loop-i-test.true c.if-on-i.put_u8 c.put_u8.new.s v c.put_u8.ensures
 
 pub shape_of-s : goal.shape_of-s
 shape_of-s c = long (goal.at.shape_of-s c).At-loop-i

@@ -24,7 +24,7 @@ laid_vars : (c : After-put_vars) → length c.put_vars.new.s ≡ state_size
 laid_vars c = c.put_vars.auto.s ∙ cleared_too (record { before = c.before.before.before.before.before; type_inv = record { on = c.shared_slice_known-2-1.given; stored = c.shared_slice_known-1.given } })
 
 pub put_held-requires : goal.put_held-requires
-put_held-requires c = let (long, (few, (same, more))) = (c.requires.s_len, (c.requires.stored_len_bound, (c.requires.requests_len, (c.requires.vars_len_bound, c.requires.on_len_bound)))) in record { s_len = long; stored_len_bound = few; requests_len = same }
+put_held-requires c = record { s_len = c.requires.s_len; stored_len_bound = c.requires.stored_len_bound; requests_len = c.requires.requests_len }
 
 pub zero-requires : goal.zero-requires
 zero-requires c = record { from_le_to = held_upto (length c.args.stored.now) c.requires.stored_len_bound; to_in_bounds = inside flag_place (length c.put_held.new.s) (held (goal.at.zero-requires c).After-put_held) tt }

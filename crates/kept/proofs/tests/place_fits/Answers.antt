@@ -3,7 +3,6 @@ use native.Mathlib.Omega.{arith}
 use Prim.Native.Nat.{◌+◌, ◌-◌, ◌≤◌}
 use mathlib.Core.Path.{◌≡◌, sym, ◌∙◌}
 use mathlib.Core.Bool.{cond}
-use mathlib.Core.Logic.{⊎_elim}
 use lib.Dec.{eqb}
 use borrow.Author.Tests.{eq-eqb, ne_eqb}
 use Rattle.fields.specs.Fields.{at_end, at_reading, at_voltage}
@@ -11,7 +10,7 @@ use Rattle.kept.specs.Kept.{begun_at}
 use Rattle.kept.specs.Layout.{site_most, tail_most}
 use Rattle.kept.proofs.FitLaws.{pick_true, pick_false, most, place_is}
 use Rattle.kept.proofs.tests.place_fits.Goals as goal
-use Rattle.kept.proofs.tests.place_fits.Goals.{Joined-begun_at, Joined-close-site, Joined-stage-eq-AT_END, Joined-stage-eq-AT_READING, Joined-stage-eq-AT_VOLTAGE, Joined-stage-eq-AT_VOLTAGE-2, Start}
+use Rattle.kept.proofs.tests.place_fits.Goals.{else-begun_at, else-close-site, else-stage-eq-AT_END, else-stage-eq-AT_READING, else-stage-eq-AT_VOLTAGE, else-stage-eq-AT_VOLTAGE-2, then-begun_at, then-close-site, then-stage-eq-AT_END, then-stage-eq-AT_READING, then-stage-eq-AT_VOLTAGE, then-stage-eq-AT_VOLTAGE-2, Joined-begun_at, Joined-close-site, Joined-stage-eq-AT_END, Joined-stage-eq-AT_READING, Joined-stage-eq-AT_VOLTAGE, Joined-stage-eq-AT_VOLTAGE-2, Start}
 
 -- where the function starts, seen from behind its fifth choice
 abbrev start : Joined-stage-eq-AT_END → Start
@@ -21,37 +20,25 @@ start c = c.before.before.before.before.before.before
 closed : (c : Joined-begun_at) → c.if-begun_at.close ≡ cond (begun_at c.args.stage) 7 0
 closed c =
     let stage = c.args.stage in
-    ⊎_elim
-    (λ w. pick_true (begun_at stage) 7 0 c.if-begun_at.close (sym c.begun_at.ensures ∙ w.0.taken) w.1)
-    (λ w. pick_false (begun_at stage) 7 0 c.if-begun_at.close (sym c.begun_at.ensures ∙ w.0.left) w.1)
-    c.if-begun_at.branch
+    elim c.if-begun_at.branch [ then-begun_at w ↦ pick_true (begun_at stage) 7 0 c.if-begun_at.close (sym c.begun_at.ensures ∙ w.if-begun_at.true) w.close-is | else-begun_at w ↦ pick_false (begun_at stage) 7 0 c.if-begun_at.close (sym c.begun_at.ensures ∙ w.if-begun_at.false) w.close-is ]
 
 headed : (c : Joined-close-site) → c.if-close-site.head ≡ c.args.site - c.if-begun_at.close
-headed c = ⊎_elim (λ w. w.2) (λ w. omega (arith, w.0.left, w.1)) c.if-close-site.branch
+headed c = elim c.if-close-site.branch [ then-close-site w ↦ w.head-is | else-close-site w ↦ omega (arith, w.if-close-site.false, w.head-is) ]
 
 lit : (c : Joined-stage-eq-AT_READING) → c.if-stage-eq-AT_READING.weather ≡ cond (eqb c.args.stage at_reading) 19 0
 lit c =
     let stage = c.args.stage in
-    ⊎_elim
-    (λ w. pick_true (eqb stage at_reading) 19 0 c.if-stage-eq-AT_READING.weather (eq-eqb stage at_reading w.0.taken) w.1)
-    (λ w. pick_false (eqb stage at_reading) 19 0 c.if-stage-eq-AT_READING.weather (ne_eqb stage at_reading w.0.left) w.1)
-    c.if-stage-eq-AT_READING.branch
+    elim c.if-stage-eq-AT_READING.branch [ then-stage-eq-AT_READING w ↦ pick_true (eqb stage at_reading) 19 0 c.if-stage-eq-AT_READING.weather (eq-eqb stage at_reading w.if-stage-eq-AT_READING.true) w.weather-is | else-stage-eq-AT_READING w ↦ pick_false (eqb stage at_reading) 19 0 c.if-stage-eq-AT_READING.weather (ne_eqb stage at_reading w.if-stage-eq-AT_READING.false) w.weather-is ]
 
 said : (c : Joined-stage-eq-AT_VOLTAGE) → c.if-stage-eq-AT_VOLTAGE.voltage ≡ cond (eqb c.args.stage at_voltage) 5 0
 said c =
     let stage = c.args.stage in
-    ⊎_elim
-    (λ w. pick_true (eqb stage at_voltage) 5 0 c.if-stage-eq-AT_VOLTAGE.voltage (eq-eqb stage at_voltage w.0.taken) w.1)
-    (λ w. pick_false (eqb stage at_voltage) 5 0 c.if-stage-eq-AT_VOLTAGE.voltage (ne_eqb stage at_voltage w.0.left) w.1)
-    c.if-stage-eq-AT_VOLTAGE.branch
+    elim c.if-stage-eq-AT_VOLTAGE.branch [ then-stage-eq-AT_VOLTAGE w ↦ pick_true (eqb stage at_voltage) 5 0 c.if-stage-eq-AT_VOLTAGE.voltage (eq-eqb stage at_voltage w.if-stage-eq-AT_VOLTAGE.true) w.voltage-is | else-stage-eq-AT_VOLTAGE w ↦ pick_false (eqb stage at_voltage) 5 0 c.if-stage-eq-AT_VOLTAGE.voltage (ne_eqb stage at_voltage w.if-stage-eq-AT_VOLTAGE.false) w.voltage-is ]
 
 ended : (c : Joined-stage-eq-AT_END) → c.if-stage-eq-AT_END.end ≡ cond (eqb (start c).args.stage at_end) 7 0
 ended c =
     let stage = (start c).args.stage in
-    ⊎_elim
-    (λ w. pick_true (eqb stage at_end) 7 0 c.if-stage-eq-AT_END.end (eq-eqb stage at_end w.0.taken) w.1)
-    (λ w. pick_false (eqb stage at_end) 7 0 c.if-stage-eq-AT_END.end (ne_eqb stage at_end w.0.left) w.1)
-    c.if-stage-eq-AT_END.branch
+    elim c.if-stage-eq-AT_END.branch [ then-stage-eq-AT_END w ↦ pick_true (eqb stage at_end) 7 0 c.if-stage-eq-AT_END.end (eq-eqb stage at_end w.if-stage-eq-AT_END.true) w.end-is | else-stage-eq-AT_END w ↦ pick_false (eqb stage at_end) 7 0 c.if-stage-eq-AT_END.end (ne_eqb stage at_end w.if-stage-eq-AT_END.false) w.end-is ]
 
 -- the fifth choice, seen from behind the sixth
 abbrev fifth : Joined-stage-eq-AT_VOLTAGE-2 → Joined-stage-eq-AT_END
@@ -60,10 +47,7 @@ fifth c = c.before.before.before.before.before.before
 came : (c : Joined-stage-eq-AT_VOLTAGE-2) → c.if-stage-eq-AT_VOLTAGE-2.before ≡ cond (eqb (start (fifth c)).args.stage at_voltage) 19 0
 came c =
     let stage = (start (fifth c)).args.stage in
-    ⊎_elim
-    (λ w. pick_true (eqb stage at_voltage) 19 0 c.if-stage-eq-AT_VOLTAGE-2.before (eq-eqb stage at_voltage w.0.taken) w.1)
-    (λ w. pick_false (eqb stage at_voltage) 19 0 c.if-stage-eq-AT_VOLTAGE-2.before (ne_eqb stage at_voltage w.0.left) w.1)
-    c.if-stage-eq-AT_VOLTAGE-2.branch
+    elim c.if-stage-eq-AT_VOLTAGE-2.branch [ then-stage-eq-AT_VOLTAGE-2 w ↦ pick_true (eqb stage at_voltage) 19 0 c.if-stage-eq-AT_VOLTAGE-2.before (eq-eqb stage at_voltage w.if-stage-eq-AT_VOLTAGE-2.true) w.before-is | else-stage-eq-AT_VOLTAGE-2 w ↦ pick_false (eqb stage at_voltage) 19 0 c.if-stage-eq-AT_VOLTAGE-2.before (ne_eqb stage at_voltage w.if-stage-eq-AT_VOLTAGE-2.false) w.before-is ]
 
 -- together they are small
 small : (c : Joined-stage-eq-AT_END) → c.if-close-site.head + c.if-stage-eq-AT_READING.weather + c.if-stage-eq-AT_VOLTAGE.voltage + c.if-stage-eq-AT_END.end ≤ site_most + 31
