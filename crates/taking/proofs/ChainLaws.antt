@@ -51,9 +51,9 @@ module _ (file : List ℕ) (next : State) where
   one_more {st} {m} {i} l (voltage t c p v is) h more = said m l t c p v is (more (ap begun is))
   one_more {st} {m} {i} l (end t c p is) h more = ended m l t c p is (more (ap begun is))
 
-  chain : {st : State} {i j : ℕ} → Went file next j st i → j ≡ length file → (begun st ≡ false → i < j → of_steps (tag_at file i) ≡ true) → Chain file next st i
-  chain {st} {i} {j} (there e f) h t = done e (f ∙ h)
-  chain {st} {i} {j} (passing m l e f w more) h t =
+  chain : {j : ℕ} {st : State} {i : ℕ} → Went file next j st i → j ≡ length file → (begun st ≡ false → i < j → of_steps (tag_at file i) ≡ true) → Chain file next st i
+  chain {j} {st} {i} (there e f) h t = done e (f ∙ h)
+  chain {j} {st} {i} (passing m l e f w more) h t =
       one_more l (took file st i m (omega arith) f) (λ b. t b (omega arith)) (λ b. chain more h (λ c. absurd (passed_failed b c)))
 
 -- those behind the head

@@ -71,13 +71,13 @@ module _ (file : List ℕ) where
     pub units_same : next.units ≡ st.units
     pub left_is : next.left + length (having 6 file (from file i)) ≡ st.left
 
-  falls : {st next : State} {i j : ℕ} → Went file next j st i → j ≡ length file → early st.stage ≡ false → Fall st next i
+  falls : {next : State} {j : ℕ} {st : State} {i : ℕ} → Went file next j st i → j ≡ length file → early st.stage ≡ false → Fall st next i
   unfolding having
-  falls {st} {next} {i} {j} (there e f) h c =
+  falls {next} {j} {st} {i} (there e f) h c =
       let none : length (having 6 file (from file i)) ≡ 0 = ap (λ (l : List ℕ). length (having 6 file l)) (from_over file i (omega arith)) in
       let same : st.left ≡ next.left = ap (λ (s : State). s.left) e in
       record { late = ap (λ (s : State). early s.stage) (sym e) ∙ c; units_same = ap (λ (s : State). s.units) (sym e); left_is = omega arith }
-  falls {st} {next} {i} {j} (passing m l e f w more) h c = go (took file st i m (omega arith) f) (falls more h)
+  falls {next} {j} {st} {i} (passing m l e f w more) h c = go (took file st i m (omega arith) f) (falls more h)
     where
       -- by the state behind it
       so : (x : State) → m ≡ x → x.units ≡ st.units → x.left ≡ st.left → early x.stage ≡ false → (tag_at file i ≡ 6 → ⊥)
@@ -114,9 +114,9 @@ module _ (file : List ℕ) where
     pub units_same : (st.stage ≡ 1 → ⊥) → next.units ≡ st.units
     pub left_is : next.left + length (having 6 file (from file i)) ≡ 64
 
-  rises : {st next : State} {i j : ℕ} → Went file next j st i → j ≡ length file → early st.stage ≡ true → early next.stage ≡ false → Rise st next i
-  rises {st} {next} {i} {j} (there e f) h c d = absurd (passed_failed c (ap (λ (s : State). early s.stage) e ∙ d))
-  rises {st} {next} {i} {j} (passing m l e f w more) h c d = go (took file st i m (omega arith) f) (λ x. rises more h x d)
+  rises : {next : State} {j : ℕ} {st : State} {i : ℕ} → Went file next j st i → j ≡ length file → early st.stage ≡ true → early next.stage ≡ false → Rise st next i
+  rises {next} {j} {st} {i} (there e f) h c d = absurd (passed_failed c (ap (λ (s : State). early s.stage) e ∙ d))
+  rises {next} {j} {st} {i} (passing m l e f w more) h c d = go (took file st i m (omega arith) f) (λ x. rises more h x d)
     where
       on : (tag_at file i ≡ 6 → ⊥) → (m.stage ≡ 1 → ⊥) → ((st.stage ≡ 1 → ⊥) → m.units ≡ st.units) → Rise m next (past file i) → Rise st next i
       on n z u r =

@@ -99,8 +99,8 @@ pub record Split (file : List ℕ) (st : State) (i : ℕ) (next : State) : Type 
   pub same : begun st ≡ true → mid ≡ st
   pub begins : head_end file i < length file → of_steps (tag_at file (head_end file i)) ≡ true
 
-pub split : (file : List ℕ) {st next : State} {i j : ℕ} → Went file next j st i → j ≡ length file → Split file st i next
-split file {st} {next} {i} {j} (there e f) h =
+pub split : (file : List ℕ) {next : State} {j : ℕ} {st : State} {i : ℕ} → Went file next j st i → j ≡ length file → Split file st i next
+split file {next} {j} {st} {i} (there e f) h =
     let o : head_end file i ≡ i = head_from_over file (length file) i (omega arith) in
     record {
       mid = st;
@@ -114,7 +114,7 @@ split file {st} {next} {i} {j} (there e f) h =
       same = λ b. refl;
       begins = λ l. absurd (omega arith);
     }
-split file {st} {next} {i} {j} (passing m l e f w more) h = go (sort file st i m (omega arith) f) (split file more h)
+split file {next} {j} {st} {i} (passing m l e f w more) h = go (sort file st i m (omega arith) f) (split file more h)
   where
     go : HeadTook file st i m ⊎ StepTook file st i m → Split file m (past file i) next → Split file st i next
     go (inl k) s =
@@ -167,8 +167,8 @@ one_along file {st} {m} {next} {i} k a =
       few = λ h. a.few (k.few h);
     }
 
-pub along : (file : List ℕ) {st next : State} {i j : ℕ} → Went file next j st i → begun st ≡ true → Along st next
-along file {st} {next} {i} {j} (there e f) b =
+pub along : (file : List ℕ) {next : State} {j : ℕ} {st : State} {i : ℕ} → Went file next j st i → begun st ≡ true → Along st next
+along file {next} {j} {st} {i} (there e f) b =
     let n : st.steps ≡ next.steps = ap (λ (s : State). s.steps) e in
     record {
       begun_next = ap begun (sym e) ∙ b;
@@ -176,7 +176,7 @@ along file {st} {next} {i} {j} (there e f) b =
       more = omega arith;
       few = λ h. omega arith;
     }
-along file {st} {next} {i} {j} (passing m l e f w more) b = go (sort file st i m (omega arith) f) (along file more)
+along file {next} {j} {st} {i} (passing m l e f w more) b = go (sort file st i m (omega arith) f) (along file more)
   where
     go : HeadTook file st i m ⊎ StepTook file st i m → (begun m ≡ true → Along m next) → Along st next
     go (inl k) further = absurd (passed_failed b k.before)
