@@ -89,9 +89,9 @@ does_is : (g : After-give-g) → let t = turn g in
     let p = t.loop-i in
     g.give-g.result.outcome ≡ given (site s) s.args.l p.i (get_or p.stored p.i 0) (back (get_or s.args.requests.now p.i (pos 0))) (back (get_or p.vars p.i (pos 0)))
 does_is g =
-    let t.before = (turn g).before in
-    let a = (start t.before).args in
-    let p = t.loop-i in
+    let l = (turn g).before in
+    let a = (start l).args in
+    let p = l.loop in
     given_is a.f.head a.rows.now a.l p.i (get_or p.stored p.i 0) (back (get_or a.requests.now p.i (pos 0))) (back (get_or p.vars p.i (pos 0)))
     g.give-g.result.outcome g.give-g.ensures.outcome_value
 

@@ -1,7 +1,6 @@
 -- The tests come in the definition's order: a field due before the steps, then the output's size; a file's bytes are few enough that no sum leaves its type.
 use mathlib.Core.Path.{◌≡◌}
 use mathlib.Core.Bool.{cond}
-use mathlib.Core.Logic.{⊎_elim}
 use native.Mathlib.Omega.{arith}
 use lib.Dec.{eqb}
 use lib.ListN.{length}
@@ -9,7 +8,7 @@ use borrow.Author.Tests.{eq-eqb, ne_eqb}
 use Rattle.kept.proofs.FitLaws.{pick_true, pick_false}
 use Rattle.rescue.proofs.CallLaws.{few_last, few_more, owed, too_long, given}
 use Rattle.rescue.proofs.calls.by_walk.Goals as goal
-use Rattle.rescue.proofs.calls.by_walk.Goals.{After-is_due, After-tag_at, Else-is_due, Else-output-gt-MOST_BYTES, Joined-st-eq-AT_END, Joined-w-eq0, Start, Then-is_due, Then-output-gt-MOST_BYTES}
+use Rattle.rescue.proofs.calls.by_walk.Goals.{else-st-eq-AT_END, else-w-eq0, then-st-eq-AT_END, then-w-eq0, After-is_due, After-tag_at, Else-is_due, Else-output-gt-MOST_BYTES, Joined-st-eq-AT_END, Joined-w-eq0, Start, Then-is_due, Then-output-gt-MOST_BYTES}
 
 abbrev first : After-is_due → Start
 first d = d.before.before.before.before.before
@@ -18,18 +17,12 @@ first d = d.before.before.before.before.before
 numbered : (c : Joined-w-eq0) → let n = (first (record { before = c.before.before.before; type_inv = record { file = c.shared_slice_known-1.given } })).args.w.number in c.if-w-eq0.refusal ≡ cond (eqb n 0) 8 n
 numbered c =
     let n = (first (record { before = c.before.before.before; type_inv = record { file = c.shared_slice_known-1.given } })).args.w.number in
-    ⊎_elim
-    (λ w. pick_true (eqb n 0) 8 n c.if-w-eq0.refusal (eq-eqb n 0 w.0.taken) w.1)
-    (λ w. pick_false (eqb n 0) 8 n c.if-w-eq0.refusal (ne_eqb n 0 w.0.left) w.1)
-    c.if-w-eq0.branch
+    elim c.if-w-eq0.branch [ then-w-eq0 w ↦ pick_true (eqb n 0) 8 n c.if-w-eq0.refusal (eq-eqb n 0 w.if-w-eq0.true) w.refusal-is | else-w-eq0 w ↦ pick_false (eqb n 0) 8 n c.if-w-eq0.refusal (ne_eqb n 0 w.if-w-eq0.false) w.refusal-is ]
 
 ended : (c : Joined-st-eq-AT_END) → c.if-st-eq-AT_END.output ≡ cond (eqb (first (record { before = c.before.before.before; type_inv = record { file = c.shared_slice_known-1.given } })).args.w.state.stage 0) 0 7
 ended c =
     let stage = (first (record { before = c.before.before.before; type_inv = record { file = c.shared_slice_known-1.given } })).args.w.state.stage in
-    ⊎_elim
-    (λ w. pick_true (eqb stage 0) 0 7 c.if-st-eq-AT_END.output (eq-eqb stage 0 w.0.taken) w.1)
-    (λ w. pick_false (eqb stage 0) 0 7 c.if-st-eq-AT_END.output (ne_eqb stage 0 w.0.left) w.1)
-    c.if-st-eq-AT_END.branch
+    elim c.if-st-eq-AT_END.branch [ then-st-eq-AT_END w ↦ pick_true (eqb stage 0) 0 7 c.if-st-eq-AT_END.output (eq-eqb stage 0 w.if-st-eq-AT_END.true) w.output-is | else-st-eq-AT_END w ↦ pick_false (eqb stage 0) 0 7 c.if-st-eq-AT_END.output (ne_eqb stage 0 w.if-st-eq-AT_END.false) w.output-is ]
 
 pub returns-then-is_due : goal.returns-then-is_due
 returns-then-is_due c =

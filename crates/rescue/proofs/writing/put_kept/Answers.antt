@@ -1,7 +1,6 @@
 use Prim.Native.Nat.{ℕ, ◌+◌, ◌-◌, ◌*◌, ◌≤◌}
 use mathlib.Core.Path.{◌≡◌, ◌∙◌, subst⁻¹}
 use mathlib.Core.Bool.{true, cond}
-use mathlib.Core.Logic.{⊎_elim}
 use native.Mathlib.Omega.{arith}
 use borrow.Author.Tests.{eq-eqb, ne_eqb, not-true, not-false}
 use lib.ListN.{length}
@@ -15,7 +14,7 @@ use Rattle.rescue.proofs.PutLaws.{Written, written_none, written_more, out_long,
 use Rattle.rescue.proofs.ListLaws.{lost_bytes}
 use Rattle.rescue.proofs.PutLaws.{kept_within, part_room, line_room, line_more, line_same, line_after, line_here}
 use Rattle.rescue.proofs.writing.put_kept.Goals as goal
-use Rattle.rescue.proofs.writing.put_kept.Goals.{After-next-g, After-slice_known-in-loop-at-1, At-loop-at, Else-not-g, Joined-g, Start, Then-g}
+use Rattle.rescue.proofs.writing.put_kept.Goals.{else-g, then-g, After-next-g, After-slice_known-in-loop-at-1, At-loop-at, Else-not-g, Joined-g, Start, Then-g}
 
 -- where the function starts, seen from the loop's head, and the room that it has
 abbrev start : At-loop-at → Start
@@ -77,16 +76,13 @@ listed : (j : Joined-g) → let e = went (record { before = j.before.before; typ
 listed j =
     let e = went (record { before = j.before.before; type_inv = record { out = j.slice_known-in-loop-at-1.given; file = j.shared_slice_known-1.given } }) in
     let l = head e in
-    ⊎_elim
-    (λ w. (
-      line_more (fits (start l)) (rows (start l)) l.loop-at.invariant (grouped e) (on e) w.0.taken j.if-g.list (w.6 ∙ w.3.ensures),
-      line_after (group e).lost l.loop-at.line j.if-g.line w.0.taken w.7,
-    ))
-    (λ w. (
-      line_same (fits (start l)) (rows (start l)) l.loop-at.invariant (grouped e) (on e) w.0.left j.if-g.list w.1,
-      line_here (group e).lost l.loop-at.line j.if-g.line w.0.left w.2,
-    ))
-    j.if-g.branch
+    elim j.if-g.branch [ then-g w ↦ (
+      line_more (fits (start l)) (rows (start l)) l.loop-at.invariant (grouped e) (on e) w.if-g.true j.if-g.list (w.list-is ∙ w.put_change.ensures),
+      line_after (group e).lost l.loop-at.line j.if-g.line w.if-g.true w.line-is,
+    ) | else-g w ↦ (
+      line_same (fits (start l)) (rows (start l)) l.loop-at.invariant (grouped e) (on e) w.if-g.false j.if-g.list w.list-is,
+      line_here (group e).lost l.loop-at.line j.if-g.line w.if-g.false w.line-is,
+    ) ]
 
 pub loop-at-init : goal.loop-at-init
 loop-at-init c =
