@@ -91,7 +91,7 @@ does_is : (g : After-give-g) → let t = turn g in
 does_is g =
     let l = (turn g).before in
     let a = (start l).args in
-    let p = l.loop in
+    let p = l.loop-i in
     given_is a.f.head a.rows.now a.l p.i (get_or p.stored p.i 0) (back (get_or a.requests.now p.i (pos 0))) (back (get_or p.vars p.i (pos 0)))
     g.give-g.result.outcome g.give-g.ensures.outcome_value
 
