@@ -21,9 +21,12 @@ returns-in_default-current c =
     ∙ currents_are site c.args.stored.now c.args.requests.now c.args.r c.in-Current.p c.in-Current.is
 
 pub pass_within-requires : goal.pass_within-requires
-pass_within-requires c = record { sound = ask_sound c.args.f.head c.args.rows.now c.args.stored.now c.args.requests.now c.in-Chosen.m
-          (current_small c.in-Current.p c.args.f.head.phase c.in-Chosen.m (sym c.current.ensures ∙ c.in-Chosen.is))
-          c.in-Chosen.known_told-in-Chosen-1-own.given.0.1 c.requires.ready.sited c.requires.stored_len c.requires.requests_len c.requires.stored; totals_of = c.requires.ready.totals }
+pass_within-requires c = record {
+  sound = ask_sound c.args.f.head c.args.rows.now c.args.stored.now c.args.requests.now c.in-Chosen.m
+      (current_small c.in-Current.p c.args.f.head.phase c.in-Chosen.m (sym c.current.ensures ∙ c.in-Chosen.is))
+      c.in-Chosen.known_told-in-Chosen-1-own.given.0.1 c.requires.ready.sited c.requires.stored_len c.requires.requests_len c.requires.stored;
+  totals_of = c.requires.ready.totals;
+}
 
 pub returns : goal.returns
 returns c =

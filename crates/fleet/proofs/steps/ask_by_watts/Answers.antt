@@ -21,9 +21,12 @@ returns-in_default-regulated c =
     ∙ powers_are site c.args.stored.now c.args.requests.now c.args.r c.in-Power.p c.in-Power.is
 
 pub pass_within-requires : goal.pass_within-requires
-pass_within-requires c = record { sound = ask_sound c.args.f.head c.args.rows.now c.args.stored.now c.args.requests.now c.in-Chosen.m
-          (measure_small c.in-Power.p c.args.f.head.phase c.in-Chosen.m (sym c.regulated.ensures ∙ c.in-Chosen.is))
-          c.in-Chosen.known_told-in-Chosen-1-own.given.0.1 c.requires.ready.sited c.requires.stored_len c.requires.requests_len c.requires.stored; totals_of = c.requires.ready.totals }
+pass_within-requires c = record {
+  sound = ask_sound c.args.f.head c.args.rows.now c.args.stored.now c.args.requests.now c.in-Chosen.m
+      (measure_small c.in-Power.p c.args.f.head.phase c.in-Chosen.m (sym c.regulated.ensures ∙ c.in-Chosen.is))
+      c.in-Chosen.known_told-in-Chosen-1-own.given.0.1 c.requires.ready.sited c.requires.stored_len c.requires.requests_len c.requires.stored;
+  totals_of = c.requires.ready.totals;
+}
 
 pub returns : goal.returns
 returns c =

@@ -69,8 +69,13 @@ give-g-requires c =
     let rows = a.rows.now in
     let head = a.f.head in
     let u = row_unit_lem head rows p.i in
-    let within = next_within (site s) a.m a.stored.now a.requests.now a.vars.now a.room.now s.requires.held s.requires.rows_in_bounds p.i p.stored p.vars p.room p.invariant (below (goal.at.give-g-requires c).In-loop-i) in record { i_in_bounds = le_trans (below (goal.at.give-g-requires c).In-loop-i) (le_of_eq (rows_count head rows)); rested = s.requires.ready.rested; ranged = holding_ranged (unit_by (get_or rows p.i [])) (get_or p.stored p.i 0) head.seconds
-              (subst (λ (v : Unit). Ranged v head.seconds) u (unit_ranged (site s) s.requires.ready.sited p.i (below (goal.at.give-g-requires c).In-loop-i))) (le_trans within (le_of_eq (ap (λ (v : Unit). v.rated) u))); guiding = next_guiding (site s) a.m a.stored.now a.requests.now a.vars.now a.room.now s.requires.held s.requires.rows_in_bounds p.i p.stored p.vars p.room p.invariant (below (goal.at.give-g-requires c).In-loop-i) s.requires.modest }
+    let within = next_within (site s) a.m a.stored.now a.requests.now a.vars.now a.room.now s.requires.held s.requires.rows_in_bounds p.i p.stored p.vars p.room p.invariant (below (goal.at.give-g-requires c).In-loop-i) in record {
+      i_in_bounds = le_trans (below (goal.at.give-g-requires c).In-loop-i) (le_of_eq (rows_count head rows));
+      rested = s.requires.ready.rested;
+      ranged = holding_ranged (unit_by (get_or rows p.i [])) (get_or p.stored p.i 0) head.seconds
+          (subst (λ (v : Unit). Ranged v head.seconds) u (unit_ranged (site s) s.requires.ready.sited p.i (below (goal.at.give-g-requires c).In-loop-i))) (le_trans within (le_of_eq (ap (λ (v : Unit). v.rated) u)));
+      guiding = next_guiding (site s) a.m a.stored.now a.requests.now a.vars.now a.room.now s.requires.held s.requires.rows_in_bounds p.i p.stored p.vars p.room p.invariant (below (goal.at.give-g-requires c).In-loop-i) s.requires.modest;
+    }
 
 pub offset_bounds-stored-i-in-loop-i : goal.offset_bounds-stored-i-in-loop-i
 offset_bounds-stored-i-in-loop-i c = omega (arith, in_stored (goal.at.offset_bounds-stored-i-in-loop-i c).In-loop-i)

@@ -8,11 +8,14 @@ use Rattle.guided.proofs.roofs.after_watts.Goals.{After-led_inverter-led, After-
 pub step_within-g-requires : goal.step_within-g-requires
 step_within-g-requires c =
     let a = c.args in
-    let r = roof_by a.v a.bytes.now a.warm a.efficiency in record { roofed = record {
+    let r = roof_by a.v a.bytes.now a.warm a.efficiency in record {
+      roofed = record {
         roof_in_is = after_in a.l r a.last a.on a.s c.requires.roofed.roof_in_is c.requires.guiding c.requires.after_value c.led_inverter-led.result c.led_inverter-led.ensures;
         warm_there = c.requires.roofed.warm_there;
         efficiency_there = c.requires.roofed.efficiency_there;
-      }; shining = c.requires.shining }
+      };
+      shining = c.requires.shining;
+    }
 
 pub requested-asked-requires : goal.requested-asked-requires
 requested-asked-requires c =
@@ -21,8 +24,11 @@ requested-asked-requires c =
 pub returns : goal.returns
 returns c =
     let a = c.args in
-    let r = roof_by a.v a.bytes.now a.warm a.efficiency in record { given_value = after_step a.l r a.last a.on a.s c.requires.roofed.roof_in_is c.requires.guiding c.requires.after_value c.led_inverter-led.result c.led_inverter-led.ensures
+    let r = roof_by a.v a.bytes.now a.warm a.efficiency in record {
+      given_value = after_step a.l r a.last a.on a.s c.requires.roofed.roof_in_is c.requires.guiding c.requires.after_value c.led_inverter-led.result c.led_inverter-led.ensures
           c.step_within-g.result c.step_within-g.ensures c.size32.result c.size32.ensures c.requested-asked.result c.requested-asked.ensures
-          c.with_vars.result c.with_vars.ensures; vars_value = after_kept a.l r a.last a.on a.s c.requires.roofed.roof_in_is c.requires.guiding c.requires.after_value c.led_inverter-led.result c.led_inverter-led.ensures
+          c.with_vars.result c.with_vars.ensures;
+      vars_value = after_kept a.l r a.last a.on a.s c.requires.roofed.roof_in_is c.requires.guiding c.requires.after_value c.led_inverter-led.result c.led_inverter-led.ensures
           c.step_within-g.result c.step_within-g.ensures c.size32.result c.size32.ensures c.requested-asked.result c.requested-asked.ensures
-          c.kept.result c.kept.type_inv c.kept.ensures }
+          c.kept.result c.kept.type_inv c.kept.ensures;
+    }

@@ -38,9 +38,12 @@ pub returns-then-kind-eq-OPEN : goal.returns-then-kind-eq-OPEN
 returns-then-kind-eq-OPEN c =
     let a = c.args in
     let u = c.unit_holding-u in
-    let o = c.open_after in record { outcome_value = step_read a.l u.result a.last a.seconds a.request (ranged (goal.at.returns-then-kind-eq-OPEN c).After-unit_holding-u) c.requires.guiding c.ranges.request.sfits o.result.outcome o.ensures.outcome_value
-          ∙ ap (λ (x : Unit). led_step a.l x a.last a.seconds a.request) u.ensures; vars_value = kept_read a.l u.result a.last a.seconds a.request (ranged (goal.at.returns-then-kind-eq-OPEN c).After-unit_holding-u) c.requires.guiding c.ranges.request.sfits o.result.vars o.ensures.vars_value
-          ∙ ap (λ (x : Unit). vars_kept a.l x a.last a.seconds a.request) u.ensures }
+    let o = c.open_after in record {
+      outcome_value = step_read a.l u.result a.last a.seconds a.request (ranged (goal.at.returns-then-kind-eq-OPEN c).After-unit_holding-u) c.requires.guiding c.ranges.request.sfits o.result.outcome o.ensures.outcome_value
+          ∙ ap (λ (x : Unit). led_step a.l x a.last a.seconds a.request) u.ensures;
+      vars_value = kept_read a.l u.result a.last a.seconds a.request (ranged (goal.at.returns-then-kind-eq-OPEN c).After-unit_holding-u) c.requires.guiding c.ranges.request.sfits o.result.vars o.ensures.vars_value
+          ∙ ap (λ (x : Unit). vars_kept a.l x a.last a.seconds a.request) u.ensures;
+    }
 
 pub part-asked-requires : goal.part-asked-requires
 part-asked-requires c =
@@ -66,11 +69,14 @@ done-requires c =
 
 pub returns : goal.returns
 returns c =
-    let a = c.args in record { outcome_value = first_step a.l (row (goal.at.returns c).Start) a.held a.seconds (told (goal.at.returns c).Start) c.requires.ranged a.last c.requires.guiding c.requires.after_value a.request c.ranges.request.sfits
+    let a = c.args in record {
+      outcome_value = first_step a.l (row (goal.at.returns c).Start) a.held a.seconds (told (goal.at.returns c).Start) c.requires.ranged a.last c.requires.guiding c.requires.after_value a.request c.ranges.request.sfits
           c.unit_holding-u.result c.unit_holding-u.ensures c.size32.result c.size32.ensures c.least32-p.result c.least32-p.ensures
           _ c.kind_of-kind.result c.kind_of-kind.ensures c.if-kind-eq-OPEN.false c.left.result c.left.ensures c.part-asked.result c.part-asked.ensures
           c.led_unit.result c.led_unit.ensures c.limited-size.result c.limited-size.ensures c.below_zero32.result c.below_zero32.ensures
-          c.signed32-vars.result c.signed32-vars.type_inv c.signed32-vars.ensures c.done.result c.done.ensures; vars_value = first_kept a.l (row (goal.at.returns c).Start) a.held a.seconds (told (goal.at.returns c).Start) c.requires.ranged a.last c.requires.guiding c.requires.after_value a.request c.ranges.request.sfits
+          c.signed32-vars.result c.signed32-vars.type_inv c.signed32-vars.ensures c.done.result c.done.ensures;
+      vars_value = first_kept a.l (row (goal.at.returns c).Start) a.held a.seconds (told (goal.at.returns c).Start) c.requires.ranged a.last c.requires.guiding c.requires.after_value a.request c.ranges.request.sfits
           c.unit_holding-u.result c.unit_holding-u.ensures c.size32.result c.size32.ensures c.least32-p.result c.least32-p.ensures
           _ c.kind_of-kind.result c.kind_of-kind.ensures c.if-kind-eq-OPEN.false c.left.result c.left.ensures c.part-asked.result c.part-asked.ensures
-          c.kept.result c.kept.type_inv c.kept.ensures }
+          c.kept.result c.kept.type_inv c.kept.ensures;
+    }

@@ -31,8 +31,11 @@ step_led-requires c =
 pub returns : goal.returns
 returns c =
     let a = c.args in
-    let u = c.unit_holding-u in record { outcome_value = before_step a.l u.result a.last a.seconds a.request (ranged (goal.at.returns c).After-unit_holding-u) c.requires.guiding c.ranges.request.sfits c.requires.after_value
+    let u = c.unit_holding-u in record {
+      outcome_value = before_step a.l u.result a.last a.seconds a.request (ranged (goal.at.returns c).After-unit_holding-u) c.requires.guiding c.ranges.request.sfits c.requires.after_value
           c.requested-asked.result c.requested-asked.ensures c.led_unit.result c.led_unit.ensures c.step_led.result c.step_led.ensures
-          ∙ ap (λ (x : Unit). led_step a.l x a.last a.seconds a.request) u.ensures; vars_value = before_kept a.l u.result a.last a.seconds a.request (ranged (goal.at.returns c).After-unit_holding-u) c.requires.guiding c.ranges.request.sfits c.requires.after_value
+          ∙ ap (λ (x : Unit). led_step a.l x a.last a.seconds a.request) u.ensures;
+      vars_value = before_kept a.l u.result a.last a.seconds a.request (ranged (goal.at.returns c).After-unit_holding-u) c.requires.guiding c.ranges.request.sfits c.requires.after_value
           c.requested-asked.result c.requested-asked.ensures c.kept.result c.kept.type_inv c.kept.ensures
-          ∙ ap (λ (x : Unit). vars_kept a.l x a.last a.seconds a.request) u.ensures }
+          ∙ ap (λ (x : Unit). vars_kept a.l x a.last a.seconds a.request) u.ensures;
+    }

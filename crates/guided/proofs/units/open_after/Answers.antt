@@ -27,9 +27,12 @@ vars-vars-requires c =
 
 pub returns : goal.returns
 returns c =
-    let a = c.args in record { outcome_value = after_step a.l a.u a.last a.seconds a.request c.requires.ranged c.requires.guiding c.ranges.request.sfits c.requires.after_value
+    let a = c.args in record {
+      outcome_value = after_step a.l a.u a.last a.seconds a.request c.requires.ranged c.requires.guiding c.ranges.request.sfits c.requires.after_value
           c.led_unit.result c.led_unit.ensures c.step_within-o.result c.step_within-o.ensures c.carried-watts.result c.carried-watts.type_inv c.carried-watts.ensures
           c.size32.result c.size32.ensures c.requested-asked.result c.requested-asked.ensures c.led_unit-2.result c.led_unit-2.ensures
-          c.vars-vars.result c.vars-vars.type_inv c.vars-vars.ensures; vars_value = after_kept a.l a.u a.last a.seconds a.request c.requires.ranged c.requires.guiding c.ranges.request.sfits c.requires.after_value
+          c.vars-vars.result c.vars-vars.type_inv c.vars-vars.ensures;
+      vars_value = after_kept a.l a.u a.last a.seconds a.request c.requires.ranged c.requires.guiding c.ranges.request.sfits c.requires.after_value
           c.led_unit.result c.led_unit.ensures c.step_within-o.result c.step_within-o.ensures c.carried-watts.result c.carried-watts.type_inv c.carried-watts.ensures
-          c.size32.result c.size32.ensures c.requested-asked.result c.requested-asked.ensures c.kept-kept.result c.kept-kept.type_inv c.kept-kept.ensures }
+          c.size32.result c.size32.ensures c.requested-asked.result c.requested-asked.ensures c.kept-kept.result c.kept-kept.type_inv c.kept-kept.ensures;
+    }

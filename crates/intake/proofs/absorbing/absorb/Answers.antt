@@ -93,9 +93,13 @@ returns-then-begun_at c =
     let s = first k in
     let a = s.args in
     let w = a.bytes.now in
-    let f : begun a.next ≡ true = sym c.begun_at.ensures ∙ c.if-begun_at.true in record { value = c.run.ensures.value ∙ ap (λ (x : List ℕ). a.out + length x) (records_are (goal.at.returns-then-begun_at c).Then-begun_at); s_after = c.run.ensures.s_after
-            ∙ ap₂ (λ (x : Mark) (h : ℕ). left_by x c.grow-site.new.s c.grow-site.result w h a.next) (mark_is k) c.head_end-head.ensures
-            ∙ left_same a.s.now s.requires.fact w a.next s.requires.leads c.grow-site.new.s c.grow-site.result (grown (goal.at.returns-then-begun_at c).After-grow-site) f; room_after = c.run.ensures.room_after ∙ ap (laid a.room.now a.out) (records_are (goal.at.returns-then-begun_at c).Then-begun_at) }
+    let f : begun a.next ≡ true = sym c.begun_at.ensures ∙ c.if-begun_at.true in record {
+      value = c.run.ensures.value ∙ ap (λ (x : List ℕ). a.out + length x) (records_are (goal.at.returns-then-begun_at c).Then-begun_at);
+      s_after = c.run.ensures.s_after
+          ∙ ap₂ (λ (x : Mark) (h : ℕ). left_by x c.grow-site.new.s c.grow-site.result w h a.next) (mark_is k) c.head_end-head.ensures
+          ∙ left_same a.s.now s.requires.fact w a.next s.requires.leads c.grow-site.new.s c.grow-site.result (grown (goal.at.returns-then-begun_at c).After-grow-site) f;
+      room_after = c.run.ensures.room_after ∙ ap (laid a.room.now a.out) (records_are (goal.at.returns-then-begun_at c).Then-begun_at);
+    }
 
 pub wait-requires : goal.wait-requires
 wait-requires c =
@@ -115,6 +119,10 @@ returns c =
     let w = a.bytes.now in
     let f : begun a.next ≡ false = sym c.begun_at.ensures ∙ c.if-begun_at.false in
     let y : begun (state_in a.s.now) ≡ false = before_too w s.requires.leads f in
-    let none = no_results a.s.now s.requires.fact w a.next s.requires.leads c.grow-site.new.s c.grow-site.result (grown (goal.at.returns c).After-grow-site) f y in record { value = omega (arith, ap length none); s_after = c.wait.ensures
-            ∙ ap (λ (x : Mark). top_of (mark_after x a.next c.grow-site.result x.due (length w)) [] ++ stands_of [] [] [] [] ++ drop site_place c.grow-site.new.s) (mark_is k)
-            ∙ waits_same a.s.now s.requires.fact w a.next s.requires.leads c.grow-site.new.s c.grow-site.result (grown (goal.at.returns c).After-grow-site) f y; room_after = nothing a.room.now a.out ∙ ap (laid a.room.now a.out) (sym none) }
+    let none = no_results a.s.now s.requires.fact w a.next s.requires.leads c.grow-site.new.s c.grow-site.result (grown (goal.at.returns c).After-grow-site) f y in record {
+      value = omega (arith, ap length none);
+      s_after = c.wait.ensures
+          ∙ ap (λ (x : Mark). top_of (mark_after x a.next c.grow-site.result x.due (length w)) [] ++ stands_of [] [] [] [] ++ drop site_place c.grow-site.new.s) (mark_is k)
+          ∙ waits_same a.s.now s.requires.fact w a.next s.requires.leads c.grow-site.new.s c.grow-site.result (grown (goal.at.returns c).After-grow-site) f y;
+      room_after = nothing a.room.now a.out ∙ ap (laid a.room.now a.out) (sym none);
+    }

@@ -96,7 +96,10 @@ returns c =
     let s = first u in
     let a = s.args in
     let t = c.absorb-out.new.s in
-    let rest = drop (a.at - a.tail) a.chunk.now in record { s_after = c.take_rest.ensures.s_after
+    let rest = drop (a.at - a.tail) a.chunk.now in record {
+      s_after = c.take_rest.ensures.s_after
           ∙ ap (λ (v : List ℕ). bytes_for (with_tail (absorbed (kept_in t) v a.next) rest)) (others_are u)
-          ∙ others_kept a.s.now s.requires.fact (one s) a.mid s.requires.leads (others s) a.next t (taken (goal.at.returns c).After-absorb-out) rest; room_after = both_laid a.s.now s.requires.fact (one s) a.mid s.requires.leads (others s) a.next t (taken (goal.at.returns c).After-absorb-out) a.room.now c.absorb-out.new.room c.take_rest.new.room c.absorb-out.result (place (goal.at.returns c).After-absorb-out) (written (goal.at.returns c).After-absorb-out)
-          (c.take_rest.ensures.room_after ∙ ap (λ (v : List ℕ). laid c.absorb-out.new.room c.absorb-out.result (results_by (kept_in t) v a.next)) (others_are u)) }
+          ∙ others_kept a.s.now s.requires.fact (one s) a.mid s.requires.leads (others s) a.next t (taken (goal.at.returns c).After-absorb-out) rest;
+      room_after = both_laid a.s.now s.requires.fact (one s) a.mid s.requires.leads (others s) a.next t (taken (goal.at.returns c).After-absorb-out) a.room.now c.absorb-out.new.room c.take_rest.new.room c.absorb-out.result (place (goal.at.returns c).After-absorb-out) (written (goal.at.returns c).After-absorb-out)
+          (c.take_rest.ensures.room_after ∙ ap (λ (v : List ℕ). laid c.absorb-out.new.room c.absorb-out.result (results_by (kept_in t) v a.next)) (others_are u));
+    }

@@ -59,5 +59,8 @@ pub returns : goal.returns
 returns c =
     let s = first (goal.at.returns c).After-absorb-arg-3-1 in
     let a = s.args in
-    let w = slice a.from a.to a.bytes.now in record { s_after = c.keep_tail.ensures
-          ∙ ap (λ (k : Kept). bytes_for (with_tail k (drop a.to a.bytes.now))) (then_back a.s.now s.requires.fact w a.next s.requires.leads c.absorb.new.s (taken (goal.at.returns c).After-absorb)); room_after = c.absorb.ensures.room_after ∙ ap (λ (w : List ℕ). laid a.room.now a.out (results_by (kept_in a.s.now) w a.next)) (part s) }
+    let w = slice a.from a.to a.bytes.now in record {
+      s_after = c.keep_tail.ensures
+          ∙ ap (λ (k : Kept). bytes_for (with_tail k (drop a.to a.bytes.now))) (then_back a.s.now s.requires.fact w a.next s.requires.leads c.absorb.new.s (taken (goal.at.returns c).After-absorb));
+      room_after = c.absorb.ensures.room_after ∙ ap (λ (w : List ℕ). laid a.room.now a.out (results_by (kept_in a.s.now) w a.next)) (part s);
+    }

@@ -55,7 +55,10 @@ returns c =
     let t : length tail ≡ c.u8_at-t.result = tail_long (goal.at.returns c).After-u8_at-t in
     let is : n ≡ cond (ltb (length chunk) (largest_field - length tail)) (length chunk) (largest_field - length tail) =
     c.lesser-n.ensures ∙ ap (λ (k : ℕ). cond (ltb (length chunk) (largest_field - k)) (length chunk) (largest_field - k)) (sym t) in
-    let few : length tail ≤ tail_most = omega (arith, t, short (goal.at.returns c).After-u8_at-t) in record { value = ap (λ (k : ℕ). k + n) (sym t) ∙ sym (joint_long tail chunk n few is) ∙ ap length (joint_is tail chunk n few is); joint_after = ap (λ (k : ℕ). take (k + n) c.copy-2.new.s) (sym t)
+    let few : length tail ≤ tail_most = omega (arith, t, short (goal.at.returns c).After-u8_at-t) in record {
+      value = ap (λ (k : ℕ). k + n) (sym t) ∙ sym (joint_long tail chunk n few is) ∙ ap length (joint_is tail chunk n few is);
+      joint_after = ap (λ (k : ℕ). take (k + n) c.copy-2.new.s) (sym t)
           ∙ joined tail chunk n few is a.joint.now c.copy.new.s c.copy-2.new.s c.requires.joint_len
           (c.copy.ensures ∙ ap (laid a.joint.now 0) (tail_read (goal.at.returns c).After-u8_at-t))
-          (c.copy-2.ensures ∙ ap (λ (k : ℕ). laid c.copy.new.s k (slice 0 n chunk)) (sym t)) }
+          (c.copy-2.ensures ∙ ap (λ (k : ℕ). laid c.copy.new.s k (slice 0 n chunk)) (sym t));
+    }

@@ -71,9 +71,17 @@ along-requires c =
     let s = start (headed (goal.at.along-requires c).After-is_guided-led) in
     let a = s.args in
     let site = a.site.now in
-    let rows = a.rows.now in record { planted = planted site s.requires.accepted (track (goal.at.along-requires c).After-is_guided-led) rows (length a.on.now) s.requires.on_len c.roofs_place-first.ensures c.is_guided-led.ensures c.function_place-function.ensures
-          c.framed-frame.ensures.ready; holding = held_alike (site_in (track (goal.at.along-requires c).After-is_guided-led).frame rows) (site_of site) a.stored.now a.requests.now a.vars.now a.on.now (same_site (goal.at.along-requires c).After-is_guided-led) s.requires.holding; at_in_bounds = s.requires.head_in_bounds; steps_there = s.requires.steps_there; shining = s.requires.shining; at_bound = s.requires.bytes_bound; at_in_bounds_2 = fit_alike site (site_in (track (goal.at.along-requires c).After-is_guided-led).frame rows) (length a.on.now) a.c.out (length (steps_from a.bytes.now a.c.mark.due a.c.head))
-                    (length a.room.now) (same_site (goal.at.along-requires c).After-is_guided-led) s.requires.on_len s.requires.bytes_in_bounds }
+    let rows = a.rows.now in record {
+      planted = planted site s.requires.accepted (track (goal.at.along-requires c).After-is_guided-led) rows (length a.on.now) s.requires.on_len c.roofs_place-first.ensures c.is_guided-led.ensures c.function_place-function.ensures
+          c.framed-frame.ensures.ready;
+      holding = held_alike (site_in (track (goal.at.along-requires c).After-is_guided-led).frame rows) (site_of site) a.stored.now a.requests.now a.vars.now a.on.now (same_site (goal.at.along-requires c).After-is_guided-led) s.requires.holding;
+      at_in_bounds = s.requires.head_in_bounds;
+      steps_there = s.requires.steps_there;
+      shining = s.requires.shining;
+      at_bound = s.requires.bytes_bound;
+      at_in_bounds_2 = fit_alike site (site_in (track (goal.at.along-requires c).After-is_guided-led).frame rows) (length a.on.now) a.c.out (length (steps_from a.bytes.now a.c.mark.due a.c.head))
+          (length a.room.now) (same_site (goal.at.along-requires c).After-is_guided-led) s.requires.on_len s.requires.bytes_in_bounds;
+    }
 
 pub shape_of-stored : goal.shape_of-stored
 shape_of-stored c = c.along.auto.stored

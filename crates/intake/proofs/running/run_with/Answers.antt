@@ -144,7 +144,10 @@ returns c =
     let stored = p.stand.new.stored in
     let rs = p.stand.new.requests in
     let vs = p.stand.new.vars in
-    let on = p.stand.new.on in record { s_after = c.keep.ensures
+    let on = p.stand.new.on in record {
+      s_after = c.keep.ensures
           ∙ all_left state a.c.mark a.c.site a.bytes.now a.c.head a.c.next s.requires.ahead part ep stored rs vs on p.stand.ensures
           c.mark_after-k.result o.over-w.result.due o.over-w.new.stored o.over-w.new.requests o.over-w.new.vars o.over-w.new.on
-          c.mark_after-k.ensures o.over-w.ensures.due_value o.over-w.ensures.on_after; room_after = o.over-w.ensures.room_after ∙ all_written state a.c.mark a.c.site a.bytes.now a.c.head a.c.next s.requires.ahead part ep stored rs vs on p.stand.ensures a.room.now a.c.out }
+          c.mark_after-k.ensures o.over-w.ensures.due_value o.over-w.ensures.on_after;
+      room_after = o.over-w.ensures.room_after ∙ all_written state a.c.mark a.c.site a.bytes.now a.c.head a.c.next s.requires.ahead part ep stored rs vs on p.stand.ensures a.room.now a.c.out;
+    }

@@ -38,5 +38,8 @@ value_at-requires c =
 pub returns : goal.returns
 returns c =
     let a = c.args in
-    let y = c.value_at.result in record { value = said_is a.bytes.now a.there a.at a.v (ap not c.if-not-there.false) c.u8_at-after.result c.u8_at-after.ensures
-          c.in-Said.x c.in-Said.is y c.value_at.type_inv c.value_at.ensures.value; modest = record { y_small = subst⁻¹ (λ (z : ℤ). nat_abs z ≤ 10000) (read w32 y c.value_at.type_inv) c.value_at.ensures.result_bound } }
+    let y = c.value_at.result in record {
+      value = said_is a.bytes.now a.there a.at a.v (ap not c.if-not-there.false) c.u8_at-after.result c.u8_at-after.ensures
+          c.in-Said.x c.in-Said.is y c.value_at.type_inv c.value_at.ensures.value;
+      modest = record { y_small = subst⁻¹ (λ (z : ℤ). nat_abs z ≤ 10000) (read w32 y c.value_at.type_inv) c.value_at.ensures.result_bound };
+    }

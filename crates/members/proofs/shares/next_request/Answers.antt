@@ -41,9 +41,12 @@ pub share-part-requires : goal.share-part-requires
 share-part-requires c = record { need_bound = need_ok (goal.at.share-part-requires c).Start; factor_bound = c.requires.sharable.factor_small; weight_bound = le_trans (le_of_eq c.weight_of.ensures) c.requires.sharable.weight_small; weights_bound = c.requires.sharable.weights_small }
 
 pub request_after-requires : goal.request_after-requires
-request_after-requires c = record { rating_bound = le_trans (le_of_eq c.rating_of.ensures) c.requires.sharable.rating_small; share_bound = subst⁻¹ (λ (z : ℤ). nat_abs z ≤ 4000000000000000000) (read w64 c.share-part.result c.share-part.type_inv ∙ c.share-part.ensures)
-          (share_size c.args.factor (back64 c.args.need) c.weight_of.result c.args.weights (need_ok (goal.at.request_after-requires c).Start) c.requires.sharable.factor_small
-          (le_trans (le_of_eq c.weight_of.ensures) c.requires.sharable.weight_small)) }
+request_after-requires c = record {
+  rating_bound = le_trans (le_of_eq c.rating_of.ensures) c.requires.sharable.rating_small;
+  share_bound = subst⁻¹ (λ (z : ℤ). nat_abs z ≤ 4000000000000000000) (read w64 c.share-part.result c.share-part.type_inv ∙ c.share-part.ensures)
+      (share_size c.args.factor (back64 c.args.need) c.weight_of.result c.args.weights (need_ok (goal.at.request_after-requires c).Start) c.requires.sharable.factor_small
+      (le_trans (le_of_eq c.weight_of.ensures) c.requires.sharable.weight_small));
+}
 
 pub returns : goal.returns
 returns c =

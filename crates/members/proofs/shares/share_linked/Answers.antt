@@ -52,8 +52,11 @@ bounds-stored-i c = omega (arith, long (goal.at.bounds-stored-i c).At-loop-i, c.
 
 pub next_request-next-requires : goal.next_request-next-requires
 next_request-next-requires c =
-    let a = c.args in record { i_in_bounds = here (goal.at.next_request-next-requires c).In-loop-i; sharable = may_share a.factor a.w a.weights a.units.now a.stored.now (length a.requests.now) c.requires c.loop-i.i
-          c.own_need-need.result c.own_need-need.type_inv c.own_need-need.ensures.result_bound }
+    let a = c.args in record {
+      i_in_bounds = here (goal.at.next_request-next-requires c).In-loop-i;
+      sharable = may_share a.factor a.w a.weights a.units.now a.stored.now (length a.requests.now) c.requires c.loop-i.i
+          c.own_need-need.result c.own_need-need.type_inv c.own_need-need.ensures.result_bound;
+    }
 
 pub offset_bounds-requests-i-in-loop-i : goal.offset_bounds-requests-i-in-loop-i
 offset_bounds-requests-i-in-loop-i c = omega (arith, long (goal.at.offset_bounds-requests-i-in-loop-i c).At-loop-i)

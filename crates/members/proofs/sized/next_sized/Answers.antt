@@ -75,9 +75,12 @@ share_is g =
 
 pub request_after-requires : goal.request_after-requires
 request_after-requires c =
-    let s = begun (goal.at.request_after-requires c).After-link_of in record { rating_bound = le_trans (le_of_eq c.rating_of.ensures) s.requires.sharable_by_size.unit.rating_small; share_bound = subst⁻¹ (λ (z : ℤ). nat_abs z ≤ 4000000000000000000) (read w64 c.signed64-share.result c.signed64-share.type_inv ∙ share_is (goal.at.request_after-requires c).After-signed64-share)
+    let s = begun (goal.at.request_after-requires c).After-link_of in record {
+      rating_bound = le_trans (le_of_eq c.rating_of.ensures) s.requires.sharable_by_size.unit.rating_small;
+      share_bound = subst⁻¹ (λ (z : ℤ). nat_abs z ≤ 4000000000000000000) (read w64 c.signed64-share.result c.signed64-share.type_inv ∙ share_is (goal.at.request_after-requires c).After-signed64-share)
           (share_size s.args.factor (signed s.args.below (own_size (goal.at.request_after-requires c).After-link_of)) c.weight_of.result s.args.weights
-          (le_trans (le_of_eq (size_signed s.args.below (own_size (goal.at.request_after-requires c).After-link_of))) (own_small (goal.at.request_after-requires c).After-link_of)) s.requires.sharable_by_size.unit.factor_small (weight_small (goal.at.request_after-requires c).After-weight_of)) }
+          (le_trans (le_of_eq (size_signed s.args.below (own_size (goal.at.request_after-requires c).After-link_of))) (own_small (goal.at.request_after-requires c).After-link_of)) s.requires.sharable_by_size.unit.factor_small (weight_small (goal.at.request_after-requires c).After-weight_of));
+    }
 
 pub returns : goal.returns
 unfolding sized_by

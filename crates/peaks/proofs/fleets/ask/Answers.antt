@@ -22,8 +22,11 @@ returns-then-not-fits c =
 
 pub pass_within-requires : goal.pass_within-requires
 pass_within-requires c =
-    let a = c.args in record { sound = ask_sound a.f.head a.rows.now a.stored.now a.requests.now c.in-Shows.z (subst Metered (sym c.requires.m_value ∙ c.in-Shows.is) (meter_metered a.r a.f.head.phase))
-          c.in-Shows.known_told-1-own.given.0.1 c.requires.ready.sited c.requires.stored_len c.requires.requests_len c.requires.stored; totals_of = c.requires.ready.totals }
+    let a = c.args in record {
+      sound = ask_sound a.f.head a.rows.now a.stored.now a.requests.now c.in-Shows.z (subst Metered (sym c.requires.m_value ∙ c.in-Shows.is) (meter_metered a.r a.f.head.phase))
+          c.in-Shows.known_told-1-own.given.0.1 c.requires.ready.sited c.requires.stored_len c.requires.requests_len c.requires.stored;
+      totals_of = c.requires.ready.totals;
+    }
 
 pub returns : goal.returns
 returns c =

@@ -76,13 +76,16 @@ listed : (j : Joined-g) → let e = went (record { before = j.before.before; typ
 listed j =
     let e = went (record { before = j.before.before; type_inv = record { out = j.slice_known-in-loop-at-1.given; file = j.shared_slice_known-1.given } }) in
     let l = head e in
-    elim j.if-g.branch [ then-g w ↦ (
-      line_more (fits (start l)) (rows (start l)) l.loop-at.invariant (grouped e) (on e) w.if-g.true j.if-g.list (w.list-is ∙ w.put_change.ensures),
-      line_after (group e).lost l.loop-at.line j.if-g.line w.if-g.true w.line-is,
-    ) | else-g w ↦ (
-      line_same (fits (start l)) (rows (start l)) l.loop-at.invariant (grouped e) (on e) w.if-g.false j.if-g.list w.list-is,
-      line_here (group e).lost l.loop-at.line j.if-g.line w.if-g.false w.line-is,
-    ) ]
+    elim j.if-g.branch [
+      | then-g w ↦ (
+        line_more (fits (start l)) (rows (start l)) l.loop-at.invariant (grouped e) (on e) w.if-g.true j.if-g.list (w.list-is ∙ w.put_change.ensures),
+        line_after (group e).lost l.loop-at.line j.if-g.line w.if-g.true w.line-is,
+      )
+      | else-g w ↦ (
+        line_same (fits (start l)) (rows (start l)) l.loop-at.invariant (grouped e) (on e) w.if-g.false j.if-g.list w.list-is,
+        line_here (group e).lost l.loop-at.line j.if-g.line w.if-g.false w.line-is,
+      )
+    ]
 
 pub loop-at-init : goal.loop-at-init
 loop-at-init c =

@@ -20,8 +20,11 @@ returns-then-on-s c =
     let b = a.bytes.now in
     let w = c.inverter_at-v.result in
     let e = c.inverter_at-v.ensures in
-    let h = read_roofed b a.at w e c.requires.roofed in record { given_value = night_step b a.at w e a.l a.last c.requires.guiding a.on a.s h c.if-on-s.true; vars_value = night_kept b a.at w e a.l a.last c.requires.guiding a.on a.s h c.if-on-s.true c.requested-asked.result c.requested-asked.ensures c.kept.result
-          c.kept.type_inv c.kept.ensures }
+    let h = read_roofed b a.at w e c.requires.roofed in record {
+      given_value = night_step b a.at w e a.l a.last c.requires.guiding a.on a.s h c.if-on-s.true;
+      vars_value = night_kept b a.at w e a.l a.last c.requires.guiding a.on a.s h c.if-on-s.true c.requested-asked.result c.requested-asked.ensures c.kept.result
+          c.kept.type_inv c.kept.ensures;
+    }
 
 pub light-requires : goal.light-requires
 light-requires c =

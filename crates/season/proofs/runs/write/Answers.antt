@@ -43,13 +43,17 @@ write_with-requires c =
     let e = c.units-n.ensures in
     let d = c.roofs-m.ensures in
     let l = few (goal.at.write_with-requires c).After-units-n in
-    let m = fewer (goal.at.write_with-requires c).After-roofs-m in record { counted = c.requires.counted; lengths = record {
-          rows_there = part_long _ refl l e;
-          stored_there = part_long _ refl l e;
-          requests_there = part_long _ refl l e;
-          flags_there = part_long _ refl m d;
-          vars_there = part_long _ refl (add-le-add l m) (ap₂ ◌+◌ e d);
-        }; file_in_bounds = c.requires.file_in_bounds }
+    let m = fewer (goal.at.write_with-requires c).After-roofs-m in record {
+      counted = c.requires.counted;
+      lengths = record {
+        rows_there = part_long _ refl l e;
+        stored_there = part_long _ refl l e;
+        requests_there = part_long _ refl l e;
+        flags_there = part_long _ refl m d;
+        vars_there = part_long _ refl (add-le-add l m) (ap₂ ◌+◌ e d);
+      };
+      file_in_bounds = c.requires.file_in_bounds;
+    }
 
 pub shape_of-room : goal.shape_of-room
 shape_of-room c = c.write_with.auto.room

@@ -21,11 +21,14 @@ returns-in_default c =
 
 pub step_within-requires : goal.step_within-requires
 step_within-requires c =
-    let a = c.args in record { roofed = record {
+    let a = c.args in record {
+      roofed = record {
         roof_in_is = roof_passed (roof_by a.v a.bytes.now 0 129) a.on a.w c.roof_in.result c.roof_in.ensures (ap not c.if-not-roof_in-on.false);
         warm_there = omega arith;
         efficiency_there = omega arith;
-      }; shining = sky_shining a.w c.in-Clear.s (sym c.sky_of.ensures ∙ c.in-Clear.is) }
+      };
+      shining = sky_shining a.w c.in-Clear.s (sym c.sky_of.ensures ∙ c.in-Clear.is);
+    }
 
 pub returns : goal.returns
 returns c =

@@ -54,9 +54,9 @@ vars j =
     let r = j.requires.ranged in
     elim j.if-kind-eq-IDLES.branch [
       | then-kind-eq-IDLES w ↦ w.vars-is ∙ read w32 w.vars_of-vars.result w.vars_of-vars.type_inv ∙ w.vars_of-vars.ensures ∙ (told j.before.before.before.before.before.before.before).vars_is ∙ sym (holding_vars u a.held)
-    ∙ vars_idle (unit j.before.before.before.before.before.before.before) a.seconds a.request r j.least32-p.result (held j.before.before.before.before) j.clear_of.result (clear j.before.before.before) j.kind_of-kind.result (kind j.before.before) j.if-kind-eq-OPEN.false w.if-kind-eq-IDLES.true
+          ∙ vars_idle (unit j.before.before.before.before.before.before.before) a.seconds a.request r j.least32-p.result (held j.before.before.before.before) j.clear_of.result (clear j.before.before.before) j.kind_of-kind.result (kind j.before.before) j.if-kind-eq-OPEN.false w.if-kind-eq-IDLES.true
       | else-kind-eq-IDLES w ↦ w.vars-is ∙ read w32 w.full_of-vars.result w.full_of-vars.type_inv ∙ w.full_of-vars.ensures ∙ (told j.before.before.before.before.before.before.before).full_is
-    ∙ vars_full (unit j.before.before.before.before.before.before.before) a.seconds a.request r j.least32-p.result (held j.before.before.before.before) j.clear_of.result (clear j.before.before.before) j.kind_of-kind.result (kind j.before.before) j.if-kind-eq-OPEN.false w.if-kind-eq-IDLES.false
+          ∙ vars_full (unit j.before.before.before.before.before.before.before) a.seconds a.request r j.least32-p.result (held j.before.before.before.before) j.clear_of.result (clear j.before.before.before) j.kind_of-kind.result (kind j.before.before) j.if-kind-eq-OPEN.false w.if-kind-eq-IDLES.false
     ]
 
 pub kind_of-kind-requires : goal.kind_of-kind-requires
