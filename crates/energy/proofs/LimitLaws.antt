@@ -10,8 +10,7 @@ use lib.IntN.{ℤ, pos, nat_abs}
 use lib.Signed.{mag}
 use mir.Syntax.{w32}
 use mir.Val.{to_z, of_z}
-use borrow.Author.Tests.{leb-true, le-leb, eq-eqb, ne_eqb}
-use Rattle.whole.proofs.Choice.{by_test}
+use borrow.Author.Tests.{leb-true, le-leb}
 use Rattle.whole.proofs.LargestLaws.{largest_le, largest_tops, largest_passes, largest_upto}
 use Rattle.whole.proofs.CircleLaws.{watts_most}
 use Rattle.whole.proofs.SignLaws.{read}

@@ -70,9 +70,9 @@ module _ (file : List ℕ) (st : State) (i : ℕ) (m : State) (few : Few st) whe
   took_few (end t s p is) = same 0 st.steps is
 
 -- fields one by one
-stays_few : (file : List ℕ) {st next : State} {i j : ℕ} → Went file next j st i → i ≤ length file → Few st → Few next
+stays_few : (file : List ℕ) {next : State} {j : ℕ} {st : State} {i : ℕ} → Went file next j st i → i ≤ length file → Few st → Few next
 stays_few file (there e f) h few = subst Few e few
-stays_few file {st} {next} {i} (passing m l e f w more) h few = stays_few file more w (took_few file st i m few (took file st i m h f))
+stays_few file {next} {j} {st} {i} (passing m l e f w more) h few = stays_few file more w (took_few file st i m few (took file st i m h f))
 
 -- what is kept, and after a chunk
 module _ (k : Kept) (well : WellKept k) where

@@ -1,10 +1,9 @@
 -- The law of the vars led: a value of at most one makes no more of the base than it is, and the base is S or the leg, which is at most S. Assumes nothing.
 use mathlib.Core.Path.{subst}
 use mathlib.Core.Bool.{Bool}
-use Prim.Native.Nat.{ℕ, ◌≤◌}
+use Prim.Native.Nat.{◌≤◌}
 use native.Mathlib.Nat.{le_trans}
 use lib.IntN.{nat_abs}
-use Rattle.lead.specs.declared.Lead.{Lead}
 use Rattle.lead.specs.Lead.{base_of, led_vars}
 use Rattle.lead.specs.Laws.{LeadTheorem}
 use Rattle.lead.proofs.LeadLaws.{base_le, led_most}

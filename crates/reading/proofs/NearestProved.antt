@@ -1,6 +1,6 @@
 -- The rule's number is the nearest, and even at a tie. n / d lies r d-ths past q, r below d: q is r away, the next one d - r, and every other at least d more
 -- than the one on its side; which of r and d - r is smaller is how twice r compares with d. Assumes nothing.
-use mathlib.Core.Path.{◌≡◌, refl, sym, ap, ◌∙◌, subst, subst⁻¹}
+use mathlib.Core.Path.{◌≡◌, refl, sym, ap, ◌∙◌, subst⁻¹}
 use mathlib.Core.Bool.{Bool, true, false}
 use mathlib.Core.Logic.{◌⊎◌, inl, inr}
 use Prim.Native.Nat.{ℕ, suc, ◌+◌, ◌-◌, ◌*◌, ◌/◌, ◌%◌, ◌≤◌, ◌<◌}

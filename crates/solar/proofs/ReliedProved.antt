@@ -14,7 +14,7 @@ use Rattle.curve.specs.Curve.{curve_at}
 use Rattle.solar.specs.declared.Inverter.{Inverter}
 use Rattle.solar.specs.declared.Sun.{Sun}
 use Rattle.solar.specs.declared.Given.{Given}
-use Rattle.solar.specs.Roof.{Roof, roof_in}
+use Rattle.solar.specs.Roof.{Roof}
 use Rattle.solar.specs.Weather.{sun}
 use Rattle.solar.specs.Step.{dc_of, on_after, limit_of, ac_of, limited_vars, watts_of, vars_of, given, given_by, step_of}
 use Rattle.solar.specs.Relied.{ReliedTheorem}

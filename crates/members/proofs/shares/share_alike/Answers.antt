@@ -1,4 +1,4 @@
-use Prim.Native.Nat.{ℕ, zero-le, ◌-◌}
+use Prim.Native.Nat.{ℕ, zero-le}
 use mathlib.Core.Path.{◌≡◌, ap, ◌∙◌}
 use native.Mathlib.Omega.{arith}
 use lib.IntN.{ℤ}

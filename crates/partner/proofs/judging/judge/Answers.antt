@@ -6,7 +6,7 @@ use Rattle.partner.proofs.judging.judge.Goals.{After-check-a}
 pub returns-then-a-ne0 : goal.returns-then-a-ne0
 returns-then-a-ne0 c =
     let a = c.args in
-    unjudged a.run.now c.check-a.ensures c.if-a-ne0.true a.result.now
+    unjudged a.run.now c.check-a.ensures c.if-a-ne0.true a.res.now
 
 pub judged-requires : goal.judged-requires
 judged-requires c = taken c.args.run.now c.check-a.ensures c.if-a-ne0.false
@@ -14,4 +14,4 @@ judged-requires c = taken c.args.run.now c.check-a.ensures c.if-a-ne0.false
 pub returns : goal.returns
 returns c =
     let a = c.args in
-    judged a.run.now c.check-a.ensures c.if-a-ne0.false a.result.now c.judged.ensures
+    judged a.run.now c.check-a.ensures c.if-a-ne0.false a.res.now c.judged.ensures

@@ -107,7 +107,7 @@ overflow_add-size c = omega (arith, few_units (goal.at.overflow_add-size c).Star
 pub loop-t-init : goal.loop-t-init
 loop-t-init c =
     let a = c.args in
-    sets_out a.run.now a.result.now c.requires.accepted a.t a.rows.now a.stored.now a.requests.now a.vars.now a.on.now c.requires.set_out a.room.now (size (goal.at.loop-t-init c).Start) c.requires.room_len (sized (goal.at.loop-t-init c).Start)
+    sets_out a.run.now a.res.now c.requires.accepted a.t a.rows.now a.stored.now a.requests.now a.vars.now a.on.now c.requires.set_out a.room.now (size (goal.at.loop-t-init c).Start) c.requires.room_len (sized (goal.at.loop-t-init c).Start)
 
 pub u8_at-requires : goal.u8_at-requires
 u8_at-requires c = le_trans (add-le-add (le_refl c.loop-t.at) (lit≤ tt)) (there c)
@@ -118,16 +118,9 @@ on_field-next-requires c =
     let s = start l in
     let a = s.args in
     let g = l.loop-t.invariant in
-    let f = follows l in record {
-      planted = record { ready = s.requires.set_out.planted.ready; roofs = subst⁻¹ (RoofsThere a.run.now a.t.first) g.on_long s.requires.set_out.planted.roofs; leading = s.requires.set_out.planted.leading };
-      holding = g.held;
-      step_field = f.field;
-      shining = g.shines;
-      at_bound = f.few;
-      at_in_bounds = subst (λ (n : ℕ). 0 + n * length (closed_by a.run.now l.loop-t.w.due l.loop-t.at) ≤ length l.loop-t.room)
-          (ap₂ (λ (n m : ℕ). 40 * n + 29 * m) (units_are s) (sym g.on_long))
-          f.fits;
-    }
+    let f = follows l in record { planted = record { ready = s.requires.set_out.planted.ready; roofs = subst⁻¹ (RoofsThere a.run.now a.t.first) g.on_long s.requires.set_out.planted.roofs; leading = s.requires.set_out.planted.leading }; holding = g.held; step_field = f.field; shining = g.shines; at_bound = f.few; at_in_bounds = subst (λ (n : ℕ). 0 + n * length (closed_by a.run.now l.loop-t.w.due l.loop-t.at) ≤ length l.loop-t.room)
+                  (ap₂ (λ (n m : ℕ). 40 * n + 29 * m) (units_are s) (sym g.on_long))
+                  f.fits }
 
 -- ---- behind the field: the room, what it holds, and what the code may count on
 abbrev then_room : After-on_field-next → List ℕ
@@ -185,7 +178,7 @@ overflow_mul-brought c =
     Fits-le (le_trans b.fits (le_trans (le_of_eq b.long) (few_bytes (start (head (taking o)))))) (Fits-lit tt)
 
 pub alike-d-requires : goal.alike-d-requires
-alike-d-requires c = let o = bringing (goal.at.alike-d-requires c).After-struct_known-in-loop-t-1 in record { n_in_bounds = (brought o).ranges; at_in_bounds = (head (taking o)).loop-t.invariant.near }
+alike-d-requires c = let o = bringing (goal.at.alike-d-requires c).After-struct_known-in-loop-t-2-1 in record { n_in_bounds = (brought o).fits; at_in_bounds = (head (taking o)).loop-t.invariant.near }
 
 -- ---- not all of its bytes are there
 stopped : (c : Then-d-brought)
@@ -281,7 +274,7 @@ loop-t-preserved c =
     let l = head t in
     let s = start l in
     let a = s.args in
-    goes_on (plant s) a.run.now a.result.now (size s) (length a.on.now) (sized s) (few_steps s)
+    goes_on (plant s) a.run.now a.res.now (size s) (length a.on.now) (sized s) (few_steps s)
     l.loop-t.stored l.loop-t.requests l.loop-t.vars l.loop-t.on l.loop-t.room l.loop-t.w l.loop-t.at l.loop-t.invariant
     (on_way t) o.on_field-next.result (then_room o) o.on_field-next.ensures.step_value (laid_there o)
     c.alike-d.result c.alike-d.ensures c.if-d-brought.false

@@ -9,7 +9,7 @@ use Rattle.partner.proofs.judging.steps_judged.Given as goal
 
 abbrev pub invariant-loop-t : goal.invariant-loop-t
 invariant-loop-t l =
-    Going (plant_by l.t l.rows l.run (length l.initial.on)) l.run l.result (40 * length l.initial.requests + 29 * length l.initial.on) (length l.initial.on) l.stored l.requests l.vars l.on l.room l.w l.at
+    Going (plant_by l.t l.rows l.run (length l.initial.on)) l.run l.res (40 * length l.initial.requests + 29 * length l.initial.on) (length l.initial.on) l.stored l.requests l.vars l.on l.room l.w l.at
 
 abbrev pub decreases-loop-t : goal.decreases-loop-t
 decreases-loop-t l = length l.run - l.at

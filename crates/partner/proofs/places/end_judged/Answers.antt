@@ -19,10 +19,10 @@ room_holds v = room_is (start v).args.steps (replicate 7 0) v.put_end.new.room r
 abbrev laid : After-alike → After-put_end
 laid v = (record { before = v.before.before.before.before; type_inv = record { res = v.shared_slice_known-2-1.given; run = v.shared_slice_known-1.given } })
 
-there : (v : After-alike) → let a = (start (laid v)).args in v.alike.result ≡ alike_of (take 7 (end_of a.steps)) (drop a.out a.result.now)
+there : (v : After-alike) → let a = (start (laid v)).args in v.alike.result ≡ alike_of (take 7 (end_of a.steps)) (drop a.out a.res.now)
 there v =
     let a = (start (laid v)).args in
-    room_alike a.steps ((laid v).put_end.new.room ++ []) (drop a.out a.result.now) v.alike.result (room_holds (laid v)) v.alike.ensures
+    room_alike a.steps ((laid v).put_end.new.room ++ []) (drop a.out a.res.now) v.alike.result (room_holds (laid v)) v.alike.ensures
 
 pub slice_bounds-alike-end : goal.slice_bounds-alike-end
 slice_bounds-alike-end c = room_long (start (goal.at.slice_bounds-alike-end c).After-put_end).args.steps (c.put_end.new.room ++ []) (room_holds (goal.at.slice_bounds-alike-end c).After-put_end)
@@ -30,20 +30,20 @@ slice_bounds-alike-end c = room_long (start (goal.at.slice_bounds-alike-end c).A
 pub returns-then-alike-lt-END_BYTES : goal.returns-then-alike-lt-END_BYTES
 returns-then-alike-lt-END_BYTES c =
     let a = (start (laid (goal.at.returns-then-alike-lt-END_BYTES c).After-alike)).args in
-    ◌∙◌ {b = wrong_at a.run.now a.place (length a.result.now) a.out 7} c.wrong.ensures
-    (end_wrong a.run.now a.place a.result.now a.out a.steps c.alike.result (there (goal.at.returns-then-alike-lt-END_BYTES c).After-alike) c.if-alike-lt-END_BYTES.true)
+    ◌∙◌ {b = wrong_at a.run.now a.place (length a.res.now) a.out 7} c.wrong.ensures
+    (end_wrong a.run.now a.place a.res.now a.out a.steps c.alike.result (there (goal.at.returns-then-alike-lt-END_BYTES c).After-alike) c.if-alike-lt-END_BYTES.true)
 
 pub returns-then-res-end : goal.returns-then-res-end
 returns-then-res-end c =
     let a = (start (laid (goal.at.returns-then-res-end c).After-alike)).args in
-    end_last a.run.now a.place a.result.now a.out a.steps c.alike.result (there (goal.at.returns-then-res-end c).After-alike) c.if-alike-lt-END_BYTES.false c.if-res-end.true
+    end_last a.run.now a.place a.res.now a.out a.steps c.alike.result (there (goal.at.returns-then-res-end c).After-alike) c.if-alike-lt-END_BYTES.false c.if-res-end.true
 
 pub overflow_sub-result : goal.overflow_sub-result
 overflow_sub-result c =
     let a = (start (laid (goal.at.overflow_sub-result c).After-alike)).args in
-    end_there a.run.now a.place a.result.now a.out a.steps c.alike.result (there (goal.at.overflow_sub-result c).After-alike) c.if-alike-lt-END_BYTES.false
+    end_there a.run.now a.place a.res.now a.out a.steps c.alike.result (there (goal.at.overflow_sub-result c).After-alike) c.if-alike-lt-END_BYTES.false
 
 pub returns : goal.returns
 returns c =
     let a = (start (laid (goal.at.returns c).After-alike)).args in
-    end_more a.run.now a.place a.result.now a.out a.steps c.alike.result (there (goal.at.returns c).After-alike) c.if-alike-lt-END_BYTES.false c.if-res-end.false
+    end_more a.run.now a.place a.res.now a.out a.steps c.alike.result (there (goal.at.returns c).After-alike) c.if-alike-lt-END_BYTES.false c.if-res-end.false
