@@ -11,7 +11,7 @@
 # Where a file has several wrong programs of one function, each NAME is FUNCTION.ANSWER: the answer or the goal in that
 # function's proof that must be refused, and that no other of the file breaks. The last line counts the wrong programs.
 #
-#     tools/refusals.sh                    tries each edit file, and holds it to its NAMEs: a step of the gate
+#     tools/refusals.sh [CRATE..]          tries each edit file, and holds it to its NAMEs: a step of the gate
 #     tools/refusals.sh --alone [WHICH..]  tries each wrong program by itself
 #     tools/refusals.sh --page             writes docs/EDITS.md from what --alone has seen
 #
@@ -23,7 +23,7 @@
 # `rt check` itself, on a copy of the crate with the edit made, over what `rt check` keeps of the crate as it stands and
 # over the libraries below, linked into a tree of its own outside the repository. What a check said is kept below
 # build/refusals/ with a sum of the kit and of all files that it read: what has not changed is not tried again. As many
-# crates are tried side by side as YB_TRIES says, 2 if it is not set. Without WHICH it also asks `rt must-fail`, which
+# crates are tried side by side as YB_TRIES says, 2 if it is not set. The first command also asks `rt must-fail`, which
 # knows what `rt ci` has tried, whether an edit is still proved or cannot be read.
 set -u
 cd "$(dirname "${BASH_SOURCE[0]}")/.." || exit 2
@@ -258,20 +258,20 @@ flaw() {
     fi
 }
 
-# gate: each file once, with all its wrong programs in it.
+# gate CRATE..: each file once, with all its wrong programs in it.
 gate() {
-    local edit crate log label name why said
+    local edit crate log label name why said edits=() wanted=()
     for edit in crates/*/must-fail/*.edit; do
         crate=${edit#crates/} crate=${crate%%/*}
+        asked "$crate" '' "$@" || continue
+        edits+=("$edit")
         mkdir -p "$seen/$crate"
-        [ "${last:-}" = "$crate" ] || : >"$seen/$crate/.todo"
-        last=$crate
+        case " ${wanted[*]} " in *" $crate "*) ;; *) wanted+=("$crate") && : >"$seen/$crate/.todo" ;; esac
         form "$edit"
         todo "$crate" "$seen/$crate/$(basename "$edit" .edit).log" "$edit"
     done
-    # shellcheck disable=SC2046 # one word each
-    all $(printf '%s\n' crates/*/must-fail | cut -d / -f 2)
-    for edit in crates/*/must-fail/*.edit; do
+    all "${wanted[@]}"
+    for edit in "${edits[@]}"; do
         crate=${edit#crates/} crate=${crate%%/*}
         log=$seen/$crate/$(basename "$edit" .edit).log
         while read -r label name; do
@@ -280,8 +280,8 @@ gate() {
         done <<<"$(labels "$edit")"
     done
     while read -r said; do
-        if [ -n "$said" ]; then fault "${said%%: *}" all "${said#*: }"; fi
-    done <<<"$(rt must-fail 2>&1 | sed -n 's/^rt: must-fail \(.*: \(BAD EDIT\|NOT TRIED\|NOT REFUSED\).*\)/\1/p' | cut -c 1-300)"
+        if [ -n "$said" ]; then fault "crates/${said%%: *}" all "${said#*: }"; fi
+    done <<<"$(rt must-fail "$@" 2>&1 | sed -n 's/^rt: must-fail \(.*: \(BAD EDIT\|NOT TRIED\|NOT REFUSED\).*\)/\1/p' | cut -c 1-300)"
 }
 
 # asked CRATE LABEL WHICH..: this one is to be tried.
@@ -301,7 +301,7 @@ alone() {
         crate=${edit#crates/} crate=${crate%%/*}
         while read -r label name; do
             asked "$crate" "$label" "$@" || continue
-            if [ ! -d "$seen/$crate/alone" ]; then mkdir -p "$seen/$crate/alone"; fi
+            mkdir -p "$seen/$crate/alone"
             case " ${wanted[*]} " in *" $crate "*) ;; *) wanted+=("$crate") && : >"$seen/$crate/.todo" ;; esac
             todo "$crate" "$seen/$crate/alone/$label.log" "$edit" "$label"
         done <<<"$(labels "$edit")"
@@ -365,7 +365,7 @@ page() {
 
 mkdir -p "$seen"
 case ${1:-} in
-'') gate ;;
+'' | [a-z]*) gate "$@" ;;
 --alone)
     shift
     alone "$@"
@@ -375,7 +375,7 @@ case ${1:-} in
     cp "$seen/EDITS.md" docs/EDITS.md
     ;;
 *)
-    echo 'usage: tools/refusals.sh [--alone [WHICH..] | --page]' >&2
+    echo 'usage: tools/refusals.sh [CRATE.. | --alone [WHICH..] | --page]' >&2
     exit 2
     ;;
 esac
