@@ -142,9 +142,9 @@ module _ (file : List ℕ) where
       begun_free (far st at).state (tag_at file (far st at).at) (along file g.went b).begun_next
 
   -- ---- before the steps have begun none is counted
-  none_counted : {st next : State} {i j : ℕ} → Went file next j st i → begun next ≡ false → next.steps ≡ st.steps
+  none_counted : {next : State} {j : ℕ} {st : State} {i : ℕ} → Went file next j st i → begun next ≡ false → next.steps ≡ st.steps
   none_counted (there e f) b = ap (λ (s : State). s.steps) (sym e)
-  none_counted {st} {next} {i} (passing m l e f w more) b = go (sort file st i m (omega arith) f) (none_counted more b)
+  none_counted {next} {j} {st} {i} (passing m l e f w more) b = go (sort file st i m (omega arith) f) (none_counted more b)
     where
       go : HeadTook file st i m ⊎ StepTook file st i m → next.steps ≡ m.steps → next.steps ≡ st.steps
       go (inl k) further = further ∙ k.none

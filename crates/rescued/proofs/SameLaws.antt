@@ -32,16 +32,16 @@ with_rest file i n l h =
 
 -- ---- where the fields go to the end of the bytes and the last is the end field, all is kept
 module _ (file : List ℕ) (m : State) (ended : m.stage ≡ 0) where
-  whole_kept : {st : State} {i j : ℕ} → Went file m j st i → j ≡ length file → i ≤ length file → (k : ℕ) → length file ≤ i + k
+  whole_kept : {j : ℕ} {st : State} {i : ℕ} → Went file m j st i → j ≡ length file → i ≤ length file → (k : ℕ) → length file ≤ i + k
       → save_from k st file i ≡ saved 0 (length file) m (drop i file) []
-  whole_kept {st} {i} {j} (there e f) a h k enough =
+  whole_kept {j} {st} {i} (there e f) a h k enough =
       let at : i ≡ length file = f ∙ a in
       let over : length file ≤ i = omega arith in
       let none : drop i file ≡ [] = drop_of_length-le file over in
       save_over file k st i (omega arith)
       ∙ ap₂ (λ (n : ℕ) (s : State). ends_at 0 n s) at e
       ∙ ap (λ (l : List ℕ). saved 0 (length file) m l []) (sym none)
-  whole_kept {st} {i} {j} (passing s l e f w more) a h k enough =
+  whole_kept {j} {st} {i} (passing s l e f w more) a h k enough =
       save_step file k st i false (Next s) enough l e f
       ∙ ap (kept st i (bytes_at file i)) (whole_kept more a w (length file) (omega arith))
       ∙ ap (λ (n : ℕ). cond (eqb n 8 || eqb n 11) (ends_at 0 i st) (keeping (bytes_at file i) [] (saved 0 (length file) m (drop (past file i) file) []))) ended
