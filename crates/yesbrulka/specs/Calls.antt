@@ -1,7 +1,7 @@
 -- What a C caller sees of a call (rules C1 to C33): the number that is returned, and each lent number afterwards, which is what the call gives or, on a
 -- refusal, what it held.
 use Rattle.std.specs.Prelude.{ℕ, Bool, cond, List, ◌≡◌, Float, ℤ}
-use Rattle.std.specs.Borrow.{Bor}
+use Rattle.std.specs.Borrow.{Bor, MutBor}
 use denote.Triple.Both.{Both}
 use Rattle.whole.specs.Call.{Call, number_of, held_after}
 use Rattle.unit.specs.declared.Unit.{Unit}
@@ -43,7 +43,14 @@ Lent A = Both (Bor A) (Bor A)
 abbrev pub held : {A : Type 0} → Lent A → A
 held x = x.entry.now
 
-abbrev pub left : {A : Type 0} → Lent A → A
+-- the same of what a call may write
+abbrev pub Written : Type 0 → Type 0
+Written A = Both (MutBor A) (MutBor A)
+
+abbrev pub was : {A : Type 0} → Written A → A
+was x = x.entry.now
+
+abbrev pub left : {A : Type 0} → Written A → A
 left x = x.exit.now
 
 -- the fleet that five lent lists hold
@@ -61,8 +68,8 @@ pub record PassSeen (a : PassAnswer) (number : ℕ) (need need' : ℤ) (changed 
   pub need_is : need' ≡ held_after (pass_call a) (λ (p : Passed). p.need) need
   pub changed_is : changed' ≡ held_after (pass_call a) (λ (p : Passed). flag p.changed) changed
 
-abbrev pub PassTold : PassAnswer → ℕ → Lent ℤ → Lent ℕ → Type 0
-PassTold a number need changed = PassSeen a number (held need) (left need) (held changed) (left changed)
+abbrev pub PassTold : PassAnswer → ℕ → Written ℤ → Written ℕ → Type 0
+PassTold a number need changed = PassSeen a number (was need) (left need) (was changed) (left changed)
 
 -- yb_settle and yb_study: the number, settled and passes
 pub record StudySeen (c : Call Studied) (number settled settled' passes passes' : ℕ) : Type 0 where
@@ -70,8 +77,8 @@ pub record StudySeen (c : Call Studied) (number settled settled' passes passes' 
   pub settled_is_is : settled' ≡ held_after c (λ (r : Studied). flag r.settled) settled
   pub passes_is : passes' ≡ held_after c (λ (r : Studied). r.passes) passes
 
-abbrev pub StudyTold : Call Studied → ℕ → Lent ℕ → Lent ℕ → Type 0
-StudyTold c number settled passes = StudySeen c number (held settled) (left settled) (held passes) (left passes)
+abbrev pub StudyTold : Call Studied → ℕ → Written ℕ → Written ℕ → Type 0
+StudyTold c number settled passes = StudySeen c number (was settled) (left settled) (was passes) (left passes)
 
 -- a study's settings in mode 1, its load and its budget
 abbrev pub trial_of : ℤ → ℤ → ℕ → ℕ → ℕ → Trial
@@ -106,17 +113,17 @@ pub record StepSeen (a : Stepped) (number : ℕ) (watts watts' vars vars' : ℤ)
   pub loss_is : loss' ≡ held_after (step_call a) (λ (o : Outcome). o.loss) loss
 
 -- of a unit of an edition, over so many seconds, at a request
-abbrev pub StepTold : ℕ → Unit → ℕ → ℤ → ℕ → Lent ℤ → Lent ℤ → Lent ℕ → Lent ℕ → Type 0
+abbrev pub StepTold : ℕ → Unit → ℕ → ℤ → ℕ → Written ℤ → Written ℤ → Written ℕ → Written ℕ → Type 0
 StepTold edition u seconds request number watts vars stored loss =
-    StepSeen (stepped_as edition u seconds request) number (held watts) (left watts) (held vars) (left vars) (held stored) (left stored) (held loss) (left loss)
+    StepSeen (stepped_as edition u seconds request) number (was watts) (left watts) (was vars) (left vars) (was stored) (left stored) (was loss) (left loss)
 
 -- yb_solar: the inverter's values in the call's order, the lists of its curves and the weather; the number, and what the step gives
 abbrev pub inverter_of : ℕ → ℕ → ℕ → ℕ → ℕ → ℤ → ℕ → Inverter
-inverter_of array kva cut-in cut-out limit var priority = record {
+inverter_of array kva cut_in cut_out limit var priority = record {
   array = array;
   kva = kva;
-  cut_in = cut-in;
-  cut_out = cut-out;
+  cut_in = cut_in;
+  cut_out = cut_out;
   limit = limit;
   var_request = var;
   priority = priority;
@@ -126,8 +133,8 @@ abbrev pub weather_of : Float → Float → Weather
 weather_of irradiance temperature = record { irradiance = irradiance; temperature = temperature }
 
 abbrev pub lit_lent : Inverter → Lent (List ℤ) → Lent (List ℤ) → Lent (List ℤ) → Lent (List ℤ) → ℕ → Float → Float → Lit
-lit_lent v warm-x warm-y eff-x eff-y on irradiance temperature =
-    lit_of v (lists_of (held warm-x) (held warm-y) (held eff-x) (held eff-y)) on (weather_of irradiance temperature)
+lit_lent v warm_x warm_y eff_x eff_y on irradiance temperature =
+    lit_of v (lists_of (held warm_x) (held warm_y) (held eff_x) (held eff_y)) on (weather_of irradiance temperature)
 
 pub record LitSeen (a : Lit) (number on on' : ℕ) (watts watts' vars vars' : ℤ) (dc dc' : ℕ) : Type 0 where
   pub number_is : number ≡ number_of (lit_call a)
@@ -136,9 +143,9 @@ pub record LitSeen (a : Lit) (number on on' : ℕ) (watts watts' vars vars' : �
   pub vars_is : vars' ≡ held_after (lit_call a) (λ (g : Given). g.vars) vars
   pub dc_is : dc' ≡ held_after (lit_call a) (λ (g : Given). g.dc) dc
 
-abbrev pub LitTold : Lit → ℕ → Lent ℕ → Lent ℤ → Lent ℤ → Lent ℕ → Type 0
+abbrev pub LitTold : Lit → ℕ → Written ℕ → Written ℤ → Written ℤ → Written ℕ → Type 0
 LitTold a number on watts vars dc =
-    LitSeen a number (held on) (left on) (held watts) (left watts) (held vars) (left vars) (held dc) (left dc)
+    LitSeen a number (was on) (left on) (was watts) (left watts) (was vars) (left vars) (was dc) (left dc)
 
 -- yb_settings, yb_unit and yb_connection: what a file says, as a call's answer
 abbrev pub head_said : List ℕ → Call Head

@@ -26,8 +26,8 @@ pub extern "C" fn yb_pass(
     need: &mut i64,
     changed: &mut u8,
 ) -> u32
-    ensures pass_told { PassTold (pass_answer (settings_of mode target band factor) measure (fleet_lent rated reserve stored rating weight) (held requests)) result need changed }
-    ensures requests_value { left requests ≡ pass_leaves (settings_of mode target band factor) measure (fleet_lent rated reserve stored rating weight) (held requests) }
+    ensures pass_told { PassTold (pass_answer (settings_of mode target band factor) measure (fleet_lent rated reserve stored rating weight) requests.old) result need changed }
+    ensures requests_value { requests.new ≡ pass_leaves (settings_of mode target band factor) measure (fleet_lent rated reserve stored rating weight) requests.old }
 {
     let s = Settings {
         mode,
@@ -66,8 +66,8 @@ pub extern "C" fn yb_pass_current(
     need: &mut i64,
     changed: &mut u8,
 ) -> u32
-    ensures pass_told { PassTold (current_answer (settings_of mode target band factor) measure (fleet_joined rated reserve stored rating weight phases volts) (held phases) (held volts) (held requests)) result need changed }
-    ensures requests_value { left requests ≡ current_leaves (settings_of mode target band factor) measure (fleet_joined rated reserve stored rating weight phases volts) (held phases) (held volts) (held requests) }
+    ensures pass_told { PassTold (current_answer (settings_of mode target band factor) measure (fleet_joined rated reserve stored rating weight phases volts) (held phases) (held volts) requests.old) result need changed }
+    ensures requests_value { requests.new ≡ current_leaves (settings_of mode target band factor) measure (fleet_joined rated reserve stored rating weight phases volts) (held phases) (held volts) requests.old }
 {
     let aim = Aim {
         settings: Settings {
@@ -109,8 +109,8 @@ pub extern "C" fn yb_settle(
     settled: &mut u8,
     passes: &mut u32,
 ) -> u32
-    ensures study_told { StudyTold (study_call (study_answer (trial_of load target band factor budget) (fleet_lent rated reserve stored rating weight) (held requests))) result settled passes }
-    ensures requests_value { left requests ≡ study_leaves (trial_of load target band factor budget) (fleet_lent rated reserve stored rating weight) (held requests) }
+    ensures study_told { StudyTold (study_call (study_answer (trial_of load target band factor budget) (fleet_lent rated reserve stored rating weight) requests.old)) result settled passes }
+    ensures requests_value { requests.new ≡ study_leaves (trial_of load target band factor budget) (fleet_lent rated reserve stored rating weight) requests.old }
 {
     let settings = Settings {
         mode: 1,
