@@ -1,4 +1,5 @@
 -- The tests are the definition's, and the place and the steps are those that the state tells.
+use borrow.Author.Tests.{eq-eqb}
 use mathlib.Core.Path.{sym, ap, ap₂, ◌∙◌}
 use mathlib.Core.Logic.{⊎_elim}
 use Prim.Native.Nat.{ℕ}
@@ -18,7 +19,7 @@ returns-then-number-eq10 c =
     let a = c.args in
     let s = a.state.now in
     let no = c.if-number-eq0.false in
-    ⊎_elim (λ w. sym (says_none a.number s no w.taken)) (λ w. sym (says_short a.number s no w.0.left w.1.taken)) c.then-number-eq10.branch
+    ⊎_elim (λ w. sym (says_none a.number s no w)) (λ w. sym (says_short a.number s no w.0 (eq-eqb a.number 11 w.1))) c.then-number-eq10.either
 
 pub returns : goal.returns
 returns c =
