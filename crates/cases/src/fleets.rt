@@ -6,6 +6,7 @@ use super::say;
 use controller::PassAnswer;
 use rules::Settings;
 use settling::{StudyAnswer, Trial};
+use std::io;
 
 // Most units that a case may have: one more than a call accepts.
 const MOST: usize = 65;
@@ -67,29 +68,29 @@ fn asked(v: &[u8], from: usize, requests: &mut [i32]) {
 }
 
 // The requests after a call.
-fn show(requests: &[i32]) {
-    let mut i = 0;
-    while i < requests.len() {
-        say::signed(requests[i] as i64);
-        i += 1;
+fn show(out: &impl Print, requests: &[i32]) -> io::Result<()> {
+    for request in requests {
+        say::signed(out, *request as i64)?;
     }
+    Ok(())
 }
 
 // A pass's answer.
-fn tell_pass(a: PassAnswer, requests: &[i32]) {
+fn tell_pass(out: &impl Print, a: PassAnswer, requests: &[i32]) -> io::Result<()> {
     match a {
         PassAnswer::PassDone(p) => {
-            say::refusal(0);
-            say::signed(p.need);
-            say::number(p.changed as u64);
-            show(requests);
+            say::refusal(out, 0)?;
+            say::signed(out, p.need)?;
+            say::number(out, p.changed as u64)?;
+            show(out, requests)
         }
-        PassAnswer::PassRefused(r) => say::refusal(r.number),
+        PassAnswer::PassRefused(r) => say::refusal(out, r.number),
     }
 }
 
 // A pass over a case's units, in lists of as many.
 fn pass_of(
+    out: &impl Print,
     v: &[u8],
     rated: &mut [u64],
     reserve: &mut [u64],
@@ -97,7 +98,7 @@ fn pass_of(
     rating: &mut [u32],
     weight: &mut [u16],
     requests: &mut [i32],
-)
+) -> io::Result<()>
     requires in_bounds { 20 ≤ length v.now }
     requires same_lengths { SameLengths (fleet_of rated.old reserve.old stored.old rating.old weight.old) (length rated.old) }
 {
@@ -120,18 +121,18 @@ fn pass_of(
     };
     let measure = octets::i64_at(v, 11);
     let a = controller::pass(s, measure, rated, reserve, stored, rating, weight, requests);
-    tell_pass(a, requests);
+    tell_pass(out, a, requests)
 }
 
 // P: mode, target, band, factor, measure, the number of units, and each with its request. The need,
 // whether a request changed, and the requests.
-pub fn pass(v: &[u8]) {
+pub fn pass(out: &impl Print, v: &[u8]) -> io::Result<()> {
     if v.len() < 20 {
-        return say::unknown();
+        return say::unknown(out);
     }
     let n = octets::u8_at(v, 19) as usize;
     if MOST < n {
-        return say::unknown();
+        return say::unknown(out);
     }
     let mut rated = [0u64; 65];
     let mut reserve = [0u64; 65];
@@ -140,6 +141,7 @@ pub fn pass(v: &[u8]) {
     let mut weight = [0u16; 65];
     let mut requests = [0i32; 65];
     pass_of(
+        out,
         v,
         &mut rated[..n],
         &mut reserve[..n],
@@ -147,24 +149,25 @@ pub fn pass(v: &[u8]) {
         &mut rating[..n],
         &mut weight[..n],
         &mut requests[..n],
-    );
+    )
 }
 
 // A study's answer.
-fn tell_study(a: StudyAnswer, requests: &[i32]) {
+fn tell_study(out: &impl Print, a: StudyAnswer, requests: &[i32]) -> io::Result<()> {
     match a {
         StudyAnswer::StudyDone(r) => {
-            say::refusal(0);
-            say::number(r.settled as u64);
-            say::number(r.passes as u64);
-            show(requests);
+            say::refusal(out, 0)?;
+            say::number(out, r.settled as u64)?;
+            say::number(out, r.passes as u64)?;
+            show(out, requests)
         }
-        StudyAnswer::StudyRefused(r) => say::refusal(r.number),
+        StudyAnswer::StudyRefused(r) => say::refusal(out, r.number),
     }
 }
 
 // A study of a case's units, in lists of as many.
 fn study_of(
+    out: &impl Print,
     v: &[u8],
     rated: &mut [u64],
     reserve: &mut [u64],
@@ -172,7 +175,7 @@ fn study_of(
     rating: &mut [u32],
     weight: &mut [u16],
     requests: &mut [i32],
-)
+) -> io::Result<()>
     requires in_bounds { 23 ≤ length v.now }
     requires same_lengths { SameLengths (fleet_of rated.old reserve.old stored.old rating.old weight.old) (length rated.old) }
 {
@@ -189,18 +192,18 @@ fn study_of(
         budget: octets::u32_at(v, 18),
     };
     let a = settling::settle(q, rated, reserve, stored, rating, weight, requests);
-    tell_study(a, requests);
+    tell_study(out, a, requests)
 }
 
 // T: load, target, band, factor, budget, the number of units, and each. Whether it settled, the
 // passes that changed a request, and the requests.
-pub fn study(v: &[u8]) {
+pub fn study(out: &impl Print, v: &[u8]) -> io::Result<()> {
     if v.len() < 23 {
-        return say::unknown();
+        return say::unknown(out);
     }
     let n = octets::u8_at(v, 22) as usize;
     if MOST < n {
-        return say::unknown();
+        return say::unknown(out);
     }
     let mut rated = [0u64; 65];
     let mut reserve = [0u64; 65];
@@ -209,6 +212,7 @@ pub fn study(v: &[u8]) {
     let mut weight = [0u16; 65];
     let mut requests = [0i32; 65];
     study_of(
+        out,
         v,
         &mut rated[..n],
         &mut reserve[..n],
@@ -216,5 +220,5 @@ pub fn study(v: &[u8]) {
         &mut rating[..n],
         &mut weight[..n],
         &mut requests[..n],
-    );
+    )
 }

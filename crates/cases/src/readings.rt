@@ -1,24 +1,25 @@
 use super::say;
 use reading::{Measure, Phases, Watts};
+use std::io;
 
 // W: a kW double. The watts.
-pub fn watts(v: &[u8]) {
+pub fn watts(out: &impl Print, v: &[u8]) -> io::Result<()> {
     if v.len() != 8 {
-        return say::unknown();
+        return say::unknown(out);
     }
     match reading::converted(octets::f64_at(v, 0)) {
         Watts::Whole(w) => {
-            say::refusal(0);
-            say::signed(w as i64);
+            say::refusal(out, 0)?;
+            say::signed(out, w as i64)
         }
-        Watts::Refused => say::refusal(6),
+        Watts::Refused => say::refusal(out, 6),
     }
 }
 
 // M: a phase choice and three kW doubles. The measure.
-pub fn measure(v: &[u8]) {
+pub fn measure(out: &impl Print, v: &[u8]) -> io::Result<()> {
     if v.len() != 25 {
-        return say::unknown();
+        return say::unknown(out);
     }
     let phase = octets::u8_at(v, 0);
     let p = Phases {
@@ -28,18 +29,18 @@ pub fn measure(v: &[u8]) {
     };
     match reading::regulated(p, phase) {
         Measure::Chosen(m) => {
-            say::refusal(0);
-            say::signed(m);
+            say::refusal(out, 0)?;
+            say::signed(out, m)
         }
-        Measure::RefusedBy(r) => say::refusal(r.number),
+        Measure::RefusedBy(r) => say::refusal(out, r.number),
     }
 }
 
 // K: watts. The bits of the kW double.
-pub fn kilowatts(v: &[u8]) {
+pub fn kilowatts(out: &impl Print, v: &[u8]) -> io::Result<()> {
     if v.len() != 4 {
-        return say::unknown();
+        return say::unknown(out);
     }
-    say::refusal(0);
-    say::number(reading::kw_bits(octets::i32_at(v, 0)));
+    say::refusal(out, 0)?;
+    say::number(out, reading::kw_bits(octets::i32_at(v, 0)))
 }

@@ -1,41 +1,37 @@
-use libc::STDOUT_FILENO;
+use std::io;
 
 // The number of the refusal, which begins each answer.
-pub fn refusal(n: u8) {
-    io::print_decimal(STDOUT_FILENO, n as u64);
+pub fn refusal(out: &impl Print, n: u8) -> io::Result<()> {
+    print!(out; "{n}")
 }
 
 // A result that is not negative.
-pub fn number(n: u64) {
-    io::write_all(STDOUT_FILENO, b" ");
-    io::print_decimal(STDOUT_FILENO, n);
+pub fn number(out: &impl Print, n: u64) -> io::Result<()> {
+    print!(out; " {n}")
 }
 
 // A signed result.
-pub fn signed(z: i64) {
-    io::write_all(STDOUT_FILENO, b" ");
-    if whole::below_zero64(z) {
-        io::write_all(STDOUT_FILENO, b"-");
-    }
-    io::print_decimal(STDOUT_FILENO, whole::size64(z));
+pub fn signed(out: &impl Print, z: i64) -> io::Result<()> {
+    print!(out; " {z}")
 }
 
 // The first bytes of a room, in hexadecimal, two digits each.
-pub fn bytes(room: &[u8], count: u64) {
-    io::write_all(STDOUT_FILENO, b" ");
+pub fn bytes(out: &impl Print, room: &[u8], count: u64) -> io::Result<()> {
+    out.write_all(b" ")?;
     let mut i = 0;
     while i < room.len() && (i as u64) < count {
         let byte = room[i];
-        io::print_hex(STDOUT_FILENO, byte as u64, 2);
+        print!(out; "{byte:02x}")?;
         i += 1;
     }
+    Ok(())
 }
 
 // A case that is none of this program's.
-pub fn unknown() {
-    io::write_all(STDOUT_FILENO, b"?");
+pub fn unknown(out: &impl Print) -> io::Result<()> {
+    out.write_all(b"?")
 }
 
-pub fn line_end() {
-    io::write_all(STDOUT_FILENO, b"\n");
+pub fn line_end(out: &impl Print) -> io::Result<()> {
+    out.write_all(b"\n")
 }

@@ -1,12 +1,13 @@
 use super::say;
+use std::io;
 use storage::Stepped;
 use unit::Unit;
 
 // S: seconds, a unit's twelve values in the file's order, and the request. Watts, vars, the store
 // after the step and the loss.
-pub fn step(v: &[u8]) {
+pub fn step(out: &impl Print, v: &[u8]) -> io::Result<()> {
     if v.len() != 57 {
-        return say::unknown();
+        return say::unknown(out);
     }
     let u = Unit {
         rated: octets::u64_at(v, 4),
@@ -26,21 +27,24 @@ pub fn step(v: &[u8]) {
         grid_loss: 0,
         link: 0,
     };
-    tell(storage::step(u, octets::u32_at(v, 0), octets::i32_at(v, 53)));
+    tell(
+        out,
+        storage::step(u, octets::u32_at(v, 0), octets::i32_at(v, 53)),
+    )
 }
 
 // A step's answer.
-fn tell(a: Stepped) {
+fn tell(out: &impl Print, a: Stepped) -> io::Result<()> {
     match a {
         Stepped::Done(o) => {
             let watts = o.watts;
             let vars = o.vars;
-            say::refusal(0);
-            say::signed(watts as i64);
-            say::signed(vars as i64);
-            say::number(o.stored);
-            say::number(o.loss);
+            say::refusal(out, 0)?;
+            say::signed(out, watts as i64)?;
+            say::signed(out, vars as i64)?;
+            say::number(out, o.stored)?;
+            say::number(out, o.loss)
         }
-        Stepped::RefusedBy(r) => say::refusal(r.number),
+        Stepped::RefusedBy(r) => say::refusal(out, r.number),
     }
 }

@@ -1,28 +1,32 @@
 use super::say;
+use std::io;
 
 // L: a radius and a side. The leg.
-pub fn leg(v: &[u8]) {
+pub fn leg(out: &impl Print, v: &[u8]) -> io::Result<()> {
     if v.len() != 8 {
-        return say::unknown();
+        return say::unknown(out);
     }
-    say::refusal(0);
-    say::number(whole::leg(octets::u32_at(v, 0), octets::u32_at(v, 4)) as u64);
+    say::refusal(out, 0)?;
+    say::number(
+        out,
+        whole::leg(octets::u32_at(v, 0), octets::u32_at(v, 4)) as u64,
+    )
 }
 
 // U: two numbers. Their quotient rounded up.
-pub fn up(v: &[u8]) {
+pub fn up(out: &impl Print, v: &[u8]) -> io::Result<()> {
     if v.len() != 16 {
-        return say::unknown();
+        return say::unknown(out);
     }
-    say::refusal(0);
-    say::number(whole::ceil(octets::u64_at(v, 0), octets::u64_at(v, 8)));
+    say::refusal(out, 0)?;
+    say::number(out, whole::ceil(octets::u64_at(v, 0), octets::u64_at(v, 8)))
 }
 
 // Z: a signed number and a divisor. The quotient cut toward zero.
-pub fn cut(v: &[u8]) {
+pub fn cut(out: &impl Print, v: &[u8]) -> io::Result<()> {
     if v.len() != 16 {
-        return say::unknown();
+        return say::unknown(out);
     }
-    say::refusal(0);
-    say::signed(whole::cut(octets::i64_at(v, 0), octets::u64_at(v, 8)));
+    say::refusal(out, 0)?;
+    say::signed(out, whole::cut(octets::i64_at(v, 0), octets::u64_at(v, 8)))
 }

@@ -1,6 +1,8 @@
 // Bytes as the import tool shows them: two upper-case hex digits each, at most 16 to a line.
 ghost use Rattle.std.specs.Prelude.{◌≡◌, ◌≤◌, min, length};
 
+use std::io;
+
 // The hex digit of a number's last four bits.
 fn digit(number: u8) -> u8 {
     let n = number % 16;
@@ -11,20 +13,18 @@ fn digit(number: u8) -> u8 {
 }
 
 // A line of them.
-fn hex_line(fd: i32, bytes: &[u8])
+fn hex_line(out: &impl Print, bytes: &[u8]) -> io::Result<()>
     requires { length bytes.now ≤ 16 }
 {
     let n = bytes.len();
     let mut line = [b' '; 55];
-    let mut i = 0;
-    while i < n {
+    for i in 0..n {
         let byte = bytes[i];
         line[8 + 3 * i] = digit(byte / 16);
         line[9 + 3 * i] = digit(byte);
-        i += 1;
     }
-    io::write_all(fd, &line[..7 + 3 * n]);
-    io::write_all(fd, b"\n");
+    out.write_all(&line[..7 + 3 * n])?;
+    out.write_all(b"\n")
 }
 
 // How many of so many bytes one line takes.
@@ -35,29 +35,28 @@ fn on_line(left: usize) -> usize
 }
 
 // Any bytes, indented.
-pub fn hex(fd: i32, bytes: &[u8]) {
+pub fn hex(out: &impl Print, bytes: &[u8]) -> io::Result<()> {
     let mut at = 0;
     while at < bytes.len() {
         let n = on_line(bytes.len() - at);
-        hex_line(fd, &bytes[at..at + n]);
+        hex_line(out, &bytes[at..at + n])?;
         at += n;
     }
+    Ok(())
 }
 
 // The value bytes of a field, as many as are there.
-pub fn value(fd: i32, bytes: &[u8]) {
+pub fn value(out: &impl Print, bytes: &[u8]) -> io::Result<()> {
     let n = bytes.len();
     match n {
-        0 => io::write_all(fd, b"    value: no bytes there\n"),
-        1 => io::write_all(fd, b"    value, 1 byte there:\n"),
-        _ => many(fd, n as u64),
-    };
-    hex(fd, bytes);
+        0 => println!(out; "    value: no bytes there")?,
+        1 => println!(out; "    value, 1 byte there:")?,
+        _ => many(out, n as u64)?,
+    }
+    hex(out, bytes)
 }
 
 // How many they are, where they are several.
-fn many(fd: i32, n: u64) -> bool {
-    io::write_all(fd, b"    value, ");
-    io::print_decimal(fd, n);
-    io::write_all(fd, b" bytes there:\n")
+fn many(out: &impl Print, n: u64) -> io::Result<()> {
+    println!(out; "    value, {n} bytes there:")
 }

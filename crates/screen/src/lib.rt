@@ -1,59 +1,49 @@
 // What the programs read, and what they say of the run file on standard input: the line that the
 // import tool prints of a file, that it cannot be read, and that it is longer than a program holds.
+// Each line goes to the stream that it is given; where that takes no more, the error is the answer.
 
 #![tactic(auto)]
 
+mod call;
 mod dump;
 mod input;
 mod words;
 
+pub use call::{is_given, word};
 pub use dump::{hex, value};
 pub use input::{Filled, fill, read_whole};
+use std::io;
 use stick::{Answer, Known};
 
 // A whole refusal, behind a file's name: its number, its words, its place and its steps.
-pub fn refusal(fd: i32, a: Answer) {
+pub fn refusal(out: &impl Print, a: Answer) -> io::Result<()> {
     let number = a.number;
-    io::write_all(fd, b": refused ");
-    io::print_decimal(fd, number as u64);
-    io::write_all(fd, b" (");
-    words::name(fd, number);
-    io::write_all(fd, b") at byte ");
-    io::print_decimal(fd, a.place);
-    io::write_all(fd, b" after ");
-    io::print_decimal(fd, a.steps as u64);
-    io::write_all(fd, b" steps\n");
+    let name = words::name(number);
+    let place = a.place;
+    let steps = a.steps as u64;
+    println!(out; ": refused {number} ({name}) at byte {place} after {steps} steps")
 }
 
 // What is known of the run file, as a line; a program says nothing else of it.
-pub fn line(fd: i32, k: Known) {
-    io::write_all(fd, b"standard input");
+pub fn line(out: &impl Print, k: Known) -> io::Result<()> {
+    out.write_all(b"standard input")?;
     match k {
-        Known::Complete(n) => {
-            io::write_all(fd, b": complete, ");
-            io::print_decimal(fd, n as u64);
-            io::write_all(fd, b" steps\n");
-        }
-        Known::Refused(a) => refusal(fd, a),
-        Known::NotKnown => {
-            io::write_all(fd, b": not read to its end\n");
-        }
+        Known::Complete(n) => println!(out; ": complete, {n} steps"),
+        Known::Refused(a) => refusal(out, a),
+        Known::NotKnown => println!(out; ": not read to its end"),
     }
 }
 
 // A read failed, so that nothing is known of the run file.
-pub fn unreadable(fd: i32) {
-    io::write_all(fd, b"standard input: cannot be read\n");
+pub fn unreadable(out: &impl Print) -> io::Result<()> {
+    println!(out; "standard input: cannot be read")
 }
 
 // The input is longer than the buffer: what was not done, and which command does it.
-pub fn too_long(fd: i32, not_done: &[u8], command: &[u8]) {
-    io::write_all(fd, b"standard input: not ");
-    io::write_all(fd, not_done);
-    io::write_all(
-        fd,
-        b": longer than the 65536 bytes that this program holds; use import ",
-    );
-    io::write_all(fd, command);
-    io::write_all(fd, b"\n");
+pub fn too_long(out: &impl Print, not_done: &[u8], command: &[u8]) -> io::Result<()> {
+    out.write_all(b"standard input: not ")?;
+    out.write_all(not_done)?;
+    out.write_all(b": longer than the 65536 bytes that this program holds; use import ")?;
+    out.write_all(command)?;
+    out.write_all(b"\n")
 }

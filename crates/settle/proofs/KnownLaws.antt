@@ -7,7 +7,6 @@ use native.Mathlib.Omega.{arith}
 use lib.Dec.{eqb}
 use borrow.Author.Tests.{eqb-true}
 use Rattle.stick.specs.declared.Answer.{Answer}
-use Rattle.stick.specs.declared.Known.{Known}
 use Rattle.stick.specs.declared.Known.TheVariants.{Complete, Refused}
 use Rattle.stick.specs.Check.{check_of, Accepted}
 use Rattle.stick.specs.Known.{known_by}

@@ -1,6 +1,6 @@
 ghost use Rattle.std.specs.Prelude.{◌≤◌};
 
-use libc::STDERR_FILENO;
+use std::io;
 
 // A word of the call: the number that it is, or that it is none.
 #[derive(Clone, Copy)]
@@ -41,9 +41,8 @@ fn with_digit(n: u32, digit: u8) -> u32
 }
 
 // How the program is called.
-pub fn usage() {
-    io::write_all(
-        STDERR_FILENO,
+pub fn usage(err: &impl Print) -> io::Result<()> {
+    err.write_all(
         b"usage: settle LOAD [BUDGET] <FILE\n    LOAD is in watts, such as 150000; BUDGET is the most passes, such as 100.\n",
-    );
+    )
 }

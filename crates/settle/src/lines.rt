@@ -2,181 +2,189 @@ ghost use Rattle.stick.specs.Check.{Accepted};
 
 use super::sums;
 use super::sums::Left;
-use libc::{STDERR_FILENO, STDOUT_FILENO};
 use settling::Studied;
+use std::io;
 
-// A text on standard output.
-fn text(s: &[u8]) {
-    io::write_all(STDOUT_FILENO, s);
+// A text.
+fn text(out: &impl Print, s: &[u8]) -> io::Result<()> {
+    out.write_all(s)
 }
 
 // A number.
-fn number(n: u64) {
-    io::print_decimal(STDOUT_FILENO, n);
+fn number(out: &impl Print, n: u64) -> io::Result<()> {
+    print!(out; "{n}")
 }
 
 // A signed number.
-fn signed(z: i64) {
-    if whole::below_zero64(z) {
-        text(b"-");
-    }
-    number(whole::size64(z));
+fn signed(out: &impl Print, z: i64) -> io::Result<()> {
+    print!(out; "{z}")
 }
 
 // The word behind a number of passes.
-fn passes_word(n: u32) {
-    if n == 1 {
-        text(b" pass");
-    } else {
-        text(b" passes");
-    }
+fn passes_word(n: u32) -> &'static str {
+    if n == 1 { "pass" } else { "passes" }
 }
 
 // Whether the study settled, and after how many passes.
-pub fn outcome(r: Studied, budget: u32) {
+pub fn outcome(out: &impl Print, r: Studied, budget: u32) -> io::Result<()> {
     let passes = r.passes;
     if r.settled {
-        text(b"standard input: settled after ");
-        number(passes as u64);
-        text(b" changing");
-        passes_word(passes);
-        text(b"\n");
+        let word = passes_word(passes);
+        println!(out; "standard input: settled after {passes} changing {word}")
     } else {
-        text(b"standard input: not settled within ");
-        number(budget as u64);
-        passes_word(budget);
-        text(b", ");
-        number(passes as u64);
-        text(b" changed a request\n");
+        let word = passes_word(budget);
+        println!(out;
+            "standard input: not settled within {budget} {word}, {passes} changed a request"
+        )
     }
 }
 
 // What a mode is called, in brackets; nothing for a number that is no mode.
-fn mode_name(mode: u8) {
+fn mode_name(mode: u8) -> &'static str {
     match mode {
-        2 => text(b" (Support)"),
-        3 => text(b" (PeakShaveLow)"),
-        4 => text(b" (I-PeakShave)"),
-        5 => text(b" (I-PeakShaveLow)"),
-        _ => text(b""),
+        2 => " (Support)",
+        3 => " (PeakShaveLow)",
+        4 => " (I-PeakShave)",
+        5 => " (I-PeakShaveLow)",
+        _ => "",
     }
 }
 
 // A study has a mode of its own, and says so of a file that has another.
-pub fn mode(mode: u8) {
+pub fn mode(out: &impl Print, mode: u8) -> io::Result<()> {
     if mode == 1 {
-        return;
+        return Ok(());
     }
-    text(b"a study is in mode 1 (PeakShave) and by watts; the stick's mode is ");
-    number(mode as u64);
-    mode_name(mode);
+    let name = mode_name(mode);
+    print!(out; "a study is in mode 1 (PeakShave) and by watts; the stick's mode is {mode}{name}")?;
     if 4 <= mode {
-        text(b", and its target and band, which are in mA, are taken as W");
+        text(
+            out,
+            b", and its target and band, which are in mA, are taken as W",
+        )?;
     }
-    text(b"\n");
+    text(out, b"\n")
 }
 
 // A unit's line.
-fn unit(i: usize, request: i32, rating: u32) {
-    number(i as u64);
-    text(b"\t");
-    signed(sums::wide(request));
-    text(b"\t");
-    number(rating as u64);
-    text(b"\n");
+fn unit(out: &impl Print, i: usize, request: i32, rating: u32) -> io::Result<()> {
+    number(out, i as u64)?;
+    text(out, b"\t")?;
+    signed(out, sums::wide(request))?;
+    text(out, b"\t")?;
+    number(out, rating as u64)?;
+    text(out, b"\n")
 }
 
 // A line for each unit of an accepted file.
-pub fn units(file: &[u8], requests: &[i32])
+pub fn units(out: &impl Print, file: &[u8], requests: &[i32]) -> io::Result<()>
     requires { Accepted file.now }
 {
-    text(b"units are counted from 0: unit 0 is the 1st unit\nunit\trequest W\trating W\n");
+    text(
+        out,
+        b"units are counted from 0: unit 0 is the 1st unit\nunit\trequest W\trating W\n",
+    )?;
     let n = stick::units(file);
     let mut i = 0;
     while i < requests.len() && i < n {
-        unit(i, requests[i], stick::unit(file, i).rating);
+        unit(out, i, requests[i], stick::unit(file, i).rating)?;
         i += 1;
     }
+    Ok(())
 }
 
 // What is left of the load, and how it lies to the target.
-pub fn left(l: Left, target: i32, band: u32) {
-    text(b"sum of requests ");
-    signed(l.sum);
-    text(b" W, reading left ");
-    signed(l.reading);
-    text(b" W: ");
+pub fn left(out: &impl Print, l: Left, target: i32, band: u32) -> io::Result<()> {
+    text(out, b"sum of requests ")?;
+    signed(out, l.sum)?;
+    text(out, b" W, reading left ")?;
+    signed(out, l.reading)?;
+    text(out, b" W: ")?;
     if !l.within {
-        text(b"not ");
+        text(out, b"not ")?;
     }
-    text(b"within half the band (");
-    number(band as u64);
-    text(b" W) of the target (");
-    signed(sums::wide(target));
-    text(b" W)\n");
+    text(out, b"within half the band (")?;
+    number(out, band as u64)?;
+    text(out, b" W) of the target (")?;
+    signed(out, sums::wide(target))?;
+    text(out, b" W)\n")
 }
 
 // How many passes can still change a request at most, and why: each takes a watt at least off both.
-fn most(passes: u64, gap: u64, room: u64) {
-    text(b" W: at most ");
-    number(passes);
+fn most(out: &impl Print, passes: u64, gap: u64, room: u64) -> io::Result<()> {
+    text(out, b" W: at most ")?;
+    number(out, passes)?;
     if passes == 1 {
-        text(b" further pass changes a request (");
+        text(out, b" further pass changes a request (")?;
     } else {
-        text(b" further passes change a request (");
+        text(out, b" further passes change a request (")?;
     }
-    number(gap);
-    text(b" W to the target, ");
-    number(room);
-    text(b" W left to the ratings of units above reserve)\n");
+    number(out, gap)?;
+    text(out, b" W to the target, ")?;
+    number(out, room)?;
+    text(out, b" W left to the ratings of units above reserve)\n")
 }
 
 // How far a study that its budget stopped is from done. Its reading is never below the target, so
 // that the gap is above it.
-pub fn rest(l: Left, room: u64) {
+pub fn rest(out: &impl Print, l: Left, room: u64) -> io::Result<()> {
     let gap = l.gap;
     let passes = whole::least64(gap, room);
-    text(b"gap left ");
-    number(gap);
+    text(out, b"gap left ")?;
+    number(out, gap)?;
     if l.within {
-        text(b" W, within half the band: no further pass changes a request\n");
+        text(
+            out,
+            b" W, within half the band: no further pass changes a request\n",
+        )
     } else if passes == 0 {
         text(
+            out,
             b" W: no further pass changes a request (every unit above reserve is at its rating)\n",
-        );
+        )
     } else {
-        most(passes, gap, room);
+        most(out, passes, gap, room)
     }
 }
 
 // A word of the call that is outside its range.
-fn outside(name: &[u8], word: &[u8], range: &[u8]) {
-    text(name);
-    text(word);
-    text(b": refused 5 (value out of range)\n");
-    text(range);
+fn outside(out: &impl Print, name: &[u8], word: &[u8], range: &[u8]) -> io::Result<()> {
+    text(out, name)?;
+    text(out, word)?;
+    text(out, b": refused 5 (value out of range)\n")?;
+    text(out, range)
 }
 
 // The study refused the load or the budget, and no other value: those of the file are in their
 // ranges.
-pub fn refused(load_word: &[u8], load: u32, budget_word: &[u8], budget: u32) {
+pub fn refused(
+    out: &impl Print,
+    err: &impl Print,
+    load_word: &[u8],
+    load: u32,
+    budget_word: &[u8],
+    budget: u32,
+) -> io::Result<()> {
     if 100000000 < load {
-        outside(b"LOAD ", load_word, b"    A load is 0 to 100,000,000 W.\n");
+        outside(
+            out,
+            b"LOAD ",
+            load_word,
+            b"    A load is 0 to 100,000,000 W.\n",
+        )?;
     }
     if budget < 1 || 10000 < budget {
         outside(
+            out,
             b"BUDGET ",
             budget_word,
             b"    A budget is 1 to 10,000 passes.\n",
-        );
+        )?;
     }
-    io::write_all(
-        STDERR_FILENO,
-        b"standard input: no study; call again with another ",
-    );
+    text(err, b"standard input: no study; call again with another ")?;
     if 100000000 < load {
-        io::write_all(STDERR_FILENO, b"LOAD\n");
+        text(err, b"LOAD\n")
     } else {
-        io::write_all(STDERR_FILENO, b"BUDGET\n");
+        text(err, b"BUDGET\n")
     }
 }

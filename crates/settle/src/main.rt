@@ -9,61 +9,82 @@ mod study;
 mod sums;
 
 use arguments::Given;
-use libc::{STDERR_FILENO, STDIN_FILENO, STDOUT_FILENO};
+use std::io;
 use stick::Known;
 
 // The study of what was read, all of it: false where the load or the budget is outside its range.
-fn studied(file: &[u8], load: u32, budget: u32) -> bool {
+fn studied(
+    out: &impl Print,
+    err: &impl Print,
+    file: &[u8],
+    load: u32,
+    budget: u32,
+) -> io::Result<bool> {
     let k = stick::known_whole(file);
     let Known::Complete(_) = k else {
-        screen::line(STDOUT_FILENO, k);
-        io::write_all(
-            STDERR_FILENO,
-            b"standard input: refused; no study is made\n",
-        );
-        return true;
+        screen::line(out, k)?;
+        println!(err; "standard input: refused; no study is made")?;
+        return Ok(true);
     };
-    study::made(file, load, budget)
+    study::made(out, file, load, budget)
 }
 
 // Reads standard input and studies it: false as above.
-fn read(load: u32, budget: u32) -> bool {
-    let mut room = io::large_buffer();
-    let f = screen::read_whole(STDIN_FILENO, &mut room);
+fn read(
+    input: &mut impl io::Read,
+    out: &impl Print,
+    err: &impl Print,
+    load: u32,
+    budget: u32,
+) -> io::Result<bool> {
+    let mut room = [0u8; 65536];
+    let f = screen::read_whole(input, &mut room);
     let n = f.count;
-    if f.failed {
-        screen::unreadable(STDERR_FILENO);
-        return true;
+    if f.failed.is_some() {
+        screen::unreadable(err)?;
+        return Ok(true);
     }
     if !f.ended {
-        screen::too_long(STDERR_FILENO, b"studied", b"settle");
-        return true;
+        screen::too_long(err, b"studied", b"settle")?;
+        return Ok(true);
     }
-    studied(&room[..n], load, budget)
+    studied(out, err, &room[..n], load, budget)
 }
 
 // The study for the words of the call.
-fn call(load_word: &[u8], budget_word: &[u8]) {
+fn call(
+    input: &mut impl io::Read,
+    out: &impl Print,
+    err: &impl Print,
+    load_word: &[u8],
+    budget_word: &[u8],
+) -> io::Result<()> {
     let Given::Number(load) = arguments::number(load_word) else {
-        return arguments::usage();
+        return arguments::usage(err);
     };
     let Given::Number(budget) = arguments::number(budget_word) else {
-        return arguments::usage();
+        return arguments::usage(err);
     };
-    if !read(load, budget) {
-        lines::refused(load_word, load, budget_word, budget);
+    if read(input, out, err, load, budget)? {
+        Ok(())
+    } else {
+        lines::refused(out, err, load_word, load, budget_word, budget)
     }
 }
 
-fn main() {
+// A word that is missing or longer than 32 bytes is read as an empty one, which is no number.
+fn main(rt: HostRuntime) -> io::Result<()> {
+    let mut input = rt.stdin();
+    let err = rt.stderr();
     let mut load = [0u8; 32];
     let mut budget = [0u8; 32];
-    let n = os::arg(1, &mut load);
-    let m = os::arg(2, &mut budget);
-    let count = os::arg_count();
-    match count {
-        2 => call(&load[..n], b"10000"),
-        3 => call(&load[..n], &budget[..m]),
-        _ => arguments::usage(),
+    let n = screen::word(&rt, 1, &mut load).unwrap_or(0);
+    let m = screen::word(&rt, 2, &mut budget).unwrap_or(0);
+    if !screen::is_given(&rt, 1) || screen::is_given(&rt, 3) {
+        arguments::usage(&err)
+    } else if screen::is_given(&rt, 2) {
+        call(&mut input, &rt, &err, &load[..n], &budget[..m])
+    } else {
+        call(&mut input, &rt, &err, &load[..n], b"10000")
     }
 }

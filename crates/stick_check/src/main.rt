@@ -3,28 +3,28 @@
 
 #![tactic(auto)]
 
-use libc::{STDIN_FILENO, STDOUT_FILENO};
+use std::io;
 use stick::Known;
 
 // The check of what was read, all of it.
-fn checked(file: &[u8]) {
+fn checked(out: &impl Print, file: &[u8]) -> io::Result<()> {
     let k = stick::known_whole(file);
-    screen::line(STDOUT_FILENO, k);
+    screen::line(out, k)?;
     let Known::Refused(a) = k else {
-        return;
+        return Ok(());
     };
-    screen::value(STDOUT_FILENO, parts::value_at(file, a.place));
+    screen::value(out, parts::value_at(file, a.place))
 }
 
-fn main() {
-    let mut room = io::large_buffer();
-    let f = screen::read_whole(STDIN_FILENO, &mut room);
+fn main(rt: HostRuntime) -> io::Result<()> {
+    let mut room = [0u8; 65536];
+    let f = screen::read_whole(&mut rt.stdin(), &mut room);
     let n = f.count;
-    if f.failed {
-        screen::unreadable(STDOUT_FILENO);
+    if f.failed.is_some() {
+        screen::unreadable(&rt)
     } else if !f.ended {
-        screen::too_long(STDOUT_FILENO, b"checked", b"check");
+        screen::too_long(&rt, b"checked", b"check")
     } else {
-        checked(&room[..n]);
+        checked(&rt, &room[..n])
     }
 }

@@ -6,61 +6,81 @@
 mod files;
 mod lines;
 
-use libc::STDOUT_FILENO;
 use partner::{PartnerAnswer, Verdict};
+use std::io;
+use std::rt::Files;
 
 // A verdict's line, and behind one of a wrong result the bytes that show it.
-fn told(run_name: &[u8], result_name: &[u8], v: Verdict, shown: &[u8]) {
+fn told(
+    out: &impl Print,
+    run_name: &[u8],
+    result_name: &[u8],
+    v: Verdict,
+    shown: &[u8],
+) -> io::Result<()> {
     let number = v.number;
     match number {
-        0 => lines::right(run_name, result_name),
-        1 => lines::wrong(run_name, result_name, v.start),
-        _ => lines::short(run_name, result_name, v.start),
+        0 => lines::right(out, run_name, result_name)?,
+        1 => lines::wrong(out, run_name, result_name, v.start)?,
+        _ => lines::short(out, run_name, result_name, v.start)?,
     }
-    screen::hex(STDOUT_FILENO, shown);
+    screen::hex(out, shown)
 }
 
 // The verdict on what was read, all of it.
-fn judged<'a>(run_name: &[u8], run: &'a [u8], result_name: &[u8], res: &'a [u8]) {
+fn judged<'a>(
+    out: &impl Print,
+    err: &impl Print,
+    run_name: &[u8],
+    run: &'a [u8],
+    result_name: &[u8],
+    res: &'a [u8],
+) -> io::Result<()> {
     match partner::judge(run, res) {
-        PartnerAnswer::Judged(v) => told(run_name, result_name, v, partner::shown(run, res)),
+        PartnerAnswer::Judged(v) => {
+            told(out, run_name, result_name, v, partner::shown(run, res))
+        }
         PartnerAnswer::Unjudged(a) => {
-            lines::refused(run_name, a);
-            lines::no_verdict(result_name);
+            lines::refused(out, run_name, a)?;
+            lines::no_verdict(err, result_name)
         }
     }
 }
 
 // Reads both files and judges the second.
-fn call(run_name: &[u8], result_name: &[u8]) {
-    let mut run = io::large_buffer();
-    let mut result = io::large_buffer();
-    let a = files::read(run_name, &mut run);
+fn call(
+    rt: &(impl Files + Print + AllocGlobal),
+    err: &impl Print,
+    run_name: &[u8],
+    result_name: &[u8],
+) -> io::Result<()> {
+    let mut run = [0u8; 65536];
+    let mut result = [0u8; 65536];
+    let a = files::read(rt, err, run_name, &mut run)?;
     if !a.ended {
-        return lines::no_verdict(result_name);
+        return lines::no_verdict(err, result_name);
     }
-    let b = files::read(result_name, &mut result);
+    let b = files::read(rt, err, result_name, &mut result)?;
     if !b.ended {
-        return lines::no_verdict(result_name);
+        return lines::no_verdict(err, result_name);
     }
     let n = a.count;
     let m = b.count;
-    judged(run_name, &run[..n], result_name, &result[..m]);
+    judged(rt, err, run_name, &run[..n], result_name, &result[..m])
 }
 
-fn main() {
-    if os::arg_count() != 3 {
-        return lines::usage();
+fn main(rt: HostRuntime) -> io::Result<()> {
+    let err = rt.stderr();
+    if !screen::is_given(&rt, 2) || screen::is_given(&rt, 3) {
+        return lines::usage(&err);
     }
-    let mut run_name = io::buffer();
-    let n = os::arg(1, &mut run_name);
-    if os::errno() != 0 {
-        return os::fail(b"RUN: cannot be read");
-    }
-    let mut result_name = io::buffer();
-    let m = os::arg(2, &mut result_name);
-    if os::errno() != 0 {
-        return os::fail(b"RESULT: cannot be read");
-    }
-    call(&run_name[..n], &result_name[..m]);
+    let mut run_name = [0u8; 4096];
+    let Ok(n) = screen::word(&rt, 1, &mut run_name) else {
+        return lines::too_long_a_name(&err, b"RUN");
+    };
+    let mut result_name = [0u8; 4096];
+    let Ok(m) = screen::word(&rt, 2, &mut result_name) else {
+        return lines::too_long_a_name(&err, b"RESULT");
+    };
+    call(&rt, &err, &run_name[..n], &result_name[..m])
 }

@@ -1,7 +1,7 @@
 ghost use Rattle.std.specs.Prelude.{◌≤◌, length};
 
 use feed::Fed;
-use libc::{STDIN_FILENO, STDOUT_FILENO};
+use std::io;
 use stick::Known;
 
 // As many buffers as the longest file that is not refused can fill, and more.
@@ -17,12 +17,12 @@ pub struct Went {
 }
 
 // Writes the results of a call, which stand at the room's start.
-fn put(f: Fed, room: &[u8], begun: bool) -> Went
+fn put(out: &impl Print, f: Fed, room: &[u8], begun: bool) -> Went
     requires { f.written ≤ length room.now }
 {
     let n = f.written as usize;
     let number = f.number;
-    let whole = io::write_all(STDOUT_FILENO, &room[0..n]);
+    let whole = out.write_all(&room[0..n]).is_ok();
     Went {
         number,
         begun: begun | (0 < n),
@@ -31,14 +31,14 @@ fn put(f: Fed, room: &[u8], begun: bool) -> Went
 }
 
 // Feeds a piece and writes its results.
-fn give(state: &mut [u8], piece: &[u8], room: &mut [u8], begun: bool) -> Went {
+fn give(out: &impl Print, state: &mut [u8], piece: &[u8], room: &mut [u8], begun: bool) -> Went {
     let f = feed::feed(state, piece, room);
-    put(f, room, begun)
+    put(out, f, room, begun)
 }
 
 // Feeds all of a chunk, in pieces whose results the room holds: where one has too many, half as many
 // bytes are tried. A byte closes one step at most, so that the room is large enough for some piece.
-fn chunk(state: &mut [u8], bytes: &[u8], room: &mut [u8], begun: bool) -> Went {
+fn chunk(out: &impl Print, state: &mut [u8], bytes: &[u8], room: &mut [u8], begun: bool) -> Went {
     let mut at = 0;
     let mut most = bytes.len();
     let mut w = Went {
@@ -48,7 +48,7 @@ fn chunk(state: &mut [u8], bytes: &[u8], room: &mut [u8], begun: bool) -> Went {
     };
     while at < bytes.len() && 0 < most {
         let end = at + (whole::least64(most as u64, (bytes.len() - at) as u64) as usize);
-        w = give(state, &bytes[at..end], room, w.begun);
+        w = give(out, state, &bytes[at..end], room, w.begun);
         if w.number == 11 {
             most /= 2;
         } else if (w.number != 0) | !w.whole {
@@ -75,42 +75,46 @@ fn on(t: Read) -> bool {
 }
 
 // Feeds one buffer of standard input.
-fn turn(state: &mut [u8], room: &mut [u8], begun: bool) -> Read {
-    let mut bytes = io::large_buffer();
-    let f = screen::fill(STDIN_FILENO, &mut bytes);
+fn turn(
+    input: &mut impl io::Read,
+    out: &impl Print,
+    state: &mut [u8],
+    room: &mut [u8],
+    begun: bool,
+) -> Read {
+    let mut bytes = [0u8; 65536];
+    let f = screen::fill(input, &mut bytes);
     let n = f.count;
-    let went = chunk(state, &bytes[..n], room, begun);
+    let went = chunk(out, state, &bytes[..n], room, begun);
     Read {
         went,
         ended: f.ended,
-        failed: f.failed,
+        failed: f.failed.is_some(),
     }
 }
 
 // Feeds standard input, a buffer at a time, until it ends, cannot be read or is refused, or until its
 // results cannot be written.
-fn buffers(state: &mut [u8], room: &mut [u8]) -> Read {
-    let mut t = turn(state, room, false);
-    let mut left = TURNS;
-    while 0 < left {
+fn buffers(input: &mut impl io::Read, out: &impl Print, state: &mut [u8], room: &mut [u8]) -> Read {
+    let mut t = turn(input, out, state, room, false);
+    for _ in 0..TURNS {
         if !on(t) {
             return t;
         }
-        left -= 1;
         let w = t.went;
-        t = turn(state, room, w.begun);
+        t = turn(input, out, state, room, w.begun);
     }
     t
 }
 
 // Writes the end record of a complete stick, which stands at the room's start: false where that fails.
-fn put_end(k: Known, room: &[u8]) -> bool
+fn put_end(out: &impl Print, k: Known, room: &[u8]) -> bool
     requires { 7 ≤ length room.now }
 {
     let Known::Complete(_) = k else {
         return true;
     };
-    io::write_all(STDOUT_FILENO, &room[0..7])
+    out.write_all(&room[0..7]).is_ok()
 }
 
 // What a run came to: what is known of the stick, whether a read failed, whether anything was written,
@@ -124,12 +128,12 @@ pub struct Ran {
 }
 
 // Feeds standard input, and its end where all of it was fed and written.
-pub fn all(state: &mut [u8]) -> Ran {
-    let mut room = io::large_buffer();
-    let t = buffers(state, &mut room);
+pub fn all(input: &mut impl io::Read, out: &impl Print, state: &mut [u8]) -> Ran {
+    let mut room = [0u8; 65536];
+    let t = buffers(input, out, state, &mut room);
     let w = t.went;
     let known = fed::known(state, &mut room, t.ended & w.whole & (w.number == 0));
-    let last = put_end(known, &room);
+    let last = put_end(out, known, &room);
     Ran {
         known,
         failed: t.failed,

@@ -6,56 +6,53 @@
 mod feeding;
 
 use feeding::Ran;
-use libc::STDERR_FILENO;
+use std::io;
 use stick::Known;
 
 // What is known of the stick, or that it cannot be read.
-fn input_told(k: Known, failed: bool) {
+fn input_told(err: &impl Print, k: Known, failed: bool) -> io::Result<()> {
     let Known::NotKnown = k else {
-        return screen::line(STDERR_FILENO, k);
+        return screen::line(err, k);
     };
     if failed {
-        screen::unreadable(STDERR_FILENO);
+        screen::unreadable(err)
     } else {
-        screen::line(STDERR_FILENO, k);
+        screen::line(err, k)
     }
 }
 
 // What is to be done with what was written of a stick that is not complete.
-fn output_told(k: Known) {
+fn output_told(err: &impl Print, k: Known) -> io::Result<()> {
     match k {
-        Known::Complete(_) => {}
+        Known::Complete(_) => Ok(()),
         Known::Refused(_) => {
-            io::write_all(
-                STDERR_FILENO,
+            err.write_all(
                 b"standard output: steps of a stick that was refused; throw away what it holds\n",
-            );
+            )
         }
         Known::NotKnown => {
-            io::write_all(
-                STDERR_FILENO,
+            err.write_all(
                 b"standard output: steps of a stick that was not read to its end; throw away what it holds\n",
-            );
+            )
         }
     }
 }
 
 // What is said once the input has ended or cannot be read, a chunk was refused, or a write failed.
-fn told(r: Ran) {
+fn told(err: &impl Print, r: Ran) -> io::Result<()> {
     let known = r.known;
-    input_told(known, r.failed);
+    input_told(err, known, r.failed)?;
     if !r.whole {
-        io::write_all(
-            STDERR_FILENO,
-            b"standard output: not written whole; throw away what it holds\n",
-        );
+        err.write_all(b"standard output: not written whole; throw away what it holds\n")
     } else if r.begun {
-        output_told(known);
+        output_told(err, known)
+    } else {
+        Ok(())
     }
 }
 
-fn main() {
+fn main(rt: HostRuntime) -> io::Result<()> {
     let mut state = [0u8; kept::SIZE];
     feed::start(&mut state);
-    told(feeding::all(&mut state));
+    told(&rt.stderr(), feeding::all(&mut rt.stdin(), &rt, &mut state))
 }
