@@ -53,10 +53,14 @@ judged_with-requires c =
     let e = c.units-n.ensures in
     let d = c.roofs-m.ensures in
     let l = few (goal.at.judged_with-requires c).After-units-n in
-    let m = fewer (goal.at.judged_with-requires c).After-roofs-m in record { accepted = c.requires; lengths = record {
-          rows_there = part_long _ refl l e;
-          stored_there = part_long _ refl l e;
-          requests_there = part_long _ refl l e;
-          flags_there = part_long _ refl m d;
-          vars_there = part_long _ refl (add-le-add l m) (ap₂ ◌+◌ e d);
-        }; room_len = part_long _ refl (few_bytes (goal.at.judged_with-requires c).After-roofs-m) (all_bytes_lem c.args.run.now e d) }
+    let m = fewer (goal.at.judged_with-requires c).After-roofs-m in record {
+      accepted = c.requires;
+      lengths = record {
+        rows_there = part_long _ refl l e;
+        stored_there = part_long _ refl l e;
+        requests_there = part_long _ refl l e;
+        flags_there = part_long _ refl m d;
+        vars_there = part_long _ refl (add-le-add l m) (ap₂ ◌+◌ e d);
+      };
+      room_len = part_long _ refl (few_bytes (goal.at.judged_with-requires c).After-roofs-m) (all_bytes_lem c.args.run.now e d);
+    }

@@ -118,9 +118,16 @@ on_field-next-requires c =
     let s = start l in
     let a = s.args in
     let g = l.loop-t.invariant in
-    let f = follows l in record { planted = record { ready = s.requires.set_out.planted.ready; roofs = subst⁻¹ (RoofsThere a.run.now a.t.first) g.on_long s.requires.set_out.planted.roofs; leading = s.requires.set_out.planted.leading }; holding = g.held; step_field = f.field; shining = g.shines; at_bound = f.few; at_in_bounds = subst (λ (n : ℕ). 0 + n * length (closed_by a.run.now l.loop-t.w.due l.loop-t.at) ≤ length l.loop-t.room)
-                  (ap₂ (λ (n m : ℕ). 40 * n + 29 * m) (units_are s) (sym g.on_long))
-                  f.fits }
+    let f = follows l in record {
+      planted = record { ready = s.requires.set_out.planted.ready; roofs = subst⁻¹ (RoofsThere a.run.now a.t.first) g.on_long s.requires.set_out.planted.roofs; leading = s.requires.set_out.planted.leading };
+      holding = g.held;
+      step_field = f.field;
+      shining = g.shines;
+      at_bound = f.few;
+      at_in_bounds = subst (λ (n : ℕ). 0 + n * length (closed_by a.run.now l.loop-t.w.due l.loop-t.at) ≤ length l.loop-t.room)
+          (ap₂ (λ (n m : ℕ). 40 * n + 29 * m) (units_are s) (sym g.on_long))
+          f.fits;
+    }
 
 -- ---- behind the field: the room, what it holds, and what the code may count on
 abbrev then_room : After-on_field-next → List ℕ

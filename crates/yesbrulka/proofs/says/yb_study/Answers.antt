@@ -23,8 +23,11 @@ returns-in-StudyDone c =
     let a = c.args in
     let l = read w64 a.load c.ranges.load.sfits in
     let is : c.study.result ≡ file_study a.file.now a.load a.budget a.requests.now =
-    c.study.ensures.value ∙ ap (λ (z : ℤ). file_study a.file.now z a.budget a.requests.now) l in record { study_told = study_given (study_call (file_study a.file.now a.load a.budget a.requests.now)) a.settled.now a.passes.now c.in-StudyDone.found
-          (ap study_call (sym is ∙ c.in-StudyDone.is)); requests_after = c.study.ensures.requests_after ∙ ap (λ (z : ℤ). file_study_leaves a.file.now z a.budget a.requests.now) l }
+    c.study.ensures.value ∙ ap (λ (z : ℤ). file_study a.file.now z a.budget a.requests.now) l in record {
+      study_told = study_given (study_call (file_study a.file.now a.load a.budget a.requests.now)) a.settled.now a.passes.now c.in-StudyDone.found
+          (ap study_call (sym is ∙ c.in-StudyDone.is));
+      requests_after = c.study.ensures.requests_after ∙ ap (λ (z : ℤ). file_study_leaves a.file.now z a.budget a.requests.now) l;
+    }
 
 pub shape_of-requests-in-StudyRefused : goal.shape_of-requests-in-StudyRefused
 shape_of-requests-in-StudyRefused c = c.study.auto.requests
@@ -34,5 +37,8 @@ returns-in-StudyRefused c =
     let a = c.args in
     let l = read w64 a.load c.ranges.load.sfits in
     let is : c.study.result ≡ file_study a.file.now a.load a.budget a.requests.now =
-    c.study.ensures.value ∙ ap (λ (z : ℤ). file_study a.file.now z a.budget a.requests.now) l in record { study_told = study_kept (study_call (file_study a.file.now a.load a.budget a.requests.now)) a.settled.now a.passes.now
-          c.in-StudyRefused.r (ap study_call (sym is ∙ c.in-StudyRefused.is)); requests_after = c.study.ensures.requests_after ∙ ap (λ (z : ℤ). file_study_leaves a.file.now z a.budget a.requests.now) l }
+    c.study.ensures.value ∙ ap (λ (z : ℤ). file_study a.file.now z a.budget a.requests.now) l in record {
+      study_told = study_kept (study_call (file_study a.file.now a.load a.budget a.requests.now)) a.settled.now a.passes.now
+          c.in-StudyRefused.r (ap study_call (sym is ∙ c.in-StudyRefused.is));
+      requests_after = c.study.ensures.requests_after ∙ ap (λ (z : ℤ). file_study_leaves a.file.now z a.budget a.requests.now) l;
+    }

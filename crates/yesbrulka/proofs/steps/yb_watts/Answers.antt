@@ -14,5 +14,8 @@ returns-in_default c =
 
 pub returns : goal.returns
 returns c =
-    let is = sym c.in-Whole.is ∙ c.converted.ensures in record { value = ap (λ (w : Watts). number_of (watts_call w)) is; watts_after = read w32 c.in-Whole.w c.in-Whole.known_told-1-own.given.0.1
-          ∙ ap (λ (w : Watts). held_after (watts_call w) (λ (z : ℤ). z) c.args.watts.now) is }
+    let is = sym c.in-Whole.is ∙ c.converted.ensures in record {
+      value = ap (λ (w : Watts). number_of (watts_call w)) is;
+      watts_after = read w32 c.in-Whole.w c.in-Whole.known_told-1-own.given.0.1
+          ∙ ap (λ (w : Watts). held_after (watts_call w) (λ (z : ℤ). z) c.args.watts.now) is;
+    }
