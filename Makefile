@@ -48,8 +48,8 @@ fuzz: target/staticlib/libyesbrulka.a
 build/proved: target/staticlib/libyesbrulka.a $(shell find c -name '*.[ch]') $(shell find desk -name '*.py') $(addprefix tools/,build.sh env.sh emulated.in)
 	@env -u YB_ARCHIVE tools/build.sh
 
-target/staticlib/libyesbrulka.a: crates.txt $(shell find crates -type f)
-	rt staticlib yesbrulka
+target/staticlib/libyesbrulka.a: crates.txt $(shell find crates -type f -not -path '*/out/*')
+	@tools/archive.sh
 
 # Rewrites the stored cases and answers that rt ci holds the Rattle program to.
 cases:

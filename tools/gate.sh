@@ -42,6 +42,7 @@ step() {
     echo "== $name"
     "$@" 2>&1 | tee "$log/step"
     status=${PIPESTATUS[0]}
+    cp "$log/step" "$log/$name" 2>/dev/null
     case $counts in
     line)
         local last
@@ -103,9 +104,10 @@ sample_sticks() {
     return 1
 }
 
+# What `rt ci` proved of the crates below stands in their out/, so that this proves the surface alone.
 archive() {
     rm -f "$YB_ARCHIVE"
-    rt staticlib yesbrulka && [ -f "$YB_ARCHIVE" ]
+    tools/archive.sh && [ -f "$YB_ARCHIVE" ]
 }
 
 surface() {
@@ -126,6 +128,11 @@ sample() {
     fi
     make --no-print-directory sample || return
     if [ -z "$YB_CHARTS_WHY" ]; then build/season-page build/barn.stick build/barn.html; fi
+}
+
+# The line `rt: ok` of the proofs counts no bad edit.
+tried() {
+    grep -qE '^rt: ok' "$log/proofs" && ! grep -qE '^rt: ok.*, [1-9][0-9]* bad' "$log/proofs"
 }
 
 reference() {
@@ -190,22 +197,13 @@ ahead() {
 ahead >"$log/ahead" 2>&1 &
 ahead=$!
 
-# The proofs. When every crate has been checked rt tries the wrong programs, which takes as long again: all other tests run
-# beside these, and go before them. More checks at a time than there are cores, since each waits for the slowest of its
-# batch: two at a time took 1,873 s on two quiet cores, and left one idle for much of the proofs.
-proofs() {
-    rm -rf target/must-fail
-    env RT_JOBS="${RT_JOBS:-6}" nice -n 5 rt ci
-}
-later line 'proofs' proofs
-echo '== proofs: under way; they are told below, when all else is done'
-apart 0 &
-proofs=$!
-until [ -d target/must-fail ] || ! kill -0 "$proofs" 2>/dev/null; do sleep 1; done
-echo "-- every crate has been checked: $SECONDS s"
-
-step one 'functions with a requires' tools/requires.sh --check
+# The proofs and the wrong programs, by a plain `rt ci` at the top. It goes first and alone: other commands of rt wait for
+# it, and what it leaves in out/ spares the archive the proofs of the crates below.
 wait "$ahead"
+step line 'proofs' rt ci
+# It ends well where a wrong program could not be tried: that is a failure here.
+step one 'every wrong program was tried' tried
+step one 'functions with a requires' tools/requires.sh --check
 step one 'stored cases' stored_cases
 step one 'sample sticks' sample_sticks
 step none 'archive' archive
@@ -230,7 +228,8 @@ if [ -n "$YB_CC" ]; then
     later line 'feed command' c/tests/test_feed.sh
     later line 'watts command' c/tests/test_watts.sh
     later line 'C stack' stack
-    together 1
+    later line 'wrong programs' tools/refusals.sh
+    together 0
     step one 'sample season' sample
 else
     step cargo 'reference' reference --lib --bins
@@ -240,9 +239,7 @@ else
     done
 fi
 
-wait "$proofs"
-tell 0
-step line 'wrong programs' tools/refusals.sh
+[ -n "$YB_CC" ] || step line 'wrong programs' tools/refusals.sh
 
 # What was left out is said where it is seen.
 [ -z "$YB_PYTHON_WHY" ] || echo "NOT RUN: desk, and the page in a browser: $YB_PYTHON_WHY"

@@ -28,7 +28,10 @@ asking() {
 handed() {
     local lib=crates/$1/src/lib.rt
     asking "crates/$1"/src/*.rt | while read -r module name; do
-        if [ "$module" = lib ] || grep -qE "^pub use ([a-z_]+::)*$module::$name;" "$lib"; then echo "$name"; fi
+        if [ "$module" = lib ] ||
+            tr '\n' ' ' <"$lib" | grep -qE "pub use ([a-z_]+::)*$module::($name|\{([^{}]*[ ,{])?$name *[,}][^;]*);"; then
+            echo "$name"
+        fi
     done | sort
 }
 

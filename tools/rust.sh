@@ -53,6 +53,6 @@ rust_toolchain() {
 # All that a program over the archive needs, or the end.
 rust_beside_archive() {
     yb_toolchain || cannot "$YB_CC_WHY"
-    [ -f "$YB_ARCHIVE" ] || cannot "no archive at $YB_ARCHIVE; rt staticlib yesbrulka builds it"
+    [ -f "$YB_ARCHIVE" ] || cannot "no archive at $YB_ARCHIVE; tools/archive.sh builds it"
     rust_toolchain
 }
