@@ -207,6 +207,7 @@ step one 'functions with a requires' tools/requires.sh --check
 step one 'stored cases' stored_cases
 step one 'sample sticks' sample_sticks
 step none 'archive' archive
+step none 'Rattle programs' tools/programs.sh
 step one 'inlined' tools/inlined.sh
 if [ -n "$YB_CC" ]; then
     step none 'C programs' tools/build.sh
