@@ -15,28 +15,28 @@ ROOM = os.path.join(ROOT, "build", "meanings")
 
 # The theorems of docs/PROMISES.md that say something of the rules, not only of how the code goes about them.
 NAMED = {
-    "chunks": ["cut-law"],
-    "controller": ["one-sign", "one-need", "bounds-law"],
-    "curve": ["curve-law"],
-    "energy": ["as-before"],
-    "fed": ["fed-law", "call-law"],
-    "guided": ["led-law", "lit-law"],
-    "layouts": ["laid-law", "read-law"],
-    "lead": ["lead-law"],
+    "chunks": ["cut_law"],
+    "controller": ["one_sign", "one_need", "bounds_law"],
+    "curve": ["curve_law"],
+    "energy": ["as_before"],
+    "fed": ["fed_law", "call_law"],
+    "guided": ["led_law", "lit_law"],
+    "layouts": ["laid_law", "read_law"],
+    "lead": ["lead_law"],
     "mirror": ["mirrored"],
-    "partner": ["verdict-law"],
-    "peaks": ["peaks-law"],
-    "reading": ["nearest-proved"],
-    "rescued": ["rescue-law"],
-    "season": ["run-law"],
-    "settling": ["settling", "closing-law", "study-law", "stopped-law"],
+    "partner": ["verdict_law"],
+    "peaks": ["peaks_law"],
+    "reading": ["nearest_proved"],
+    "rescued": ["rescue_law"],
+    "season": ["run_law"],
+    "settling": ["settling", "closing_law", "study_law", "stopped_law"],
     "solar": ["relied"],
-    "stick": ["accepted-law"],
+    "stick": ["accepted_law"],
     "storage": ["relied"],
 }
 
-# Laws that speak of the functions themselves, and crates that have no definitions.
-OF_FUNCTIONS = ["HeldReader"]
+# Lemma files that speak of the functions themselves, of which there are none, and crates that have no definitions.
+OF_FUNCTIONS = []
 WITHOUT = ["screen"]
 
 
