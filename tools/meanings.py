@@ -16,7 +16,7 @@ ROOM = os.path.join(ROOT, "build", "meanings")
 # The theorems of docs/PROMISES.md that say something of the rules, not only of how the code goes about them.
 NAMED = {
     "chunks": ["cut_law"],
-    "controller": ["one_sign", "one_need", "bounds_law"],
+    "controller": ["one_sign_lem", "one_need", "bounds_law"],
     "curve": ["curve_law"],
     "energy": ["as_before"],
     "fed": ["fed_law", "call_law"],
