@@ -214,6 +214,7 @@ if [ -n "$YB_CC" ]; then
     # Where it was not built the tests that need it say so.
     [ -x build/x86_64/host ] || unset YB_HOST
     # The longest first, so that none of them is left over at the end.
+    later line 'wrong programs' tools/refusals.sh
     later line 'import command' c/tests/test_import.sh plain
     later line 'import command, sanitized' c/tests/test_import.sh sanitized
     later cargo 'reference and archive' reference
@@ -229,7 +230,6 @@ if [ -n "$YB_CC" ]; then
     later line 'feed command' c/tests/test_feed.sh
     later line 'watts command' c/tests/test_watts.sh
     later line 'C stack' stack
-    later line 'wrong programs' tools/refusals.sh
     together 0
     step one 'sample season' sample
 else
