@@ -186,20 +186,18 @@ yb_toolchain
 # Relative to reference/, where cargo runs the tests: the host's command is split at blanks.
 export YB_HOST="$YB_EMULATOR ../build/x86_64/host"
 
-# The reference is compiled beside the proofs, which leave a core idle at times, and what the tests need of Debian's
-# packages is installed. What goes wrong with either shows in the steps below: they compile or install what is not there.
+# The reference is compiled, and what the tests need of Debian's packages is installed. What goes wrong with either shows in
+# the steps below: they compile or install what is not there.
 ahead() {
     yb_python
     yb_charts
     yb_browser
     (cd reference && nice -n 19 cargo build --quiet --release --offline --all-targets)
 }
-ahead >"$log/ahead" 2>&1 &
-ahead=$!
+ahead >"$log/ahead" 2>&1
 
 # The proofs and the wrong programs, by a plain `rt ci` at the top. It goes first and alone: other commands of rt wait for
 # it, and what it leaves in out/ spares the archive the proofs of the crates below.
-wait "$ahead"
 step line 'proofs' rt ci
 # It ends well where a wrong program could not be tried: that is a failure here.
 step one 'every wrong program was tried' tried
