@@ -8,13 +8,11 @@ fn no_unit_calls(charging: bool, w: Wanted, units: &[[u64; 24]], stored: &[u64])
     requires { Linked w (fleet_by units.now stored.now) }
     ensures { result ≡ none_calls_by charging w (fleet_by units.now stored.now) (length units.now) }
 {
-    let mut i = 0;
-    while i < units.len() {
+    for i in 0..units.len() {
         let need = rules::own_need(w, rows::link_of(units, i));
         if !rules::no_call(charging, need) {
             return false;
         }
-        i += 1;
     }
     true
 }
@@ -40,14 +38,12 @@ fn units_in_band(band: u32, w: Wanted, units: &[[u64; 24]], stored: &[u64]) -> b
     requires { Linked w (fleet_by units.now stored.now) }
     ensures { result ≡ all_in_band_by band w (fleet_by units.now stored.now) (length units.now) }
 {
-    let mut i = 0;
-    while i < units.len() {
+    for i in 0..units.len() {
         let link = rows::link_of(units, i);
         let own = rules::own_band(w.current, link, band);
         if !rules::in_band(own, rules::own_need(w, link)) {
             return false;
         }
-        i += 1;
     }
     true
 }

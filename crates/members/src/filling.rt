@@ -54,10 +54,8 @@ pub fn fill(
     ensures { fleet_by rows.new stored.now ≡
         fleet_linked rated.now reserve.now stored.now rating.now weight.now links.now }
 {
-    let mut i = 0;
-    while i < rows.len() {
+    for i in 0..rows.len() {
         rows[i] = member_row(rated[i], reserve[i], rating[i], weight[i], links[i]);
-        i += 1;
     }
 }
 
@@ -67,9 +65,7 @@ pub fn link_all(phases: &[u8], volts: &[u16], links: &mut [u32])
     requires volts_len { length volts.now ≡ length links.old }
     ensures { links.new ≡ links_of phases.now volts.now }
 {
-    let mut i = 0;
-    while i < links.len() {
+    for i in 0..links.len() {
         links[i] = (phases[i] as u32) * (volts[i] as u32);
-        i += 1;
     }
 }

@@ -17,10 +17,8 @@ pub fn units_in(
     ensures { result ≡ all_of (length rated.now) (member_at (fleet_of rated.now reserve.now stored.now rating.now weight.now)) }
 {
     let mut ok = true;
-    let mut i = 0;
-    while i < rated.len() {
+    for i in 0..rated.len() {
         ok = ok & unit::member_in(rated[i], reserve[i], stored[i], rating[i], weight[i]);
-        i += 1;
     }
     ok
 }
@@ -31,10 +29,8 @@ pub fn connections_in(phases: &[u8], volts: &[u16]) -> bool
     ensures { result ≡ all_of (length phases.now) (connection_at phases.now volts.now) }
 {
     let mut ok = true;
-    let mut i = 0;
-    while i < phases.len() {
+    for i in 0..phases.len() {
         ok = ok & unit::connection_in(phases[i], volts[i]);
-        i += 1;
     }
     ok
 }
@@ -64,11 +60,9 @@ pub fn within_ratings(rating: &[u32], requests: &[i32]) -> bool
     ensures { result ≡ within_ratings rating.now requests.now }
 {
     let mut ok = true;
-    let mut i = 0;
-    while i < requests.len() {
+    for i in 0..requests.len() {
         let size = whole::size32(requests[i]);
         ok = ok & (size <= rating[i]);
-        i += 1;
     }
     ok
 }

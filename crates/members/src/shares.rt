@@ -13,11 +13,9 @@ pub fn clear(requests: &mut [i32]) -> bool
     ensures value { result ≡ changed_of requests.old requests.new }
 {
     let mut changed = false;
-    let mut i = 0;
-    while i < requests.len() {
-        changed = changed | (requests[i] != 0);
-        requests[i] = 0;
-        i += 1;
+    for r in requests.iter_mut() {
+        changed = changed | (*r != 0);
+        *r = 0;
     }
     changed
 }
@@ -65,14 +63,12 @@ fn share_linked(
     ensures value { result ≡ changed_of requests.old requests.new }
 {
     let mut changed = false;
-    let mut i = 0;
-    while i < requests.len() {
+    for i in 0..requests.len() {
         let old = requests[i];
         let need = rules::own_need(w, rows::link_of(units, i));
         let next = next_request(charging, factor, need, weights, units, i, stored[i], old);
         changed = changed | (old != next);
         requests[i] = next;
-        i += 1;
     }
     changed
 }
@@ -94,13 +90,11 @@ fn share_alike(
 {
     let need = rules::own_need(w, 0);
     let mut changed = false;
-    let mut i = 0;
-    while i < requests.len() {
+    for i in 0..requests.len() {
         let old = requests[i];
         let next = next_request(charging, factor, need, weights, units, i, stored[i], old);
         changed = changed | (old != next);
         requests[i] = next;
-        i += 1;
     }
     changed
 }

@@ -57,14 +57,12 @@ pub fn share_sized(
     let below = whole::below_zero64(w.plain);
     let size = whole::size64(w.plain);
     let mut changed = false;
-    let mut i = 0;
-    while i < requests.len() {
+    for i in 0..requests.len() {
         let old = requests[i];
         let held = stored[i];
         let next = next_sized(charging, below, factor, size, weights, units, i, held, old);
         changed = changed | (old != next);
         requests[i] = next;
-        i += 1;
     }
     changed
 }

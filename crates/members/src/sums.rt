@@ -12,10 +12,8 @@ pub fn energy(xs: &[u64]) -> u64
     ensures { result ≡ total (length xs.now) xs.now }
 {
     let mut sum: u64 = 0;
-    let mut i = 0;
-    while i < xs.len() {
-        sum += xs[i];
-        i += 1;
+    for x in xs {
+        sum += *x;
     }
     sum
 }
@@ -38,12 +36,10 @@ pub fn summed(units: &[[u64; 24]]) -> Totals
     let mut rated: u64 = 0;
     let mut reserve: u64 = 0;
     let mut weight: u64 = 0;
-    let mut i = 0;
-    while i < units.len() {
+    for i in 0..units.len() {
         rated += rows::rated_of(units, i);
         reserve += rows::reserve_of(units, i);
         weight += rows::weight_of(units, i) as u64;
-        i += 1;
     }
     Totals {
         rated,
@@ -70,12 +66,9 @@ pub fn signs(requests: &[i32]) -> Asked
 {
     let mut above = false;
     let mut below = false;
-    let mut i = 0;
-    while i < requests.len() {
-        let r = requests[i];
+    for &r in requests {
         above = above | (0 < r);
         below = below | (r < 0);
-        i += 1;
     }
     Asked {
         sum: 0,
@@ -94,10 +87,8 @@ pub fn asked(requests: &[i32]) -> Asked
         above: false,
         below: false,
     };
-    let mut i = 0;
-    while i < requests.len() {
-        a = with_request(a, requests[i]);
-        i += 1;
+    for &r in requests {
+        a = with_request(a, r);
     }
     a
 }

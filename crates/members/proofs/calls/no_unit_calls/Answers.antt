@@ -30,13 +30,10 @@ test_is c =
 
 pub loop-i-init : goal.loop-i-init
 unfolding all_of
-loop-i-init c = (omega arith, refl)
+loop-i-init c = (refl)
 
 pub own_need-need-requires : goal.own_need-need-requires
 own_need-need-requires c = record { modest = c.requires.modest; link_bound = le_trans (le_of_eq (c.link_of.ensures ∙ sym (link_at_lem c.args.units.now c.args.stored.now c.loop-i.i))) (c.requires.link_small c.loop-i.i) }
-
-pub no_call-requires : goal.no_call-requires
-no_call-requires c = tt
 
 pub returns-then-not-no_call : goal.returns-then-not-no_call
 unfolding none_calls_by
@@ -45,10 +42,10 @@ returns-then-not-no_call c =
 
 pub loop-i-preserved : goal.loop-i-preserved
 loop-i-preserved c =
-    (omega arith, all_next c.loop-i.i (at (goal.at.loop-i-preserved c).Start) ∙ ap₂ ◌&&◌ c.loop-i.invariant.1 (sym (test_is (goal.at.loop-i-preserved c).After-no_call) ∙ not-false c.no_call.result (ap not c.if-not-no_call.false)))
+    (all_next c.loop-i.i (at (goal.at.loop-i-preserved c).Start) ∙ ap₂ ◌&&◌ c.loop-i.invariant (sym (test_is (goal.at.loop-i-preserved c).After-no_call) ∙ not-false c.no_call.result (ap not c.if-not-no_call.false)))
 
 pub returns : goal.returns
 unfolding none_calls_by
 returns c =
     let e : c.loop-i.i ≡ length c.args.units.now = omega arith in
-    sym c.loop-i.invariant.1 ∙ ap (λ (n : ℕ). all_of n (at (goal.at.returns c).Start)) e
+    sym c.loop-i.invariant ∙ ap (λ (n : ℕ). all_of n (at (goal.at.returns c).Start)) e

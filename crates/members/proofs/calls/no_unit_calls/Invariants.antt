@@ -1,15 +1,11 @@
 -- No unit passed calls; the first that does decides for all.
-use Prim.Native.Nat.{ℕ, ◌-◌, ◌≤◌}
+use Prim.Native.Nat.{ℕ}
 use mathlib.Core.Path.{◌≡◌}
 use mathlib.Core.Bool.{true}
-use lib.ListN.{length}
 use Rattle.whole.specs.Over.{all_of}
 use Rattle.rules.specs.Rules.{no_call}
 use Rattle.members.specs.Posts.{fleet_by, own_by}
 use Rattle.members.proofs.calls.no_unit_calls.Given as goal
 
 abbrev pub invariant-loop-i : goal.invariant-loop-i
-invariant-loop-i l = (l.i ≤ length l.units) × (all_of l.i (λ (k : ℕ). no_call l.charging (own_by l.w (fleet_by l.units l.stored) k)) ≡ true)
-
-abbrev pub decreases-loop-i : goal.decreases-loop-i
-decreases-loop-i l = length l.units - l.i
+invariant-loop-i l = all_of l.i (λ (k : ℕ). no_call l.charging (own_by l.w (fleet_by l.units l.stored) k)) ≡ true

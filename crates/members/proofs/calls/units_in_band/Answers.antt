@@ -43,7 +43,7 @@ test_is c =
 
 pub loop-i-init : goal.loop-i-init
 unfolding all_of
-loop-i-init c = (omega arith, refl)
+loop-i-init c = (refl)
 
 pub own_band-own-requires : goal.own_band-own-requires
 own_band-own-requires c = link_ok c
@@ -62,10 +62,10 @@ returns-then-not-in_band c =
 
 pub loop-i-preserved : goal.loop-i-preserved
 loop-i-preserved c =
-    (omega arith, all_next c.loop-i.i (at (goal.at.loop-i-preserved c).Start) ∙ ap₂ ◌&&◌ c.loop-i.invariant.1 (sym (test_is (goal.at.loop-i-preserved c).After-in_band) ∙ not-false c.in_band.result (ap not c.if-not-in_band.false)))
+    (all_next c.loop-i.i (at (goal.at.loop-i-preserved c).Start) ∙ ap₂ ◌&&◌ c.loop-i.invariant (sym (test_is (goal.at.loop-i-preserved c).After-in_band) ∙ not-false c.in_band.result (ap not c.if-not-in_band.false)))
 
 pub returns : goal.returns
 unfolding all_in_band_by
 returns c =
     let e : c.loop-i.i ≡ length c.args.units.now = omega arith in
-    sym c.loop-i.invariant.1 ∙ ap (λ (n : ℕ). all_of n (at (goal.at.returns c).Start)) e
+    sym c.loop-i.invariant ∙ ap (λ (n : ℕ). all_of n (at (goal.at.returns c).Start)) e

@@ -1,8 +1,8 @@
 -- Every unit passed is within its band; the first that is not decides for all.
-use Prim.Native.Nat.{ℕ, ◌-◌, ◌≤◌}
+use Prim.Native.Nat.{ℕ}
 use mathlib.Core.Path.{◌≡◌}
 use mathlib.Core.Bool.{true}
-use lib.ListN.{length, get_or}
+use lib.ListN.{get_or}
 use Rattle.whole.specs.Over.{all_of}
 use Rattle.rules.specs.Rules.{in_band, band_in_watts}
 use Rattle.members.specs.Posts.{fleet_by, own_by}
@@ -10,7 +10,4 @@ use Rattle.members.proofs.calls.units_in_band.Given as goal
 
 abbrev pub invariant-loop-i : goal.invariant-loop-i
 invariant-loop-i l =
-    (l.i ≤ length l.units) × (all_of l.i (λ (k : ℕ). in_band (band_in_watts l.w.current (get_or (fleet_by l.units l.stored).link k 0) l.band) (own_by l.w (fleet_by l.units l.stored) k)) ≡ true)
-
-abbrev pub decreases-loop-i : goal.decreases-loop-i
-decreases-loop-i l = length l.units - l.i
+    all_of l.i (λ (k : ℕ). in_band (band_in_watts l.w.current (get_or (fleet_by l.units l.stored).link k 0) l.band) (own_by l.w (fleet_by l.units l.stored) k)) ≡ true

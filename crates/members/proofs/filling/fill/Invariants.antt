@@ -1,5 +1,4 @@
 -- The rows passed are those of the lists' units; there are as many rows as units.
-use Prim.Native.Nat.{◌-◌}
 use lib.ListN.{length}
 use Rattle.members.specs.Ranges.{fleet_linked}
 use Rattle.members.proofs.ColumnLaws.{Filled}
@@ -7,6 +6,3 @@ use Rattle.members.proofs.filling.fill.Given as goal
 
 abbrev pub invariant-loop-i : goal.invariant-loop-i
 invariant-loop-i l = Filled (fleet_linked l.rated l.reserve l.stored l.rating l.weight l.links) (length l.initial.rows) l.rows l.i
-
-abbrev pub decreases-loop-i : goal.decreases-loop-i
-decreases-loop-i l = length l.initial.rows - l.i

@@ -17,21 +17,6 @@ long c = filling_length (at (record { before = c.before.before; type_inv = recor
 pub loop-i-init : goal.loop-i-init
 loop-i-init c = filling_none (at c) c.args.links.now
 
-pub bounds-phases-i : goal.bounds-phases-i
-bounds-phases-i c = omega (arith, long (goal.at.bounds-phases-i c).At-loop-i, c.requires.phases_len)
-
-pub overflow_cast-links : goal.overflow_cast-links
-overflow_cast-links c = omega (arith, c.shared_slice_known-1.given c.loop-i.i)
-
-pub offset_bounds-volts-i : goal.offset_bounds-volts-i
-offset_bounds-volts-i c = omega (arith, long (goal.at.offset_bounds-volts-i c).At-loop-i)
-
-pub bounds-volts-i : goal.bounds-volts-i
-bounds-volts-i c = omega (arith, long (goal.at.bounds-volts-i c).At-loop-i, c.requires.volts_len)
-
-pub overflow_cast-links-in-loop-i : goal.overflow_cast-links-in-loop-i
-overflow_cast-links-in-loop-i c = omega (arith, c.shared_slice_known-in-loop-i-1.given c.loop-i.i)
-
 pub overflow_mul-links : goal.overflow_mul-links
 overflow_mul-links c =
     let i = c.loop-i.i in
@@ -41,24 +26,9 @@ overflow_mul-links c =
     let h : link_at a.phases.now a.volts.now i ≤ 255 * 65535 = mul-le-mul p v in
     omega arith
 
-pub offset_bounds-links-i : goal.offset_bounds-links-i
-offset_bounds-links-i c = omega (arith, long (goal.at.offset_bounds-links-i c).At-loop-i)
-
-pub bounds-links-i : goal.bounds-links-i
-bounds-links-i c = omega (arith, long (goal.at.bounds-links-i c).At-loop-i)
-
-pub overflow_add-i : goal.overflow_add-i
-overflow_add-i c = omega (arith, long (goal.at.overflow_add-i c).At-loop-i)
-
-pub loop-i-smaller : goal.loop-i-smaller
-loop-i-smaller c = omega (arith, long (goal.at.loop-i-smaller c).At-loop-i)
-
 pub loop-i-preserved : goal.loop-i-preserved
 loop-i-preserved c =
     filling_more (at (goal.at.loop-i-preserved c).Start) c.args.links.now c.loop-i.links c.loop-i.i c.loop-i.invariant (omega (arith, long (goal.at.loop-i-preserved c).At-loop-i)) (at (goal.at.loop-i-preserved c).Start c.loop-i.i) refl
-
-pub shape_of-links : goal.shape_of-links
-shape_of-links c = long (goal.at.shape_of-links c).At-loop-i
 
 pub returns : goal.returns
 returns c =

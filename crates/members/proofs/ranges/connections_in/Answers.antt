@@ -11,19 +11,16 @@ use Rattle.members.proofs.ranges.connections_in.Goals.{At-loop-i}
 
 pub loop-i-init : goal.loop-i-init
 unfolding all_of
-loop-i-init c = (omega arith, refl)
-
-pub connection_in-ok-requires : goal.connection_in-ok-requires
-connection_in-ok-requires c = tt
+loop-i-init c = (refl)
 
 pub loop-i-preserved : goal.loop-i-preserved
 unfolding connection_at
 loop-i-preserved c =
     let a = c.args in
-    (omega arith, ap₂ ◌&&◌ c.loop-i.invariant.1 c.connection_in-ok.ensures ∙ sym (all_next c.loop-i.i (connection_at a.phases.now a.volts.now)))
+    (ap₂ ◌&&◌ c.loop-i.invariant c.connection_in-ok.ensures ∙ sym (all_next c.loop-i.i (connection_at a.phases.now a.volts.now)))
 
 pub returns : goal.returns
 returns c =
     let a = c.args in
     let e : c.loop-i.i ≡ length a.phases.now = omega arith in
-    c.loop-i.invariant.1 ∙ ap (λ (n : ℕ). all_of n (connection_at a.phases.now a.volts.now)) e
+    c.loop-i.invariant ∙ ap (λ (n : ℕ). all_of n (connection_at a.phases.now a.volts.now)) e

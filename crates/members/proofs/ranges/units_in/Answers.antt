@@ -10,22 +10,17 @@ use Rattle.members.proofs.ranges.units_in.Goals.{At-loop-i}
 
 pub loop-i-init : goal.loop-i-init
 unfolding all_of
-loop-i-init c = (omega arith, refl)
-
-pub member_in-ok-requires : goal.member_in-ok-requires
-member_in-ok-requires c = tt
+loop-i-init c = (refl)
 
 pub loop-i-preserved : goal.loop-i-preserved
 unfolding member_at
 loop-i-preserved c =
-    let a = c.args in (
-      omega arith,
-      ap₂ ◌&&◌ c.loop-i.invariant.1 c.member_in-ok.ensures
-          ∙ sym (all_next c.loop-i.i (member_at (fleet_of a.rated.now a.reserve.now a.stored.now a.rating.now a.weight.now))),
-    )
+    let a = c.args in
+    ap₂ ◌&&◌ c.loop-i.invariant c.member_in-ok.ensures
+    ∙ sym (all_next c.loop-i.i (member_at (fleet_of a.rated.now a.reserve.now a.stored.now a.rating.now a.weight.now)))
 
 pub returns : goal.returns
 returns c =
     let a = c.args in
     let e : c.loop-i.i ≡ length a.rated.now = omega arith in
-    c.loop-i.invariant.1 ∙ ap (λ n. all_of n (member_at (fleet_of a.rated.now a.reserve.now a.stored.now a.rating.now a.weight.now))) e
+    c.loop-i.invariant ∙ ap (λ n. all_of n (member_at (fleet_of a.rated.now a.reserve.now a.stored.now a.rating.now a.weight.now))) e

@@ -15,10 +15,7 @@ use Rattle.members.proofs.ranges.within_ratings.Goals.{After-size32-size, At-loo
 
 pub loop-i-init : goal.loop-i-init
 unfolding all_of
-loop-i-init c = (omega arith, refl)
-
-pub size32-size-requires : goal.size32-size-requires
-size32-size-requires c = tt
+loop-i-init c = (refl)
 
 pub loop-i-preserved : goal.loop-i-preserved
 loop-i-preserved c =
@@ -26,15 +23,13 @@ loop-i-preserved c =
     let rs = a.requests.now in
     let ws = a.rating.now in
     let r = get_or rs c.loop-i.i (pos 0) in
-    let e = c.size32-size.ensures ∙ ap nat_abs (read w32 r c.size32-arg-1.given) in (
-      omega arith,
-      ap₂ ◌&&◌ c.loop-i.invariant.1 (ap (λ (z : ℕ). leb z (get_or ws c.loop-i.i 0)) e)
-          ∙ sym (all_next c.loop-i.i (λ k. leb (nat_abs (get_or rs k (pos 0))) (get_or ws k 0))),
-    )
+    let e = c.size32-size.ensures ∙ ap nat_abs (read w32 r c.size32-arg-1.given) in
+    ap₂ ◌&&◌ c.loop-i.invariant (ap (λ (z : ℕ). leb z (get_or ws c.loop-i.i 0)) e)
+    ∙ sym (all_next c.loop-i.i (λ k. leb (nat_abs (get_or rs k (pos 0))) (get_or ws k 0)))
 
 pub returns : goal.returns
 unfolding within_ratings
 returns c =
     let a = c.args in
     let e : c.loop-i.i ≡ length a.requests.now = omega arith in
-    c.loop-i.invariant.1 ∙ ap (λ n. all_of n (λ k. leb (nat_abs (get_or a.requests.now k (pos 0))) (get_or a.rating.now k 0))) e
+    c.loop-i.invariant ∙ ap (λ n. all_of n (λ k. leb (nat_abs (get_or a.requests.now k (pos 0))) (get_or a.rating.now k 0))) e

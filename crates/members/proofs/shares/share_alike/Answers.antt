@@ -25,42 +25,15 @@ own_need-need-requires c = record { modest = c.requires.sharing.linked.modest; l
 pub loop-i-init : goal.loop-i-init
 loop-i-init c = reached_none (at c) c.args.requests.now
 
-pub offset_bounds-requests-i : goal.offset_bounds-requests-i
-offset_bounds-requests-i c = omega (arith, long (goal.at.offset_bounds-requests-i c).At-loop-i)
-
-pub slice_copy_out-old : goal.slice_copy_out-old
-slice_copy_out-old c = omega (arith, long (goal.at.slice_copy_out-old c).At-loop-i)
-
-pub offset_bounds-stored-i : goal.offset_bounds-stored-i
-offset_bounds-stored-i c = omega (arith, long (goal.at.offset_bounds-stored-i c).At-loop-i, c.requires.sharing.lengths.stored)
-
-pub bounds-stored-i : goal.bounds-stored-i
-bounds-stored-i c = omega (arith, long (goal.at.bounds-stored-i c).At-loop-i, c.requires.sharing.lengths.stored)
-
 pub next_request-next-requires : goal.next_request-next-requires
 next_request-next-requires c =
     let a = c.args in
     let i = c.loop-i.i in record { i_in_bounds = row_there a.factor a.w a.weights a.units.now a.stored.now (length a.requests.now) c.requires.sharing i (omega (arith, long (goal.at.next_request-next-requires c).At-loop-i)); sharable = may_share a.factor a.w a.weights a.units.now a.stored.now (length a.requests.now) c.requires.sharing i c.own_need-need.result c.own_need-need.type_inv c.own_need-need.ensures.result_bound }
 
-pub offset_bounds-requests-i-in-loop-i : goal.offset_bounds-requests-i-in-loop-i
-offset_bounds-requests-i-in-loop-i c = omega (arith, long (goal.at.offset_bounds-requests-i-in-loop-i c).At-loop-i)
-
-pub bounds-requests-i : goal.bounds-requests-i
-bounds-requests-i c = omega (arith, long (goal.at.bounds-requests-i c).At-loop-i)
-
-pub overflow_add-i : goal.overflow_add-i
-overflow_add-i c = omega (arith, long (goal.at.overflow_add-i c).At-loop-i)
-
-pub loop-i-smaller : goal.loop-i-smaller
-loop-i-smaller c = omega (arith, long (goal.at.loop-i-smaller c).At-loop-i)
-
 pub loop-i-preserved : goal.loop-i-preserved
 loop-i-preserved c =
     reached_step (at (goal.at.loop-i-preserved c).After-own_need-need) c.args.requests.now c.loop-i.requests c.loop-i.changed c.loop-i.i c.loop-i.invariant (omega (arith, long (goal.at.loop-i-preserved c).At-loop-i))
     c.next_request-next.result c.old-1.given c.next_request-next.type_inv c.next_request-next.ensures
-
-pub shape_of-requests : goal.shape_of-requests
-shape_of-requests c = long (goal.at.shape_of-requests c).At-loop-i
 
 pub returns : goal.returns
 returns c =

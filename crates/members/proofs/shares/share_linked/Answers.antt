@@ -31,24 +31,12 @@ here c =
 pub loop-i-init : goal.loop-i-init
 loop-i-init c = reached_none (at (goal.at.loop-i-init c).Start) c.args.requests.now
 
-pub offset_bounds-requests-i : goal.offset_bounds-requests-i
-offset_bounds-requests-i c = omega (arith, long (goal.at.offset_bounds-requests-i c).At-loop-i)
-
-pub slice_copy_out-old : goal.slice_copy_out-old
-slice_copy_out-old c = omega (arith, long (goal.at.slice_copy_out-old c).At-loop-i)
-
 pub link_of-requires : goal.link_of-requires
 link_of-requires c = here (goal.at.link_of-requires c).In-loop-i
 
 pub own_need-need-requires : goal.own_need-need-requires
 own_need-need-requires c =
     let p = c.requires.linked in record { modest = p.modest; link_bound = le_trans (le_of_eq (c.link_of.ensures ∙ sym (link_at_lem c.args.units.now c.args.stored.now c.loop-i.i))) (p.link_small c.loop-i.i) }
-
-pub offset_bounds-stored-i : goal.offset_bounds-stored-i
-offset_bounds-stored-i c = omega (arith, long (goal.at.offset_bounds-stored-i c).At-loop-i, c.requires.lengths.stored)
-
-pub bounds-stored-i : goal.bounds-stored-i
-bounds-stored-i c = omega (arith, long (goal.at.bounds-stored-i c).At-loop-i, c.requires.lengths.stored)
 
 pub next_request-next-requires : goal.next_request-next-requires
 next_request-next-requires c =
@@ -57,18 +45,6 @@ next_request-next-requires c =
       sharable = may_share a.factor a.w a.weights a.units.now a.stored.now (length a.requests.now) c.requires c.loop-i.i
           c.own_need-need.result c.own_need-need.type_inv c.own_need-need.ensures.result_bound;
     }
-
-pub offset_bounds-requests-i-in-loop-i : goal.offset_bounds-requests-i-in-loop-i
-offset_bounds-requests-i-in-loop-i c = omega (arith, long (goal.at.offset_bounds-requests-i-in-loop-i c).At-loop-i)
-
-pub bounds-requests-i : goal.bounds-requests-i
-bounds-requests-i c = omega (arith, long (goal.at.bounds-requests-i c).At-loop-i)
-
-pub overflow_add-i : goal.overflow_add-i
-overflow_add-i c = omega (arith, long (goal.at.overflow_add-i c).At-loop-i)
-
-pub loop-i-smaller : goal.loop-i-smaller
-loop-i-smaller c = omega (arith, long (goal.at.loop-i-smaller c).At-loop-i)
 
 pub loop-i-preserved : goal.loop-i-preserved
 loop-i-preserved c =
@@ -79,9 +55,6 @@ loop-i-preserved c =
     let r = to_z w32 (of_z w32 (get_or c.loop-i.requests i (pos 0))) in
     reached_step (at (goal.at.loop-i-preserved c).Start) a.requests.now c.loop-i.requests c.loop-i.changed i c.loop-i.invariant (omega (arith, long (goal.at.loop-i-preserved c).At-loop-i)) c.next_request-next.result c.old-1.given c.next_request-next.type_inv
     (next_is a.charging a.factor a.w a.weights a.units.now a.stored.now (back64 c.own_need-need.result) i r c.next_request-next.result own c.next_request-next.ensures)
-
-pub shape_of-requests : goal.shape_of-requests
-shape_of-requests c = long (goal.at.shape_of-requests c).At-loop-i
 
 pub returns : goal.returns
 returns c =

@@ -36,18 +36,6 @@ plain_is z =
 pub loop-i-init : goal.loop-i-init
 loop-i-init c = reached_none (at c) (begun c).args.requests.now
 
-pub offset_bounds-requests-i : goal.offset_bounds-requests-i
-offset_bounds-requests-i c = omega (arith, long (goal.at.offset_bounds-requests-i c).At-loop-i)
-
-pub slice_copy_out-old : goal.slice_copy_out-old
-slice_copy_out-old c = omega (arith, long (goal.at.slice_copy_out-old c).At-loop-i)
-
-pub offset_bounds-stored-i : goal.offset_bounds-stored-i
-offset_bounds-stored-i c = omega (arith, long (goal.at.offset_bounds-stored-i c).At-loop-i, (begun (goal.at.offset_bounds-stored-i c).After-size64-size).requires.sharing.lengths.stored)
-
-pub bounds-stored-i : goal.bounds-stored-i
-bounds-stored-i c = omega (arith, long (goal.at.bounds-stored-i c).At-loop-i, (begun (goal.at.bounds-stored-i c).After-size64-size).requires.sharing.lengths.stored)
-
 pub next_sized-next-requires : goal.next_sized-next-requires
 next_sized-next-requires c =
     let s = begun (goal.at.next_sized-next-requires c).After-size64-size in
@@ -55,25 +43,10 @@ next_sized-next-requires c =
     let p = s.requires.sharing in
     let small = le_trans (le_of_eq (c.size64-size.ensures ∙ ap nat_abs (plain_read s))) (p.linked.modest.current_small s.requires.current_value) in record { i_in_bounds = row_there a.factor a.w a.weights a.units.now a.stored.now (length a.requests.now) p c.loop-i.i (omega (arith, long (goal.at.next_sized-next-requires c).At-loop-i)); sharable_by_size = may_size a.factor a.w a.weights a.units.now a.stored.now (length a.requests.now) p c.loop-i.i c.size64-size.result small s.requires.le_weights }
 
-pub offset_bounds-requests-i-in-loop-i : goal.offset_bounds-requests-i-in-loop-i
-offset_bounds-requests-i-in-loop-i c = omega (arith, long (goal.at.offset_bounds-requests-i-in-loop-i c).At-loop-i)
-
-pub bounds-requests-i : goal.bounds-requests-i
-bounds-requests-i c = omega (arith, long (goal.at.bounds-requests-i c).At-loop-i)
-
-pub overflow_add-i : goal.overflow_add-i
-overflow_add-i c = omega (arith, long (goal.at.overflow_add-i c).At-loop-i)
-
-pub loop-i-smaller : goal.loop-i-smaller
-loop-i-smaller c = omega (arith, long (goal.at.loop-i-smaller c).At-loop-i)
-
 pub loop-i-preserved : goal.loop-i-preserved
 loop-i-preserved c =
     reached_step (at (goal.at.loop-i-preserved c).After-size64-size) (begun (goal.at.loop-i-preserved c).After-size64-size).args.requests.now c.loop-i.requests c.loop-i.changed c.loop-i.i c.loop-i.invariant (omega (arith, long (goal.at.loop-i-preserved c).At-loop-i))
     c.next_sized-next.result c.old-1.given c.next_sized-next.type_inv c.next_sized-next.ensures
-
-pub shape_of-requests : goal.shape_of-requests
-shape_of-requests c = long (goal.at.shape_of-requests c).At-loop-i
 
 pub returns : goal.returns
 returns c =

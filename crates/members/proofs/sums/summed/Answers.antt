@@ -45,9 +45,6 @@ overflow_add-reserve c =
       c.reserve_of-reserve.ensures,
     )
 
-pub overflow_cast-weight : goal.overflow_cast-weight
-overflow_cast-weight c = omega (arith, c.weight_of.type_inv)
-
 pub overflow_add-weight : goal.overflow_add-weight
 overflow_add-weight c =
     let rows = c.args.units.now in
