@@ -104,12 +104,13 @@ module _ (s : Settings) (load : ℤ) (f : Fleet) (budget n : ℕ) where
       no_less k = omega arith
 
   -- the budget is used up
-  pub way_ends : (rs : List ℤ) (passes : ℕ) → OnTheWay rs passes → budget ≤ passes → DoneStudy s load f budget n rs (record { settled = false; passes = passes })
+  pub way_ends : (rs : List ℤ) (passes : ℕ) → OnTheWay rs passes → budget ≤ passes → DoneStudy s load f budget n rs (record { settled = false; passes = budget })
   unfolding study_from
   way_ends rs passes w h =
       let none : budget - passes ≡ 0 = omega (arith, w.upto) in
       let is : record { requests = rs; settled = false; changing = passes } ≡ study_of s load f budget n = sym (ap (λ (k : ℕ). study_from s load f k passes rs) none) ∙ w.rest in
-      record { requests = ap (λ (r : Study). r.requests) is; settled = ap (λ (r : Study). r.settled) is; passes = ap (λ (r : Study). r.changing) is }
+      let all : budget ≡ passes = omega (arith, w.upto) in
+      record { requests = ap (λ (r : Study). r.requests) is; settled = ap (λ (r : Study). r.settled) is; passes = all ∙ ap (λ (r : Study). r.changing) is }
 
   module _ (rs : List ℤ) (passes : ℕ) (w : OnTheWay rs passes) (below : passes < budget) (m : ℤ) (em : Measured load rs m) (after : List ℤ) (p : Passed)
       (d : DonePass s m f rs after p) where

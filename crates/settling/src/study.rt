@@ -61,8 +61,7 @@ pub fn settle_within(
     let load = q.load;
     let budget = q.budget;
     members::clear(requests);
-    let mut passes: u32 = 0;
-    while passes < budget {
+    for passes in 0..budget {
         let m = measure(load, requests);
         let p = controller::pass_within(s, m, t, units, stored, requests);
         if !p.changed {
@@ -71,11 +70,10 @@ pub fn settle_within(
                 passes,
             };
         }
-        passes += 1;
     }
     Studied {
         settled: false,
-        passes,
+        passes: budget,
     }
 }
 

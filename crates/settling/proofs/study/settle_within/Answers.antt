@@ -1,4 +1,4 @@
-use Prim.Native.Nat.{ℕ, ◌-◌, ◌≤◌}
+use Prim.Native.Nat.{ℕ, ◌≤◌}
 use mathlib.Core.Path.{◌≡◌, refl, sym, ap, ◌∙◌, subst⁻¹}
 use mathlib.Core.Bool.{true, false}
 use native.Mathlib.Nat.{lt_of_le_of_lt}
@@ -28,9 +28,6 @@ count k = ap length k.clear.ensures.requests_after ∙ each_length (λ (i : ℕ)
 pub shaved-s-requires : goal.shaved-s-requires
 shaved-s-requires c = tt
 
-pub clear-requires : goal.clear-requires
-clear-requires c = tt
-
 pub loop-passes-init : goal.loop-passes-init
 loop-passes-init c =
     let s = start (goal.at.loop-passes-init c).After-clear in
@@ -46,10 +43,6 @@ measure-m-requires c =
 pub pass_within-p-requires : goal.pass_within-p-requires
 pass_within-p-requires c =
     let s = start (goal.at.pass_within-p-requires c).After-clear in record { sound = pass_sound s.args.q (fleet s) (length s.args.requests.now) s.requires.trying c.shaved-s.result c.shaved-s.ensures (length c.loop-passes.requests) (c.loop-passes.invariant.units ∙ count (goal.at.pass_within-p-requires c).After-clear) c.measure-m.result c.measure-m.ensures.small; totals_of = s.requires.totals_of }
-
-pub shape_of-requests-then-not-p : goal.shape_of-requests-then-not-p
-shape_of-requests-then-not-p c =
-    c.pass_within-p.auto.requests ∙ c.loop-passes.invariant.units ∙ count (goal.at.shape_of-requests-then-not-p c).After-clear
 
 pub returns-then-not-p : goal.returns-then-not-p
 returns-then-not-p c =
@@ -74,13 +67,10 @@ loop-passes-preserved c =
     way_goes_on c.shaved-s.result (back64 q.load) (fleet s) q.budget (length c.clear.new.requests) c.loop-passes.requests c.loop-passes.passes c.loop-passes.invariant c.loop-passes-test.true (back64 m)
     (subst⁻¹ (Measured (back64 q.load) c.loop-passes.requests) eb em) c.pass_within-p.new.requests c.pass_within-p.result c.pass_within-p.ensures c.if-not-p.false
 
-pub shape_of-requests : goal.shape_of-requests
-shape_of-requests c = c.loop-passes.invariant.units ∙ count (goal.at.shape_of-requests c).After-clear
-
 pub returns : goal.returns
 returns c =
     let s = start (goal.at.returns c).After-clear in
     let q = s.args.q in
     let n = length c.clear.new.requests in
-    asked_for q (fleet s) (length s.args.requests.now) s.requires.trying c.shaved-s.result c.shaved-s.ensures n (count (goal.at.returns c).After-clear) c.loop-passes.requests (record { settled = false; passes = c.loop-passes.passes })
+    asked_for q (fleet s) (length s.args.requests.now) s.requires.trying c.shaved-s.result c.shaved-s.ensures n (count (goal.at.returns c).After-clear) c.loop-passes.requests (record { settled = false; passes = q.budget })
     (way_ends c.shaved-s.result (back64 q.load) (fleet s) q.budget n c.loop-passes.requests c.loop-passes.passes c.loop-passes.invariant c.loop-passes-test.false)
