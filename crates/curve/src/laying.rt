@@ -24,9 +24,7 @@ pub fn lay(xs: &[i32], ys: &[i32], room: &mut [u8])
     ensures room_after { points_at room.new 0 ≡ points_of xs.now ys.now }
 {
     octets::put_u8(room, 0, xs.len() as u8);
-    let mut i = 0;
-    while i < xs.len() {
+    for i in 0..xs.len() {
         put_point(room, i, xs[i], ys[i]);
-        i += 1;
     }
 }

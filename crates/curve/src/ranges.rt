@@ -34,12 +34,10 @@ fn each_in(b: Bounds, bytes: &[u8], place: usize, n: usize) -> bool
     ensures { result ≡ all_of n (point_in b (points_from n 0 bytes.now place)) }
 {
     let mut ok = true;
-    let mut i = 0;
-    while i < n {
+    for i in 0..n {
         let x = points::x_at(bytes, place, i);
         let y = points::y_at(bytes, place, i);
         ok = ok & (in_bounds(b, x, y) & rises(bytes, place, i));
-        i += 1;
     }
     ok
 }
@@ -63,10 +61,8 @@ fn rest_in(bytes: &[u8], place: usize, n: usize) -> bool
     ensures { result ≡ all_of (16 - n) (λ (i : ℕ). eqb (be 8 bytes.now (place + 1 + 8 * (n + i))) 0) }
 {
     let mut ok = true;
-    let mut i = 0;
-    while i < 16 - n {
+    for i in 0..16 - n {
         ok = ok & (octets::u64_at(bytes, place + 1 + 8 * (n + i)) == 0);
-        i += 1;
     }
     ok
 }

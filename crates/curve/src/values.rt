@@ -14,14 +14,12 @@ fn segment(bytes: &[u8], place: usize, n: usize, x: i64) -> usize
     ensures before { (k : ℕ) → k < result → lt_z x (x_at bytes.now place k) ≡ false }
     ensures found { result < n → lt_z x (x_at bytes.now place result) ≡ true }
 {
-    let mut i = 0;
-    while i < n {
+    for i in 0..n {
         if x < points::x_at(bytes, place, i) as i64 {
             return i;
         }
-        i += 1;
     }
-    i
+    n
 }
 
 // The straight line from one point to another at x.

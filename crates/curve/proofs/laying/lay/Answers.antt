@@ -1,4 +1,3 @@
-use mathlib.Core.Path.{sym, ◌∙◌}
 use native.Mathlib.Omega.{arith}
 use Rattle.curve.proofs.LayLaws.{laying_none, laying_more, laying_all}
 use Rattle.curve.proofs.laying.lay.Goals as goal
@@ -8,17 +7,11 @@ loop-i-init c =
     let a = c.args in
     laying_none a.xs.now a.ys.now c.requires.xs_len_bound a.room.now c.put_u8.new.s c.requires.room_len c.put_u8.ensures
 
-pub put_point-requires : goal.put_point-requires
-put_point-requires c = record { room_len = c.loop-i.invariant.long; i_bound = omega arith }
-
 pub loop-i-preserved : goal.loop-i-preserved
 loop-i-preserved c =
     let a = c.args in
     laying_more a.xs.now a.ys.now c.requires.xs_len_bound c.loop-i.room c.put_point.new.room c.loop-i.i c.loop-i.invariant (omega arith)
     c.put_point-arg-in-loop-i-1.given c.put_point-arg-in-loop-i-2-1.given c.put_point.ensures
-
-pub shape_of-room : goal.shape_of-room
-shape_of-room c = c.loop-i.invariant.long ∙ sym c.requires.room_len
 
 pub returns : goal.returns
 returns c =

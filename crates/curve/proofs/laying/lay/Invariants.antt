@@ -1,11 +1,6 @@
 -- The count is laid first; so far the points passed can be read back.
-use Prim.Native.Nat.{◌-◌}
-use lib.ListN.{length}
 use Rattle.curve.proofs.LayLaws.{Laying}
 use Rattle.curve.proofs.laying.lay.Given as goal
 
 abbrev pub invariant-loop-i : goal.invariant-loop-i
 invariant-loop-i l = Laying l.xs l.ys l.room l.i
-
-abbrev pub decreases-loop-i : goal.decreases-loop-i
-decreases-loop-i l = length l.xs - l.i

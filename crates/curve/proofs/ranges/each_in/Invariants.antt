@@ -1,5 +1,4 @@
 -- So far ok says that the points passed are as they must be.
-use Prim.Native.Nat.{◌-◌, ◌≤◌}
 use mathlib.Core.Path.{◌≡◌}
 use Rattle.whole.specs.Over.{all_of}
 use Rattle.curve.specs.Ranges.{point_in}
@@ -7,7 +6,4 @@ use Rattle.curve.specs.Layout.{points_from}
 use Rattle.curve.proofs.ranges.each_in.Given as goal
 
 abbrev pub invariant-loop-i : goal.invariant-loop-i
-invariant-loop-i l = (l.i ≤ l.n) × (l.ok ≡ all_of l.i (point_in l.b (points_from l.n 0 l.bytes l.place)))
-
-abbrev pub decreases-loop-i : goal.decreases-loop-i
-decreases-loop-i l = l.n - l.i
+invariant-loop-i l = l.ok ≡ all_of l.i (point_in l.b (points_from l.n 0 l.bytes l.place))

@@ -1,5 +1,5 @@
 -- The points passed are not right of x.
-use Prim.Native.Nat.{ℕ, ◌-◌, ◌≤◌, ◌<◌}
+use Prim.Native.Nat.{ℕ, ◌<◌}
 use mathlib.Core.Path.{◌≡◌}
 use mathlib.Core.Bool.{false}
 use lib.Signed.{lt_z}
@@ -7,7 +7,4 @@ use Rattle.curve.specs.Layout.{x_at}
 use Rattle.curve.proofs.values.segment.Given as goal
 
 abbrev pub invariant-loop-i : goal.invariant-loop-i
-invariant-loop-i l = (l.i ≤ l.n) × ((k : ℕ) → k < l.i → lt_z l.x (x_at l.bytes l.place k) ≡ false)
-
-abbrev pub decreases-loop-i : goal.decreases-loop-i
-decreases-loop-i l = l.n - l.i
+invariant-loop-i l = (k : ℕ) → k < l.i → lt_z l.x (x_at l.bytes l.place k) ≡ false
