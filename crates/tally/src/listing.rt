@@ -34,10 +34,5 @@ pub fn put(f: Figures, list: &mut [i64])
         f.loss_j as i64,
         f.not_met as i64,
     ];
-    let mut i = 0;
-    while i < HOW_MANY {
-        let z = all[i];
-        list[i] = z;
-        i += 1;
-    }
+    list.copy_from_slice(&all);
 }
