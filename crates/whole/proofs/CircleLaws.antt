@@ -1,5 +1,5 @@
 -- The circle: watts are at most what is asked and at most S, and vars leave them in it. Assumes nothing.
-use mathlib.Core.Path.{◌≡◌, sym, ap, ◌∙◌}
+use mathlib.Core.Path.{◌≡◌, sym, ap}
 use mathlib.Core.Bool.{Bool, cond}
 use Prim.Native.Nat.{ℕ, ◌+◌, ◌*◌, ◌≤◌, min}
 use native.Mathlib.Nat.{le_trans, le_of_eq, min-le_left, min-le_right}
@@ -8,7 +8,6 @@ use lib.Dec.{eqb}
 use lib.IntN.{nat_abs}
 use borrow.Author.Tests.{eq-eqb, ne_eqb}
 use Rattle.whole.specs.Largest.{leg_of}
-use Rattle.whole.specs.Signed.{signed}
 use Rattle.whole.specs.Circle.{watts_in, vars_in}
 use Rattle.whole.proofs.Choice.{by_test}
 use Rattle.whole.proofs.LargestLaws.{square_le, leg_in}

@@ -18,10 +18,9 @@ pub fn leg(s: u32, y: u32) -> u32
     let radius = s as u64;
     let side = y as u64;
     let mut left = radius * radius - side * side;
-    let mut k = (65 - u64::leading_zeros(left)) / 2;
+    let bits = (65 - u64::leading_zeros(left)) / 2;
     let mut low: u64 = 0;
-    while 0 < k {
-        k -= 1;
+    for k in (0..bits).rev() {
         let at = 2 * k;
         let more = low + (1u64 << at);
         let fits = (more <= left) as u64;

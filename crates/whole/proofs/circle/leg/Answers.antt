@@ -26,8 +26,8 @@ overflow_mul-left-2 c = record { fits = square_fits c.args.y c.ranges.y.fits }
 pub overflow_sub-left : goal.overflow_sub-left
 overflow_sub-left c = square_le c.if-s-y.false
 
-pub overflow_sub-k : goal.overflow_sub-k
-overflow_sub-k c = let s = c.args in let l = leading_le 64 (s.s * s.s - s.y * s.y) in omega arith
+pub overflow_sub-bits : goal.overflow_sub-bits
+overflow_sub-bits c = let s = c.args in let l = leading_le 64 (s.s * s.s - s.y * s.y) in omega arith
 
 pub loop-k-init : goal.loop-k-init
 loop-k-init c =

@@ -6,6 +6,3 @@ use Rattle.whole.proofs.circle.leg.Given as goal
 
 abbrev pub invariant-loop-k : goal.invariant-loop-k
 invariant-loop-k l = Held (l.s * l.s - l.y * l.y) l.k l.left l.low
-
-abbrev pub decreases-loop-k : goal.decreases-loop-k
-decreases-loop-k l = l.k
