@@ -1,5 +1,5 @@
 -- Numbers and their bytes, at every width: a number of n + m bytes is one of n bytes and one of m bytes behind it. Assumes nothing.
-use mathlib.Core.Path.{◌≡◌, refl, sym}
+use mathlib.Core.Path.{◌≡◌, refl, sym, ap}
 use mathlib.Core.List.{List, [], ◌∷◌, ◌++◌, append-nil, append_assoc}
 use Prim.Native.Nat.{ℕ, zero, suc, ◌+◌, ◌*◌, ◌/◌, ◌%◌, ◌^◌, ◌<◌}
 use native.Mathlib.Nat.{add-zero, zero-add, add-suc, add_assoc, mul_assoc, pow-suc, pow-succ', div-one, div-div-eq-div-mul, mod-one, one-le-pow, le_step, lt-suc_self}
@@ -9,25 +9,12 @@ use lib.Arith.{digits_lt, mod-mul}
 use lib.Dec.{lit<}
 use lib.ListN.{length, get_or, length-append, get_or-append}
 use lib.Seq.{get_or_at}
-use mir.Syntax.{w8, w16}
-use mir.Val.{Fits}
+use Rattle.std.specs.Int.{byte_at, bytes_high_first}
 use Rattle.octets.specs.BigEndian.{be, bytes_of}
 
 -- every place weighs something
 pub pow_pos : (n : ℕ) → 0 < 256 ^ n
 pow_pos n = one-le-pow n 256 (lit< tt)
-
--- a byte fits 16 bits
-pub byte_fits : {a : ℕ} → Fits w8 a → Fits w16 a
-byte_fits h = omega arith
-
--- so it does with the weight of the first of two
-pub high_fits : {a : ℕ} → Fits w8 a → Fits w16 (a * 256)
-high_fits h = omega arith
-
--- and so do two together
-pub both_fit : {a b : ℕ} → Fits w8 a → Fits w8 b → Fits w16 (a * 256 + b)
-both_fit h l = omega arith
 
 -- ---- the number in the bytes
 
@@ -50,6 +37,18 @@ be_split n (suc m) s at =
 -- the first of n + 1 bytes weighs most
 pub be_first : (n : ℕ) (s : List ℕ) (at : ℕ) → be (suc n) s at ≡ get_or s at 0 * 256 ^ n + be n s (at + 1)
 be_first n s at = rw (← one-add n, be_split 1 n s at, be_one s at)
+
+-- two, four and eight bytes, each with its weight
+pub be_2 : (s : List ℕ) (at : ℕ) → be 2 s at ≡ get_or s at 0 * 256 + get_or s (at + 1) 0
+be_2 s at = omega (arith, be_split 1 1 s at, be_one s at, be_one s (at + 1))
+
+pub be_4 : (s : List ℕ) (at : ℕ) → be 4 s at ≡ get_or s at 0 * 256 ^ 3 + get_or s (at + 1) 0 * 256 ^ 2 + get_or s (at + 2) 0 * 256 + get_or s (at + 3) 0
+be_4 s at = rw (be_split 2 2 s at, be_2 s at, be_2 s (at + 2), add_assoc at 2 1) (omega arith)
+
+pub be_8 : (s : List ℕ) (at : ℕ)
+    → be 8 s at ≡ get_or s at 0 * 256 ^ 7 + get_or s (at + 1) 0 * 256 ^ 6 + get_or s (at + 2) 0 * 256 ^ 5 + get_or s (at + 3) 0 * 256 ^ 4
+    + get_or s (at + 4) 0 * 256 ^ 3 + get_or s (at + 5) 0 * 256 ^ 2 + get_or s (at + 6) 0 * 256 + get_or s (at + 7) 0
+be_8 s at = rw (be_split 4 4 s at, be_4 s at, be_4 s (at + 4), add_assoc at 4 1, add_assoc at 4 2, add_assoc at 4 3) (omega arith)
 
 -- the number is known by its bytes
 pub be_same : (n : ℕ) (s t : List ℕ) (at to : ℕ) → ((i : ℕ) → i < n → get_or s (at + i) 0 ≡ get_or t (to + i) 0) → be n s at ≡ be n t to
@@ -85,6 +84,16 @@ bytes_one v = refl
 -- the highest of n + 1 bytes comes first
 pub bytes_first : (n v : ℕ) → bytes_of (suc n) v ≡ v / 256 ^ n % 256 ∷ bytes_of n v
 bytes_first n v = rw (← one-add n, bytes_split 1 n v, bytes_one (v / 256 ^ n))
+
+-- the library's bytes of a number, the highest first, are these
+pub high_first : (n v : ℕ) → bytes_high_first n v ≡ bytes_of n v
+unfolding bytes_of
+high_first zero v = refl
+high_first (suc n) v = rw (bytes_first n v, high_first n v) (ap (λ (b : ℕ). b ∷ bytes_of n v) (byte_is n))
+  where
+    byte_is : (k : ℕ) → byte_at k v ≡ v / 256 ^ k % 256
+    byte_is zero = rw (div-one v)
+    byte_is (suc k) = refl
 
 -- ---- there and back
 

@@ -8,6 +8,7 @@ use native.Mathlib.Numerals.{add-one}
 use native.Mathlib.Omega.{arith}
 use lib.ListN.{length, get_or, take, drop, set, length-append, length-take, length-drop, get_or-append}
 use lib.Seq.{length-take-le, take_at, drop-append-add, drop-drop, get_or-append-add, get_or-take, get_or-drop, set_split, append_snoc}
+use borrow.Rule.Slice.PartMut.{put_mid}
 use Rattle.octets.proofs.ByteLaws.{be_same, be_bytes, bytes_length}
 use Rattle.octets.specs.BigEndian.{be, bytes_of, laid}
 
@@ -25,6 +26,13 @@ laid_set s at v h = rw (append_snoc (take at s) v (drop (at + 1) s), add-one at)
 pub laid_one : (s : List ℕ) (at v : ℕ) → at < length s → v < 256 → set s at v ≡ laid s at (bytes_of 1 v)
 unfolding bytes_of
 laid_one s at v h l = rw (mod-eq_of_lt l) (laid_set s at v h)
+
+-- bytes copied over a part of the list are laid there
+pub copied_is : (s : List ℕ) (at n : ℕ) (now bs : List ℕ) → length bs ≡ n → now ≡ bs → put_mid at (at + n - at) s now ≡ laid s at bs
+unfolding laid
+copied_is s at n now bs l e =
+    let k : at + n - at ≡ length bs = omega arith in
+    rw (k, e, append_assoc (take at s) bs (drop (at + length bs) s), drop-drop (length bs) at s)
 
 -- at a place of the list
 module _ (s : List ℕ) (at : ℕ) (h : at ≤ length s) where

@@ -1,6 +1,4 @@
 -- Laws about the definitions of `specs/`, for this crate's proofs and for those above it.
 pub mod ByteLaws
 pub mod LaidLaws
-pub mod LowLaws
-pub mod ComplementLaws
 pub mod NanLaws

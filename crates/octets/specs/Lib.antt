@@ -1,3 +1,2 @@
 -- Numbers and doubles at a place of a list of bytes.
 pub mod BigEndian
-pub mod LowFirst

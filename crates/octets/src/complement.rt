@@ -6,20 +6,12 @@ ghost use Rattle.std.proofs.Common.{to_z, of_z};
 pub fn signed_of(bits: u32) -> i32
     ensures { result ≡ to_z w32 bits }
 {
-    if bits < 2147483648 {
-        bits as i32
-    } else {
-        -1 - ((4294967295 - bits) as i32)
-    }
+    bits.cast_signed()
 }
 
 // The 32 bits of a signed number, two's complement.
 pub fn pattern_of(v: i32) -> u32
     ensures { result ≡ of_z w32 v }
 {
-    if v < 0 {
-        4294967295 - ((-1 - v) as u32)
-    } else {
-        v as u32
-    }
+    v.cast_unsigned()
 }

@@ -5,7 +5,6 @@
 
 mod complement;
 mod doubles;
-mod lows;
 mod reads;
 mod writes;
 

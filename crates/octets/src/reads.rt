@@ -3,7 +3,7 @@ ghost use Rattle.std.specs.Int.{w32, w64};
 ghost use Rattle.std.proofs.Common.{to_z};
 ghost use Rattle.octets.specs.BigEndian.{be};
 
-use super::{complement, lows};
+use super::complement;
 
 // The byte at a place.
 pub fn u8_at(s: &[u8], at: usize) -> u8
@@ -18,7 +18,7 @@ pub fn u16_at(s: &[u8], at: usize) -> u16
     requires { at + 2 ≤ length s.now }
     ensures { result ≡ be 2 s.now at }
 {
-    (s[at] as u16) * 256 + (s[at + 1] as u16)
+    u16::from_be_bytes([s[at], s[at + 1]])
 }
 
 // The number in four bytes at a place.
@@ -26,7 +26,7 @@ pub fn u32_at(s: &[u8], at: usize) -> u32
     requires { at + 4 ≤ length s.now }
     ensures { result ≡ be 4 s.now at }
 {
-    lows::swap32(lows::low32_at(s, at))
+    u32::from_be_bytes([s[at], s[at + 1], s[at + 2], s[at + 3]])
 }
 
 // The number in eight bytes at a place.
@@ -34,7 +34,16 @@ pub fn u64_at(s: &[u8], at: usize) -> u64
     requires { at + 8 ≤ length s.now }
     ensures { result ≡ be 8 s.now at }
 {
-    lows::swap64(lows::low64_at(s, at))
+    u64::from_be_bytes([
+        s[at],
+        s[at + 1],
+        s[at + 2],
+        s[at + 3],
+        s[at + 4],
+        s[at + 5],
+        s[at + 6],
+        s[at + 7],
+    ])
 }
 
 // The signed number, two's complement, in four bytes at a place.
@@ -50,10 +59,5 @@ pub fn i64_at(s: &[u8], at: usize) -> i64
     requires { at + 8 ≤ length s.now }
     ensures { result ≡ to_z w64 (be 8 s.now at) }
 {
-    let v = u64_at(s, at);
-    if v < 9223372036854775808 {
-        v as i64
-    } else {
-        -1 - ((18446744073709551615 - v) as i64)
-    }
+    u64_at(s, at).cast_signed()
 }

@@ -3,7 +3,7 @@ ghost use Rattle.std.specs.Int.{w32};
 ghost use Rattle.std.proofs.Common.{of_z};
 ghost use Rattle.octets.specs.BigEndian.{bytes_of, laid};
 
-use super::{complement, lows};
+use super::complement;
 
 // Lays a byte at a place.
 pub fn put_u8(s: &mut [u8], at: usize, v: u8)
@@ -18,7 +18,7 @@ pub fn put_u16(s: &mut [u8], at: usize, v: u16)
     requires { at + 2 ≤ length s.old }
     ensures { s.new ≡ laid s.old at (bytes_of 2 v) }
 {
-    lows::put_low16(s, at, lows::swap16(v));
+    s[at..at + 2].copy_from_slice(&v.to_be_bytes());
 }
 
 // Lays a number over four bytes at a place.
@@ -26,7 +26,7 @@ pub fn put_u32(s: &mut [u8], at: usize, v: u32)
     requires { at + 4 ≤ length s.old }
     ensures { s.new ≡ laid s.old at (bytes_of 4 v) }
 {
-    lows::put_low32(s, at, lows::swap32(v));
+    s[at..at + 4].copy_from_slice(&v.to_be_bytes());
 }
 
 // Lays a number over eight bytes at a place.
@@ -34,7 +34,7 @@ pub fn put_u64(s: &mut [u8], at: usize, v: u64)
     requires { at + 8 ≤ length s.old }
     ensures { s.new ≡ laid s.old at (bytes_of 8 v) }
 {
-    lows::put_low64(s, at, lows::swap64(v));
+    s[at..at + 8].copy_from_slice(&v.to_be_bytes());
 }
 
 // Lays a signed number, two's complement, over four bytes at a place.

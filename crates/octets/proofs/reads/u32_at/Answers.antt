@@ -1,13 +1,7 @@
--- The bytes are read with the first weighing least, and swapped: that is the big-endian number.
-use mathlib.Core.Path.{ap, ◌∙◌}
-use Rattle.octets.proofs.LowLaws.{swapped_be_back}
-use Rattle.octets.specs.LowFirst.{swapped}
+-- The library's number of four bytes is the big-endian one.
+use native.Mathlib.Omega.{arith}
+use Rattle.octets.proofs.ByteLaws.{be_4}
 use Rattle.octets.proofs.reads.u32_at.Goals as goal
 
 pub returns : goal.returns
-returns c =
-    let start = c.before.before in
-    let x = start.args in
-    c.swap32.ensures
-    ∙ ap (swapped 4) c.low32_at.ensures
-    ∙ swapped_be_back x.s.now x.at (λ i. (start.shared_slice_known-1.given i).fits) 4
+returns c = omega (arith, be_4 c.args.s.now c.args.at, c.from_be_bytes.ensures)

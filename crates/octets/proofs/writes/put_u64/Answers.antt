@@ -1,8 +1,11 @@
--- The bytes of the swapped number, the lowest first, are those of the number, the highest first.
-use Rattle.octets.proofs.LowLaws.{low_bytes_swapped}
+-- The library's eight bytes of the number are the big-endian ones, and they are copied over those at the place.
+use mathlib.Core.Path.{◌∙◌}
+use Rattle.octets.proofs.LaidLaws.{copied_is}
+use Rattle.octets.proofs.ByteLaws.{bytes_length, high_first}
+use Rattle.octets.specs.BigEndian.{bytes_of}
 use Rattle.octets.proofs.writes.put_u64.Goals as goal
 
 pub returns : goal.returns
 returns c =
-    let put = c.before.before in
-    cc (put.put_low64.ensures, put.swap64.ensures, low_bytes_swapped 8 put.args.v)
+    let x = c.args in
+    copied_is x.s.now x.at 8 c.copy_from_slice.new.self (bytes_of 8 x.v) (bytes_length 8 x.v) (c.copy_from_slice.ensures.after ∙ c.to_be_bytes.ensures ∙ high_first 8 x.v)
