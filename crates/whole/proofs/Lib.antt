@@ -4,5 +4,6 @@ pub mod SignLaws
 pub mod QuotientLaws
 pub mod LargestLaws
 mod BitLaws
+pub mod ChainLaws
 pub mod CircleLaws
 pub mod OverLaws
