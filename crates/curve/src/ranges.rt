@@ -60,11 +60,7 @@ fn rest_in(bytes: &[u8], place: usize, n: usize) -> bool
     requires n_bound { n ≤ 16 }
     ensures { result ≡ all_of (16 - n) (λ (i : ℕ). eqb (be 8 bytes.now (place + 1 + 8 * (n + i))) 0) }
 {
-    let mut ok = true;
-    for i in 0..16 - n {
-        ok = ok & (octets::u64_at(bytes, place + 1 + 8 * (n + i)) == 0);
-    }
-    ok
+    (n..16).all(|i| octets::u64_at(bytes, place + 1 + 8 * i) == 0)
 }
 
 // So are they, and the places past them hold 0.

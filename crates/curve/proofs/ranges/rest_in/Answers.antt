@@ -1,25 +1,16 @@
-use Prim.Native.Nat.{ℕ, ◌+◌, ◌-◌, ◌*◌}
-use mathlib.Core.Path.{◌≡◌, refl, sym, ap, ap₂, ◌∙◌}
-use mathlib.Core.Bool.{◌&&◌}
-use native.Mathlib.Omega.{arith}
+-- The places are tested one by one, from that behind the last point on.
+use Rattle.std.proofs.Common.{rules, ◌≡◌, refl, ℕ, ◌+◌, ◌*◌, ◌-◌, true, false, Bool}
+use borrow.Author.Tests.{tests}
 use lib.Dec.{eqb}
+use Rattle.std.proofs.lemmas.Iterator.{cases_from_all, YieldsList-from_range}
+use Rattle.whole.proofs.ChainLaws.{all_ranged}
 use Rattle.octets.specs.BigEndian.{be}
-use Rattle.whole.specs.Over.{all_of}
-use Rattle.whole.proofs.OverLaws.{all_next}
 use Rattle.curve.proofs.ranges.rest_in.Goals as goal
-
-pub loop-i-init : goal.loop-i-init
-unfolding all_of
-loop-i-init c = (refl)
-
-pub loop-i-preserved : goal.loop-i-preserved
-loop-i-preserved c =
-    let a = c.args in
-    ap₂ ◌&&◌ c.loop-i.invariant (ap (λ (v : ℕ). eqb v 0) c.u64_at.ensures)
-    ∙ sym (all_next c.loop-i.i (λ (k : ℕ). eqb (be 8 a.bytes.now (a.place + 1 + 8 * (a.n + k))) 0))
 
 pub returns : goal.returns
 returns c =
-    let a = c.args in
-    let e : c.loop-i.i ≡ 16 - a.n = omega arith in
-    c.loop-i.invariant ∙ ap (λ (m : ℕ). all_of m (λ (k : ℕ). eqb (be 8 a.bytes.now (a.place + 1 + 8 * (a.n + k))) 0)) e
+    let n = c.args.n in
+    let clear : ℕ → Bool = λ k. eqb (be 8 c.args.bytes.now (c.args.place + 1 + 8 * k)) 0 in
+    all_ranged n (16 - n) clear c.all.result
+    (cases_from_all _ _ _ (λ k. clear k ≡ true) (λ k. clear k ≡ false) c.all.ensures.ran (YieldsList-from_range n 16 (16 - n) (cc) refl)
+    (λ x q k. search (rules, tests)) (λ x q k. search (rules, tests)))
