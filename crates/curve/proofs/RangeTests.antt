@@ -2,24 +2,21 @@
 use mathlib.Core.Path.{◌≡◌, sym, ap, ap₂, ◌∙◌}
 use mathlib.Core.Bool.{Bool, true, false, not, ◌&&◌, ◌||◌}
 use mathlib.Core.List.{List}
-use Prim.Native.Nat.{ℕ, ◌+◌, ◌-◌, ◌*◌, ◌^◌, ◌≤◌, ◌<◌}
+use Prim.Native.Nat.{ℕ, ◌+◌, ◌-◌, ◌*◌, ◌≤◌, ◌<◌}
 use native.Mathlib.Nat.{zero-add}
 use native.Mathlib.Omega.{arith}
 use lib.Dec.{eqb, leb}
-use lib.IntN.{ℤ}
-use lib.Signed.{mag, lt_z}
-use mir.Syntax.{w32}
+use lib.Signed.{lt_z}
 use borrow.Author.Tests.{eq-eqb, ne_eqb, leb-true, not-true, not-false}
 use Rattle.whole.specs.Interval.{between}
 use Rattle.whole.specs.Over.{all_of}
-use Rattle.whole.proofs.OverLaws.{and_parts, all_next}
-use Rattle.whole.proofs.SignLaws.{read}
+use Rattle.whole.proofs.OverLaws.{and_parts}
+use Rattle.whole.proofs.ChainLaws.{all_same}
 use Rattle.octets.specs.BigEndian.{be}
 use Rattle.curve.specs.declared.Bounds.{Bounds}
-use Rattle.curve.specs.Curve.{Point, point}
+use Rattle.curve.specs.Curve.{Point}
 use Rattle.curve.specs.Ranges.{in_bounds, point_in, points_in}
-use Rattle.curve.specs.Layout.{count_at, x_at, y_at, points_from, points_at, rest_in, curve_in}
-use Rattle.curve.proofs.LineFits.{back32}
+use Rattle.curve.specs.Layout.{count_at, x_at, points_from, points_at, rest_in, curve_in}
 use Rattle.curve.proofs.PointLaws.{point_at, from_point, points_count}
 
 -- point 0 has none before it; any other has
@@ -44,15 +41,9 @@ module _ (b : Bounds) (bytes : List ℕ) (place : ℕ) where
       (from_point bytes place n 0 (i - 1) m ∙ ap (point_at bytes place) (zero-add (i - 1)))
       (from_point bytes place n 0 i l ∙ ap (point_at bytes place) (zero-add i)))
 
-  -- one more point tested, by its x and y as they were read
-  pub each_more : (n i : ℕ) → i < n → (ok : Bool) → ok ≡ all_of i (point_in b (points_from n 0 bytes place)) → (x y : ℤ) → mag x < 2 ^ 31 → mag y < 2 ^ 31
-      → x ≡ x_at bytes place i → y ≡ y_at bytes place i → (inside : Bool) → inside ≡ in_bounds b (point (back32 x) (back32 y))
-      → (rises : Bool) → rises ≡ (eqb i 0 || lt_z (x_at bytes place (i - 1)) (x_at bytes place i))
-      → (ok && (inside && rises)) ≡ all_of (i + 1) (point_in b (points_from n 0 bytes place))
-  each_more n i l ok eo x y hx hy ex ey inside ei rises er =
-      ap₂ ◌&&◌ eo
-      (ap₂ ◌&&◌ (ei ∙ ap₂ (λ (p q : ℤ). in_bounds b (point p q)) (read w32 x hx ∙ ex) (read w32 y hy ∙ ey)) er ∙ point_in_lem n i l)
-      ∙ sym (all_next i (point_in b (points_from n 0 bytes place)))
+  -- so each of n points is tested by its x and y
+  pub each_tested : (n : ℕ) → all_of n (λ i. in_bounds b (point_at bytes place i) && (eqb i 0 || lt_z (x_at bytes place (i - 1)) (x_at bytes place i))) ≡ all_of n (point_in b (points_from n 0 bytes place))
+  each_tested n = all_same n _ (point_in b (points_from n 0 bytes place)) (point_in_lem n)
 
   -- the whole test by the count
   points_by : points_in b (points_at bytes place) ≡ (between 2 16 (count_at bytes place) && all_of (count_at bytes place) (point_in b (points_at bytes place)))

@@ -33,13 +33,11 @@ fn each_in(b: Bounds, bytes: &[u8], place: usize, n: usize) -> bool
     requires n_bound { n ≤ 16 }
     ensures { result ≡ all_of n (point_in b (points_from n 0 bytes.now place)) }
 {
-    let mut ok = true;
-    for i in 0..n {
+    (0..n).all(|i| {
         let x = points::x_at(bytes, place, i);
         let y = points::y_at(bytes, place, i);
-        ok = ok & (in_bounds(b, x, y) & rises(bytes, place, i));
-    }
-    ok
+        in_bounds(b, x, y) & rises(bytes, place, i)
+    })
 }
 
 // The points of the curve at a place are as they must be.

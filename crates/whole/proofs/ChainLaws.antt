@@ -39,3 +39,9 @@ pub all_below : (n : ℕ) (ok : ℕ → Bool) (r : Bool)
     → MatchBool r (AllWithin (λ x. ok x ≡ true) (range_with_len 0 n) 0 (length (range_with_len 0 n))) ((k : ℕ) × (k < length (range_with_len 0 n)) × HoldsAt (λ x. ok x ≡ false) (range_with_len 0 n) k)
     → r ≡ all_of n ok
 all_below n ok r h = all_ranged 0 n ok r h ∙ ap (all_of n) (λ j i. ok (zero-add i j))
+
+-- tests that say the same below n
+pub all_same : (n : ℕ) (p q : ℕ → Bool) → ((i : ℕ) → i < n → p i ≡ q i) → all_of n p ≡ all_of n q
+unfolding all_of
+all_same zero p q h = refl
+all_same (suc n) p q h = ap₂ ◌&&◌ (all_same n p q (λ i l. h i (le_step l))) (h n (lt-suc_self n))

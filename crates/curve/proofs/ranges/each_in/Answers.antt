@@ -1,26 +1,24 @@
-use mathlib.Core.Path.{◌≡◌, refl, ap, ◌∙◌}
-use native.Mathlib.Omega.{arith}
-use Rattle.whole.specs.Over.{all_of}
-use Rattle.curve.specs.Ranges.{point_in}
-use Rattle.curve.specs.Layout.{points_from}
-use Rattle.curve.proofs.RangeTests.{each_more}
+-- Each point is read and tested.
+use Rattle.std.proofs.Common.{rules, arith, ◌≡◌, ℕ, ◌-◌, true, false, Bool, ◌∙◌}
+use borrow.Author.Tests.{tests}
+use lib.Dec.{eqb}
+use lib.Signed.{lt_z}
+use mathlib.Core.Bool.{◌&&◌, ◌||◌}
+use Rattle.std.proofs.lemmas.Iterator.{cases_from_all, YieldsList-from_range}
+use Rattle.whole.proofs.ChainLaws.{all_below}
+use Rattle.curve.specs.Ranges.{in_bounds}
+use Rattle.curve.specs.Layout.{x_at}
+use Rattle.curve.proofs.PointLaws.{point_at}
+use Rattle.curve.proofs.RangeTests.{each_tested}
 use Rattle.curve.proofs.ranges.each_in.Goals as goal
-
-pub loop-i-init : goal.loop-i-init
-unfolding all_of
-loop-i-init c = (refl)
-
-pub loop-i-preserved : goal.loop-i-preserved
-loop-i-preserved c =
-    let y = c.y_at-y in
-    let x = c.x_at-x in
-    let a = c.args in
-    let i = c.loop-i.i in
-    each_more a.b a.bytes.now a.place a.n i (omega arith) c.loop-i.ok c.loop-i.invariant x.result y.result x.type_inv y.type_inv
-    x.ensures y.ensures c.in_bounds.result c.in_bounds.ensures c.rises.result c.rises.ensures
 
 pub returns : goal.returns
 returns c =
-    let a = c.args in
-    let e : c.loop-i.i ≡ a.n = omega arith in
-    c.loop-i.invariant ∙ ap (λ k. all_of k (point_in a.b (points_from a.n 0 a.bytes.now a.place))) e
+    let n = c.args.n in
+    let s = c.args.bytes.now in
+    let p = c.args.place in
+    let fine : ℕ → Bool = λ i. in_bounds c.args.b (point_at s p i) && (eqb i 0 || lt_z (x_at s p (i - 1)) (x_at s p i)) in
+    all_below n fine c.all.result
+    (cases_from_all _ _ _ (λ k. fine k ≡ true) (λ k. fine k ≡ false) c.all.ensures.ran (YieldsList-from_range 0 n n (cc) (omega arith))
+    (λ x q k. search (rules, tests)) (λ x q k. search (rules, tests)))
+    ∙ each_tested c.args.b s p n
