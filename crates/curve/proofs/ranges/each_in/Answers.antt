@@ -4,13 +4,16 @@ use borrow.Author.Tests.{tests}
 use lib.Dec.{eqb}
 use lib.Signed.{lt_z}
 use mathlib.Core.Bool.{◌&&◌, ◌||◌}
-use Rattle.std.proofs.lemmas.Iterator.{cases_from_all, YieldsList-from_range}
+use Rattle.std.proofs.lemmas.Iterator.{serves_from_Range, cases_from_all, YieldsList-from_range}
 use Rattle.whole.proofs.ChainLaws.{all_below}
 use Rattle.curve.specs.Ranges.{in_bounds}
 use Rattle.curve.specs.Layout.{x_at}
 use Rattle.curve.proofs.PointLaws.{point_at}
 use Rattle.curve.proofs.RangeTests.{each_tested}
 use Rattle.curve.proofs.ranges.each_in.Goals as goal
+
+pub all-requires-clause-callable : goal.all-requires-clause-callable
+all-requires-clause-callable c = serves_from_Range (λ x q r. search rules) (λ x low high. search rules)
 
 pub returns : goal.returns
 returns c =
