@@ -3,8 +3,6 @@ ghost use Rattle.std.specs.Int.{w32, w64};
 ghost use Rattle.std.proofs.Common.{to_z};
 ghost use Rattle.octets.specs.BigEndian.{be};
 
-use super::complement;
-
 // The byte at a place.
 pub fn u8_at(s: &[u8], at: usize) -> u8
     requires { at + 1 ≤ length s.now }
@@ -51,7 +49,7 @@ pub fn i32_at(s: &[u8], at: usize) -> i32
     requires { at + 4 ≤ length s.now }
     ensures { result ≡ to_z w32 (be 4 s.now at) }
 {
-    complement::signed_of(u32_at(s, at))
+    u32_at(s, at).cast_signed()
 }
 
 // The signed number, two's complement, in eight bytes at a place.

@@ -3,8 +3,6 @@ ghost use Rattle.std.specs.Int.{w32};
 ghost use Rattle.std.proofs.Common.{of_z};
 ghost use Rattle.octets.specs.BigEndian.{bytes_of, laid};
 
-use super::complement;
-
 // Lays a byte at a place.
 pub fn put_u8(s: &mut [u8], at: usize, v: u8)
     requires { at + 1 ≤ length s.old }
@@ -42,5 +40,5 @@ pub fn put_i32(s: &mut [u8], at: usize, v: i32)
     requires { at + 4 ≤ length s.old }
     ensures { s.new ≡ laid s.old at (bytes_of 4 (of_z w32 v)) }
 {
-    put_u32(s, at, complement::pattern_of(v));
+    put_u32(s, at, v.cast_unsigned());
 }
