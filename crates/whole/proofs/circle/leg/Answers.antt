@@ -48,35 +48,14 @@ turned c =
     let some : 0 < l.k = let t = c.loop-k-test.true in omega (arith, t) in
     turn (s.s * s.s - s.y * s.y) l.k l.left l.low l.invariant some (more_of c) refl (leb (more_of c) l.left) refl
 
-few : (c : In-loop-k) → 2 * (c.loop-k.k - 1) < 64
-few c = let t = c.loop-k-test.true in let f = c.loop-k.invariant.found.few in omega (arith, t)
-
-pub overflow_mul-at : goal.overflow_mul-at
-overflow_mul-at c = let f = few c in omega arith
-
-pub overflow_cast-more : goal.overflow_cast-more
-overflow_cast-more c = let f = few c in omega arith
-
-pub overflow_shl-more : goal.overflow_shl-more
-overflow_shl-more c = few c
-
 pub overflow_add-more : goal.overflow_add-more
 overflow_add-more c = record { fits = (turned c).wide }
-
-pub overflow_cast-fits : goal.overflow_cast-fits
-overflow_cast-fits c = tt
 
 pub overflow_mul-left-in-loop-k : goal.overflow_mul-left-in-loop-k
 overflow_mul-left-in-loop-k c = record { fits = (turned c).product }
 
 pub overflow_sub-left-in-loop-k : goal.overflow_sub-left-in-loop-k
 overflow_sub-left-in-loop-k c = (turned c).there
-
-pub overflow_cast-low : goal.overflow_cast-low
-overflow_cast-low c = let f = few c in omega arith
-
-pub overflow_shl-low : goal.overflow_shl-low
-overflow_shl-low c = few c
 
 pub overflow_add-low : goal.overflow_add-low
 overflow_add-low c = record { fits = (turned c).sum }
