@@ -10,7 +10,7 @@ use lib.IntN.{ℤ, pos, nat_abs}
 use lib.ListN.{length, get_or, set, replicate, length-replicate, get_or-map}
 use lib.Seq.{ext_get_or}
 use Rattle.whole.specs.Over.{each_from, each}
-use Rattle.whole.proofs.OverLaws.{each_length, each_at, part, part_none, part_all, part_length, part_more}
+use Rattle.whole.proofs.OverLaws.{each_length, each_at, part, part_none, part_all, part_more}
 use Rattle.unit.specs.declared.Unit.{Unit}
 use Rattle.unit.specs.Ranges.{unit_in, holding, Ranged}
 use Rattle.rows.specs.Rows.{unit_by, units_by}
@@ -73,9 +73,6 @@ module _ (rows : List (List ℕ)) (l : List ℤ) where
   none_own = record { upto = omega arith; is = sym (part_none own l) }
 
   module _ (now : List ℤ) (i : ℕ) (g : Owning now i) where
-    pub own_length : length now ≡ length l
-    own_length = ap length g.is ∙ part_length own l i g.upto
-
     pub one_own : i < length l → (v : ℤ) → v ≡ (unit_by (get_or rows i [])).var_request → Owning (set now i v) (i + 1)
     one_own h v e = record {
       upto = omega arith;

@@ -4,7 +4,6 @@
 use mathlib.Core.Path.{◌≡◌, refl, sym, ap, ap₂, ◌∙◌, subst, subst⁻¹}
 use mathlib.Core.Bool.{Bool, true, false, not, cond, ◌||◌}
 use mathlib.Core.List.{List, [], ◌++◌}
-use mathlib.Core.Logic.{◌⊎◌, inl, inr}
 use Prim.Native.Nat.{ℕ, zero, suc, ◌+◌, ◌*◌, ◌^◌, ◌≤◌, ◌<◌, zero-le}
 use native.Mathlib.Nat.{le_trans, le_of_eq}
 use native.Mathlib.Numerals.{add-one}
@@ -16,21 +15,18 @@ use lib.ListN.{length, get_or, set, replicate, length-replicate, get_or-replicat
 use lib.Seq.{ext_get_or, set-get_or}
 use mir.Syntax.{w32, w64}
 use mir.Val.{to_z, of_z}
-use denote.Enum.Declared.{tag_of}
 use Rattle.whole.specs.declared.Refusal.{Refusal}
 use Rattle.whole.proofs.Choice.{by_test}
 use Rattle.whole.proofs.SignLaws.{read}
 use Rattle.whole.specs.Over.{each}
-use Rattle.whole.proofs.OverLaws.{each_length, each_at, part, part_none, part_all, part_length, part_next, part_more}
+use Rattle.whole.proofs.OverLaws.{each_length, each_at, part, part_none, part_all, part_next, part_more}
 use Rattle.octets.specs.BigEndian.{laid}
-use Rattle.octets.proofs.LaidLaws.{laid_length}
 use Rattle.reading.specs.declared.Phases.{Phases}
 use Rattle.reading.specs.declared.Reading.{Reading}
 use Rattle.reading.specs.declared.Reading.TheVariants.{Missing, Power, Current}
 use Rattle.reading.specs.declared.Measure.{Measure}
 use Rattle.reading.specs.declared.Measure.TheVariants.{Chosen, RefusedBy}
 use Rattle.reading.specs.Choice.{measure_of, current_of, measure_call}
-use Rattle.reading.specs.contracts.Reading.{the_type}
 use Rattle.unit.specs.declared.Unit.{Unit}
 use Rattle.unit.specs.Ranges.{holding}
 use Rattle.rows.specs.Rows.{unit_by}
@@ -197,24 +193,6 @@ module _ (site : Site) (m : Moment) (stored : List ℕ) (rs vs : List ℤ) (room
 
   module _ (st : Held site stored rs vs) (fits : m.at + 40 * count site ≤ length room) (i : ℕ) (now-stored : List ℕ) (now-vars : List ℤ) (now-room : List ℕ)
       (g : Giving i now-stored now-vars now-room) where
-    upto_stored : i ≤ length stored
-    upto_stored = le_trans g.upto (le_of_eq (sym st.stores))
-
-    upto_vars : i ≤ length vs
-    upto_vars = le_trans g.upto (le_of_eq (sym st.leads))
-
-    -- the lengths have not changed
-    pub lengths : (length now-stored ≡ length stored) × ((length now-vars ≡ length vs) × (length now-room ≡ length room))
-    lengths =
-        let u = g.upto in
-        let e = records_long i in (
-          ap length g.stored_is ∙ part_length left stored i upto_stored,
-          (
-            ap length g.vars_is ∙ part_length kept vs i upto_vars,
-            ap length g.room_is ∙ laid_length room m.at (records i) (omega arith),
-          ),
-        )
-
     -- the next unit holds what it held, no more than rated, and its vars are as they were
     module _ (h : i < count site) where
       in_stored : i < length stored

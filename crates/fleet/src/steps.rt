@@ -111,14 +111,11 @@ fn give_own(
         (records_of (count (site_in f rows.now)) (site_in f rows.now) m.lead m.step stored.old requests.now vs) }
 {
     let head = f.head;
-    let mut i = 0;
-    while i < requests.len() {
-        let request = requests[i];
+    for (i, &request) in requests.iter().enumerate() {
         let d = own(rows, i, stored[i], head.seconds, request);
         let left = d.stored;
         stored[i] = left;
         records::put_record(room, m.at + RECORD_BYTES * i, m.step, i as u8, request, d);
-        i += 1;
     }
 }
 
@@ -141,11 +138,9 @@ fn give_led(
     ensures room_after { room.new ≡ laid room.old m.at
         (records_of (count (site_in f rows.now)) (site_in f rows.now) m.lead m.step stored.old requests.now vars.old) }
 {
-    let mut i = 0;
-    while i < requests.len() {
+    for (i, &request) in requests.iter().enumerate() {
         let head = f.head;
         let lead = m.lead;
-        let request = requests[i];
         let last = vars[i];
         let g = guided::give(rows, i, stored[i], head.seconds, request, lead, last);
         let o = g.outcome;
@@ -154,7 +149,6 @@ fn give_led(
         let kept = g.vars;
         vars[i] = kept;
         records::put_record(room, m.at + RECORD_BYTES * i, m.step, i as u8, request, o);
-        i += 1;
     }
 }
 

@@ -31,12 +31,9 @@ fn own_vars(units: &[[u64; 24]], vars: &mut [i32])
     requires { length vars.old ≡ length units.now }
     ensures { vars.new ≡ map (λ u. u.var_request) (units_by units.now) }
 {
-    let mut i = 0;
-    while i < vars.len() {
+    for (i, own) in vars.iter_mut().enumerate() {
         let u = rows::unit_of(units, i);
-        let own = u.var_request;
-        vars[i] = own;
-        i += 1;
+        *own = u.var_request;
     }
 }
 

@@ -1,13 +1,13 @@
 -- The first field behind a tail is put together from the tail and the chunk: the bytes that are put together are the beginning of the two. Assumes nothing.
 use mathlib.Core.Path.{◌≡◌, refl, sym, ap, ◌∙◌}
-use mathlib.Core.Bool.{Bool, true, false, cond}
+use mathlib.Core.Bool.{Bool, true, false}
 use mathlib.Core.List.{List, [], ◌∷◌, ◌++◌}
-use Prim.Native.Nat.{ℕ, zero, suc, ◌+◌, ◌-◌, ◌≤◌, ◌<◌}
+use Prim.Native.Nat.{ℕ, zero, suc, ◌+◌, ◌-◌, ◌≤◌, ◌<◌, min}
 use native.Mathlib.Nat.{zero-add}
 use native.Mathlib.Omega.{arith}
 use lib.Dec.{leb, ltb, eqb}
 use lib.ListN.{length, take, drop, length-append, take-append-drop}
-use lib.Seq.{slice, length-take-le, take_all, take_at, take-append-add, take-length}
+use lib.Seq.{slice, length-take-le, take_all, take_at, take-append-add}
 use borrow.Author.Tests.{ltb-true, ltb-false, leb-true, leb-false}
 use Rattle.octets.specs.BigEndian.{laid}
 use Rattle.parts.specs.Header.{past}
@@ -36,25 +36,25 @@ take_most (suc n) (x ∷ xs) = let h = take_most n xs in omega (arith, h)
 
 module _ (chunk : List ℕ) (left : ℕ) where
   -- as many bytes of the chunk as are left
-  pub some : (n : ℕ) → n ≡ cond (ltb (length chunk) left) (length chunk) left → (n ≤ length chunk) × ((n ≤ left) × (take n chunk ≡ take left chunk))
-  some n e = go (ltb (length chunk) left) refl e
+  pub some : (n : ℕ) → n ≡ min (length chunk) left → take n chunk ≡ take left chunk
+  some n e = go (ltb (length chunk) left) refl
     where
-      go : (b : Bool) → ltb (length chunk) left ≡ b → n ≡ cond b (length chunk) left → (n ≤ length chunk) × ((n ≤ left) × (take n chunk ≡ take left chunk))
-      go true t e =
+      go : (b : Bool) → ltb (length chunk) left ≡ b → take n chunk ≡ take left chunk
+      go true t =
           let l : length chunk < left = ltb-true (length chunk) left t in
-          (omega arith, (omega arith, ap (λ (k : ℕ). take k chunk) e ∙ take-length chunk ∙ sym (take_all left chunk (omega arith))))
-      go false t e = let l : left ≤ length chunk = ltb-false (length chunk) left t in (omega arith, (omega arith, ap (λ (k : ℕ). take k chunk) e))
+          take_all n chunk (omega arith) ∙ sym (take_all left chunk (omega arith))
+      go false t = let l : left ≤ length chunk = ltb-false (length chunk) left t in ap (λ (k : ℕ). take k chunk) (let z : n ≡ left = omega arith in z)
 
-module _ (tail chunk : List ℕ) (n : ℕ) (short : length tail ≤ tail_most) (is : n ≡ cond (ltb (length chunk) (largest_field - length tail)) (length chunk) (largest_field - length tail)) where
+module _ (tail chunk : List ℕ) (n : ℕ) (short : length tail ≤ tail_most) (is : n ≡ min (length chunk) (largest_field - length tail)) where
   pub joint_is : tail ++ take n chunk ≡ take largest_field (tail ++ chunk)
   joint_is =
       let e : length tail + (largest_field - length tail) ≡ largest_field = omega arith in
-      ap (λ (x : List ℕ). tail ++ x) (some chunk (largest_field - length tail) n is).1.1
+      ap (λ (x : List ℕ). tail ++ x) (some chunk (largest_field - length tail) n is)
       ∙ sym (take-append-add tail chunk (largest_field - length tail))
       ∙ ap (λ (k : ℕ). take k (tail ++ chunk)) e
 
   pub joint_long : length (tail ++ take n chunk) ≡ length tail + n
-  joint_long = length-append tail (take n chunk) ∙ ap (λ (k : ℕ). length tail + k) (length-take-le n chunk (some chunk (largest_field - length tail) n is).0)
+  joint_long = length-append tail (take n chunk) ∙ ap (λ (k : ℕ). length tail + k) (length-take-le n chunk (omega arith))
 
   -- laid in a room of the largest field's bytes
   module _ (room once twice : List ℕ) (long : length room ≡ largest_field) (first : once ≡ laid room 0 tail) (second : twice ≡ laid once (length tail) (slice 0 n chunk)) where

@@ -1,4 +1,4 @@
-ghost use Rattle.std.specs.Prelude.{◌≡◌, cond, ◌++◌, ◌+◌, ◌-◌, ◌≤◌, ltb, length, take};
+ghost use Rattle.std.specs.Prelude.{◌≡◌, ◌++◌, ◌+◌, ◌-◌, ◌≤◌, length, take};
 ghost use Rattle.parts.specs.Header.{past};
 ghost use Rattle.stick.specs.Check.{reach_of};
 ghost use Rattle.chunks.specs.Sizes.{largest_field};
@@ -13,13 +13,6 @@ use fields::{HEADER, State, Taken};
 use kept::{Mark, TAIL};
 use stick::Reached;
 
-// The smaller of two lengths.
-fn lesser(a: usize, b: usize) -> usize
-    ensures { result ≡ cond (ltb a b) a b }
-{
-    if a < b { a } else { b }
-}
-
 // Lays the tail and the chunk behind it, as far as the largest field goes; how many bytes that are.
 pub fn join(joint: &mut [u8], s: &[u8], chunk: &[u8]) -> usize
     requires joint_len { length joint.old ≡ largest_field }
@@ -28,7 +21,7 @@ pub fn join(joint: &mut [u8], s: &[u8], chunk: &[u8]) -> usize
     ensures joint_after { take result joint.new ≡ take largest_field (tail_part s.now ++ chunk.now) }
 {
     let t = octets::u8_at(s, 16) as usize;
-    let n = lesser(chunk.len(), LARGEST - t);
+    let n = chunk.len().min(LARGEST - t);
     kept::copy(joint, 0, s, TAIL, TAIL + t);
     kept::copy(joint, t, chunk, 0, n);
     t + n

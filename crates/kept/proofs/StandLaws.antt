@@ -1,14 +1,14 @@
 -- What stands, read into lists and laid in bytes: what a loop over units, inverters or vars has reached, and how long the parts are. Assumes nothing.
 use mathlib.Core.Path.{◌≡◌, refl, sym, ap, ap₂, ◌∙◌}
 use mathlib.Core.Bool.{Bool, true, false, cond}
-use mathlib.Core.List.{List, [], ◌∷◌, ◌++◌, append_assoc, append-nil}
+use mathlib.Core.List.{List, [], ◌∷◌, ◌++◌, append_assoc}
 use Prim.Native.Nat.{ℕ, zero, suc, ◌+◌, ◌-◌, ◌*◌, ◌≤◌, ◌<◌}
 use native.Mathlib.Nat.{add_assoc}
 use native.Mathlib.Numerals.{add-one}
 use native.Mathlib.Omega.{arith}
 use lib.IntN.{ℤ, pos}
-use lib.ListN.{length, get_or, drop, set, replicate, length-append, length-drop}
-use lib.Seq.{drop-cons, set_at, append_snoc, drop-length}
+use lib.ListN.{length, get_or, drop, set, replicate, length-append}
+use lib.Seq.{drop-cons, set_at, append_snoc}
 use mir.Syntax.{w32}
 use mir.Val.{of_z}
 use Rattle.octets.specs.BigEndian.{bytes_of, laid}
@@ -38,14 +38,6 @@ module _ {A : Type 0} (g : ℕ → A) (l : List A) where
   filled_none = record { upto = omega arith; is = refl }
 
   module _ (now : List A) (i : ℕ) (w : Filled g l now i) where
-    pub filled_length : length now ≡ length l
-    filled_length =
-        let u : i ≤ length l = w.upto in
-        let a : length (up_to i g) ≡ i = up_to_length i g in
-        let b : length (drop i l) ≡ length l - i = length-drop i l in
-        let d : length (up_to i g ++ drop i l) ≡ length (up_to i g) + length (drop i l) = length-append (up_to i g) (drop i l) in
-        ap length w.is ∙ omega arith
-
     pub filled_more : i < length l → (v : A) → v ≡ g i → Filled g l (set now i v) (i + 1)
     filled_more h v e =
         record {
@@ -57,9 +49,6 @@ module _ {A : Type 0} (g : ℕ → A) (l : List A) where
               ∙ ap₂ (λ (x : A) (k : ℕ). up_to i g ++ (x ∷ []) ++ drop k l) e (sym (add-one i))
               ∙ ap (λ (t : List A). t ++ drop (i + 1) l) (sym (up_to_next i g));
         }
-
-    pub filled_all : i ≡ length l → now ≡ up_to (length l) g
-    filled_all e = w.is ∙ ap (λ (k : ℕ). up_to k g ++ drop k l) e ∙ ap (λ (t : List A). up_to (length l) g ++ t) (drop-length l) ∙ append-nil (up_to (length l) g)
 
 -- ---- what units hold and are asked, in bytes
 pub held_length : (n : ℕ) (stored : List ℕ) (rs : List ℤ) → length (held_of n stored rs) ≡ 12 * n
@@ -88,12 +77,6 @@ module _ (s stored : List ℕ) (rs : List ℤ) where
   holding_none = record { upto = omega arith; is = nothing s held_place }
 
   module _ (h : held_place + 12 * length stored ≤ length s) (now : List ℕ) (i : ℕ) (w : Holding s now stored rs i) where
-    pub holding_length : length now ≡ length s
-    holding_length =
-        let u : i ≤ length stored = w.upto in
-        let l : length (held_of i stored rs) ≡ 12 * i = held_length i stored rs in
-        ap length w.is ∙ laid_length s held_place (held_of i stored rs) (omega arith)
-
     pub holding_more : i < length stored → (t u : List ℕ) → t ≡ laid now (held_place + 12 * i) (bytes_of 8 (get_or stored i 0))
         → u ≡ laid t (held_place + 12 * i + 8) (bytes_of 4 (of_z w32 (get_or rs i (pos 0)))) → Holding s u stored rs (i + 1)
     holding_more l t u e f =
@@ -106,9 +89,6 @@ module _ (s stored : List ℕ) (rs : List ℤ) where
         let g : u ≡ laid t (held_place + (12 * i + 8)) b = f ∙ ap (λ (k : ℕ). laid t k b) (add_assoc held_place (12 * i) 8) in
         let two : u ≡ laid s held_place (held ++ a ++ b) = behind s held_place at (held ++ a) b (12 * i + 8) (longer held (12 * i) 8 (get_or stored i 0) n) t u one g in
         record { upto = omega arith; is = two ∙ ap (laid s held_place) (append_assoc held a b ∙ sym (held_next i stored rs)) }
-
-    pub holding_all : i ≡ length stored → now ≡ laid s held_place (held_of (length stored) stored rs)
-    holding_all e = w.is ∙ ap (λ (k : ℕ). laid s held_place (held_of k stored rs)) e
 
 -- ---- which inverters are on, in bytes
 pub flags_length : (n : ℕ) (on : List Bool) → length (flags_of n on) ≡ n
@@ -130,27 +110,11 @@ module _ (s : List ℕ) (on : List Bool) where
   flagging_none = record { upto = omega arith; is = nothing s flag_place }
 
   module _ (h : flag_place + length on ≤ length s) (now : List ℕ) (i : ℕ) (w : Flagging s now on i) where
-    pub flagging_length : length now ≡ length s
-    flagging_length =
-        let u : i ≤ length on = w.upto in
-        let l : length (flags_of i on) ≡ i = flags_length i on in
-        ap length w.is ∙ laid_length s flag_place (flags_of i on) (omega arith)
-
     pub flagging_more : i < length on → (v : ℕ) (t : List ℕ) → v ≡ cond (get_or on i false) 1 0 → t ≡ laid now (flag_place + i) (bytes_of 1 v) → Flagging s t on (i + 1)
     flagging_more l v t e f =
         let at : flag_place ≤ length s = omega arith in
         let one : t ≡ laid s flag_place (flags_of i on ++ bytes_of 1 v) = behind s flag_place at (flags_of i on) (bytes_of 1 v) i (flags_length i on) now t w.is f in
         record { upto = omega arith; is = one ∙ ap (λ (x : ℕ). laid s flag_place (flags_of i on ++ bytes_of 1 x)) e ∙ ap (laid s flag_place) (sym (flags_next i on)) }
-
-    pub flagging_all : i ≡ length on → now ≡ laid s flag_place (flags_of (length on) on)
-    flagging_all e = w.is ∙ ap (λ (k : ℕ). laid s flag_place (flags_of k on)) e
-
--- a flag's number
-pub flag_on : (b : Bool) → b ≡ true → ◌≡◌ {A = ℕ} 1 (cond b 1 0)
-flag_on b e = sym (ap (λ (x : Bool). cond {A = ℕ} x 1 0) e)
-
-pub flag_off : (b : Bool) → b ≡ false → ◌≡◌ {A = ℕ} 0 (cond b 1 0)
-flag_off b e = sym (ap (λ (x : Bool). cond {A = ℕ} x 1 0) e)
 
 -- ---- the vars last requested, in bytes
 pub vars_length : (n : ℕ) (vs : List ℤ) → length (vars_of n vs) ≡ 4 * n
@@ -174,20 +138,11 @@ module _ (s : List ℕ) (vs : List ℤ) where
   varying_none = record { upto = omega arith; is = nothing s vars_place }
 
   module _ (h : vars_place + 4 * length vs ≤ length s) (now : List ℕ) (i : ℕ) (w : Varying s now vs i) where
-    pub varying_length : length now ≡ length s
-    varying_length =
-        let u : i ≤ length vs = w.upto in
-        let l : length (vars_of i vs) ≡ 4 * i = vars_length i vs in
-        ap length w.is ∙ laid_length s vars_place (vars_of i vs) (omega arith)
-
     pub varying_more : i < length vs → (t : List ℕ) → t ≡ laid now (vars_place + 4 * i) (bytes_of 4 (of_z w32 (get_or vs i (pos 0)))) → Varying s t vs (i + 1)
     varying_more l t e =
         let at : vars_place ≤ length s = omega arith in
         let b = bytes_of 4 (of_z w32 (get_or vs i (pos 0))) in
         record { upto = omega arith; is = behind s vars_place at (vars_of i vs) b (4 * i) (vars_length i vs) now t w.is e ∙ ap (laid s vars_place) (sym (vars_next i vs)) }
-
-    pub varying_all : i ≡ length vs → now ≡ laid s vars_place (vars_of (length vs) vs)
-    varying_all e = w.is ∙ ap (λ (k : ℕ). laid s vars_place (vars_of k vs)) e
 
 -- ---- all that stands, with 0 behind each part, is laid whole
 pub stands_laid : (s stored : List ℕ) (rs vs : List ℤ) (on : List Bool) → length s ≡ state_size → length stored ≤ 64 → length vs ≤ 128 → length on ≤ 64

@@ -10,12 +10,8 @@ pub fn copy(s: &mut [u8], at: usize, bytes: &[u8], from: usize, to: usize)
     requires from_in_bounds { at + (to - from) ≤ length s.old }
     ensures { s.new ≡ laid s.old at (slice from to bytes.now) }
 {
-    let n = to - from;
-    let mut i = 0;
-    while i < n {
-        s[at + i] = bytes[from + i];
-        i += 1;
-    }
+    let end = at + (to - from);
+    s[at..end].copy_from_slice(&bytes[from..to]);
 }
 
 // Lays 0 over all bytes from one place up to another.
@@ -24,12 +20,7 @@ pub fn zero(s: &mut [u8], from: usize, to: usize)
     requires to_in_bounds { to ≤ length s.old }
     ensures { s.new ≡ laid s.old from (replicate (to - from) 0) }
 {
-    let n = to - from;
-    let mut i = 0;
-    while i < n {
-        s[from + i] = 0;
-        i += 1;
-    }
+    s[from..to].fill(0);
 }
 
 // The bytes from one place up to another are 0.
@@ -38,12 +29,5 @@ pub fn is_clear(s: &[u8], from: usize, to: usize) -> bool
     requires to_in_bounds { to ≤ length s.now }
     ensures { result ≡ clear s.now from to }
 {
-    let n = to - from;
-    let mut ok = true;
-    let mut i = 0;
-    while i < n {
-        ok = ok & (s[from + i] == 0);
-        i += 1;
-    }
-    ok
+    s[from..to].iter().all(|byte| *byte == 0)
 }

@@ -12,11 +12,9 @@ pub fn load(s: &[u8], stored: &mut [u64], requests: &mut [i32])
     ensures stored_after { stored.new ≡ up_to (length stored.old) (store_at s.now) }
     ensures requests_after { requests.new ≡ up_to (length stored.old) (request_at s.now) }
 {
-    let mut i = 0;
-    while i < stored.len() {
+    for i in 0..stored.len() {
         stored[i] = octets::u64_at(s, HELD + 12 * i);
         requests[i] = octets::i32_at(s, HELD + 12 * i + 8);
-        i += 1;
     }
 }
 
@@ -26,10 +24,8 @@ pub fn load_on(s: &[u8], on: &mut [bool])
     requires on_len_bound { length on.old ≤ 64 }
     ensures { on.new ≡ up_to (length on.old) (flag_at s.now) }
 {
-    let mut i = 0;
-    while i < on.len() {
-        on[i] = octets::u8_at(s, FLAGS + i) == 1;
-        i += 1;
+    for (i, flag) in on.iter_mut().enumerate() {
+        *flag = octets::u8_at(s, FLAGS + i) == 1;
     }
 }
 
@@ -39,10 +35,8 @@ pub fn load_vars(s: &[u8], vars: &mut [i32])
     requires vars_len_bound { length vars.old ≤ 128 }
     ensures { vars.new ≡ up_to (length vars.old) (var_at s.now) }
 {
-    let mut i = 0;
-    while i < vars.len() {
-        vars[i] = octets::i32_at(s, VARS + 4 * i);
-        i += 1;
+    for (i, last) in vars.iter_mut().enumerate() {
+        *last = octets::i32_at(s, VARS + 4 * i);
     }
 }
 
@@ -53,11 +47,9 @@ fn put_held(s: &mut [u8], stored: &[u64], requests: &[i32])
     requires requests_len { length requests.now ≡ length stored.now }
     ensures { s.new ≡ laid s.old held_place (held_of (length stored.now) stored.now requests.now) }
 {
-    let mut i = 0;
-    while i < stored.len() {
+    for i in 0..stored.len() {
         octets::put_u64(s, HELD + 12 * i, stored[i]);
         octets::put_i32(s, HELD + 12 * i + 8, requests[i]);
-        i += 1;
     }
 }
 
@@ -67,10 +59,8 @@ fn put_flags(s: &mut [u8], on: &[bool])
     requires on_len_bound { length on.now ≤ 64 }
     ensures { s.new ≡ laid s.old flag_place (flags_of (length on.now) on.now) }
 {
-    let mut i = 0;
-    while i < on.len() {
-        octets::put_u8(s, FLAGS + i, if on[i] { 1 } else { 0 });
-        i += 1;
+    for (i, &flag) in on.iter().enumerate() {
+        octets::put_u8(s, FLAGS + i, flag as u8);
     }
 }
 
@@ -80,10 +70,8 @@ fn put_vars(s: &mut [u8], vars: &[i32])
     requires vars_len_bound { length vars.now ≤ 128 }
     ensures { s.new ≡ laid s.old vars_place (vars_of (length vars.now) vars.now) }
 {
-    let mut i = 0;
-    while i < vars.len() {
-        octets::put_i32(s, VARS + 4 * i, vars[i]);
-        i += 1;
+    for (i, &last) in vars.iter().enumerate() {
+        octets::put_i32(s, VARS + 4 * i, last);
     }
 }
 

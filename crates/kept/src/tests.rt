@@ -98,12 +98,10 @@ fn within(site: &[u8], stored: &[u64], requests: &[i32]) -> bool
     ensures { result ≡ all_of (length stored.now) (unit_fits (site_of site.now) stored.now requests.now) }
 {
     let mut ok = true;
-    let mut i = 0;
-    while i < stored.len() {
+    for i in 0..stored.len() {
         let u = stick::unit(site, i);
         let size = whole::size32(requests[i]);
         ok = ok & ((stored[i] <= u.rated) & (size <= u.rating));
-        i += 1;
     }
     ok
 }
@@ -125,13 +123,7 @@ fn flags_fit(s: &[u8], n: usize) -> bool
     requires n_bound { n ≤ 64 }
     ensures { result ≡ all_of n (flag_fits s.now) }
 {
-    let mut ok = true;
-    let mut i = 0;
-    while i < n {
-        ok = ok & (octets::u8_at(s, FLAGS + i) <= 1);
-        i += 1;
-    }
-    ok
+    s[FLAGS..FLAGS + n].iter().all(|flag| *flag <= 1)
 }
 
 // The first n vars last requested are in their bounds.
@@ -141,10 +133,8 @@ fn vars_fit(s: &[u8], n: usize) -> bool
     ensures { result ≡ all_of n (var_fits s.now) }
 {
     let mut ok = true;
-    let mut i = 0;
-    while i < n {
+    for i in 0..n {
         ok = ok & (whole::size32(octets::i32_at(s, VARS + 4 * i)) <= 100000000);
-        i += 1;
     }
     ok
 }

@@ -7,11 +7,10 @@ use Prim.Native.Nat.{ℕ, zero, suc, ◌+◌, ◌-◌, ◌≤◌, ◌<◌, min}
 use native.Mathlib.Nat.{zero-add}
 use native.Mathlib.Numerals.{add-one}
 use native.Mathlib.Omega.{arith}
-use lib.Dec.{ltb, eqb}
+use lib.Dec.{eqb}
 use lib.ListN.{length, get_or, take, drop, length-take, length-drop}
 use lib.Seq.{take_all, take-length, drop-cons, get_or-take, get_or-drop}
-use borrow.Author.Tests.{ltb-true, ltb-false, eqb-true, eq-eqb, ne_eqb}
-use Rattle.whole.proofs.OverLaws.{and_parts}
+use borrow.Author.Tests.{eqb-true, eq-eqb, ne_eqb}
 use Rattle.partner.specs.Verdict.{same}
 use Rattle.partner.specs.Posts.{SameAt, alike_of}
 
@@ -164,22 +163,7 @@ module _ (ours : List ℕ) (n : ℕ) (theirs : List ℕ) (at : ℕ) where
           cut ∙ alike_cons (get_or ours i 0) (get_or theirs (at + i) 0) (drop (suc i) first) (drop (suc i) beside) is in
           record { rest = rw (add-one i) (omega arith) }
 
--- ---- the first k of ours, where they are the same: one more
-pub one_more : (ours theirs : List ℕ) (at i : ℕ) (same : Bool) → (same ≡ true → SameAt i ours 0 theirs at) → (same && eqb (get_or ours i 0) (get_or theirs (at + i) 0)) ≡ true
-    → SameAt (i + 1) ours 0 theirs at
-one_more ours theirs at i same before t k l = go (ltb k i) refl
-  where
-    parts : (same ≡ true) × (eqb (get_or ours i 0) (get_or theirs (at + i) 0) ≡ true)
-    parts = and_parts same (eqb (get_or ours i 0) (get_or theirs (at + i) 0)) t
-
-    go : (b : Bool) → ltb k i ≡ b → get_or ours (0 + k) 0 ≡ get_or theirs (at + k) 0
-    go true e = before parts.0 k (ltb-true k i e)
-    go false e =
-        let is : i ≡ k = omega (arith, ltb-false k i e) in
-        ap (λ (x : ℕ). get_or ours x 0) (zero-add k)
-        ∙ subst (λ (x : ℕ). get_or ours x 0 ≡ get_or theirs (at + x) 0) is (eqb-true (get_or ours i 0) (get_or theirs (at + i) 0) parts.1)
-
--- and all of them
+-- ---- the first k of ours, where they are the same
 pub goes_many : (ours : List ℕ) (n : ℕ) (theirs : List ℕ) (at k : ℕ) → n ≤ length ours → k ≤ min n (length theirs - at) → SameAt k ours 0 theirs at → SoFar ours n theirs at k
 goes_many ours n theirs at zero h l s = sets_out ours n theirs at
 goes_many ours n theirs at (suc k) h l s =

@@ -9,10 +9,8 @@ fn all_alike(ours: &[u8], most: usize, theirs: &[u8], at: usize) -> bool
     ensures { result ≡ true → SameAt most ours.now 0 theirs.now at }
 {
     let mut same = true;
-    let mut i = 0;
-    while i < most {
+    for i in 0..most {
         same = same & (ours[i] == theirs[at + i]);
-        i += 1;
     }
     same
 }
@@ -24,16 +22,14 @@ pub fn alike(ours: &[u8], n: usize, theirs: &[u8], at: usize) -> usize
     requires at_in_bounds { at ≤ length theirs.now }
     ensures { result ≡ alike_of (take n ours.now) (drop at theirs.now) }
 {
-    let most = whole::least64(n as u64, (theirs.len() - at) as u64) as usize;
+    let most = n.min(theirs.len() - at);
     if all_alike(ours, most, theirs, at) {
         return most;
     }
-    let mut i = 0;
-    while i < most {
+    for i in 0..most {
         if ours[i] != theirs[at + i] {
             return i;
         }
-        i += 1;
     }
     most
 }

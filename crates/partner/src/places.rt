@@ -32,7 +32,7 @@ pub fn wrong(run: &[u8], place: usize, len: usize, start: usize, size: usize) ->
     requires start_le_len { start ≤ len }
     ensures { result ≡ wrong_at run.now place len start size }
 {
-    let there = whole::least64(size as u64, (len - start) as u64);
+    let there = size.min(len - start) as u64;
     if there == 0 {
         return Verdict {
             number: 2,

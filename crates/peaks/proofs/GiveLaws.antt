@@ -2,8 +2,8 @@
 use mathlib.Core.Path.{◌≡◌, refl, sym, ap, ap₂, ◌∙◌, subst⁻¹}
 use mathlib.Core.Bool.{Bool, false}
 use mathlib.Core.List.{List}
-use Prim.Native.Nat.{ℕ, suc, ◌+◌, ◌*◌, ◌^◌, ◌≤◌, ◌<◌}
-use native.Mathlib.Nat.{le_trans, le_of_eq, mul-le-mul, le_refl}
+use Prim.Native.Nat.{ℕ, ◌+◌, ◌*◌, ◌^◌, ◌≤◌, ◌<◌}
+use native.Mathlib.Nat.{le_trans, le_of_eq, mul-le-mul}
 use native.Mathlib.Numerals.{add-one}
 use native.Mathlib.Omega.{arith}
 use lib.IntN.{ℤ, pos, negsuc, nat_abs, ◌+ℤ◌}
@@ -11,9 +11,8 @@ use lib.Signed.{mag}
 use lib.ListN.{length, get_or, set}
 use mir.Syntax.{w32}
 use Rattle.whole.specs.Over.{sum_of, sum_ofℤ, some_of}
-use Rattle.whole.proofs.OverLaws.{part, part_none, part_all, part_length, part_next, part_more}
+use Rattle.whole.proofs.OverLaws.{part, part_none, part_all, part_next, part_more}
 use Rattle.whole.proofs.SignLaws.{read, wide_size}
-use Rattle.unit.specs.declared.Unit.{Unit}
 use Rattle.unit.specs.Ranges.{holding}
 use Rattle.unit.proofs.RangeLaws.{bounds}
 use Rattle.storage.specs.declared.Outcome.{Outcome}
@@ -79,19 +78,6 @@ module _ (site : Site) (l : Lead) (stored : List ℕ) (rs vs : List ℤ) where
   }
 
   module _ (h : Sited site) (st : Held site stored rs vs) (y : Modest l) (i : ℕ) (now-stored : List ℕ) (now-vars : List ℤ) (sums : Sums) (g : Giving i now-stored now-vars sums) where
-    upto_stored : i ≤ length stored
-    upto_stored = le_trans g.upto (le_of_eq (sym st.stores))
-
-    upto_vars : i ≤ length vs
-    upto_vars = le_trans g.upto (le_of_eq (sym st.leads))
-
-    -- the lengths have not changed
-    pub lengths : (length now-stored ≡ length stored) × (length now-vars ≡ length vs)
-    lengths = (
-      ap length g.stored_is ∙ part_length left stored i upto_stored,
-      ap length g.vars_is ∙ part_length kept vs i upto_vars,
-    )
-
     module _ (b : i < count site) where
       in_stored : i < length stored
       in_stored = le_trans b (le_of_eq (sym st.stores))

@@ -62,10 +62,8 @@ fn give_all(
         loss: 0,
         missed: false,
     };
-    let mut i = 0;
-    while i < requests.len() {
+    for (i, &request) in requests.iter().enumerate() {
         let head = f.head;
-        let request = requests[i];
         let last = vars[i];
         let g = fleet::give(rows, i, head.seconds, stored[i], request, l, last);
         let o = g.outcome;
@@ -76,7 +74,6 @@ fn give_all(
         let u = rows::unit_of(rows, i);
         let missed = not_met(request, o.watts, u.grid_loss);
         sums = with_unit(i, sums, missed, o);
-        i += 1;
     }
     sums
 }

@@ -1,6 +1,6 @@
 -- Bytes laid one piece behind the other are laid whole, two numbers as one too, and how long the pieces are. Assumes nothing.
 use mathlib.Core.Path.{◌≡◌, refl, sym, ap, ap₂, ◌∙◌}
-use mathlib.Core.Bool.{Bool}
+use mathlib.Core.Bool.{Bool, true, false, cond}
 use mathlib.Core.List.{List, [], ◌++◌, append-nil}
 use Prim.Native.Nat.{ℕ, zero, suc, ◌+◌, ◌*◌, ◌/◌, ◌%◌, ◌^◌, ◌≤◌, ◌<◌}
 use native.Mathlib.Omega.{arith}
@@ -8,7 +8,7 @@ use lib.Arith.{digits_div}
 use lib.Dec.{lit<}
 use lib.IntN.{ℤ}
 use mir.Syntax.{w32}
-use mir.Val.{of_z}
+use mir.Val.{of_z, bool_byte}
 use native.Mathlib.Nat.{add-zero, mul_assoc, pow-suc}
 use lib.ListN.{length, take, drop, length-append, take-append-drop}
 use Rattle.octets.specs.BigEndian.{bytes_of, laid}
@@ -17,6 +17,11 @@ use Rattle.octets.proofs.LaidLaws.{laid_laid}
 use Rattle.solar.specs.declared.Given.{Given}
 use Rattle.storage.specs.declared.Outcome.{Outcome}
 use Rattle.records.specs.Records.{asked_part, given_part, record_of, turned_part, lit_part, roof_record_of, end_of}
+
+-- a flag's number, as a cast gives it
+pub flag_byte : (b : Bool) → ◌≡◌ {A = ℕ} (bool_byte b) (cond b 1 0)
+flag_byte true = refl
+flag_byte false = refl
 
 -- nothing laid changes nothing
 pub nothing : (s : List ℕ) (at : ℕ) → s ≡ laid s at []

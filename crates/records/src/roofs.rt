@@ -1,27 +1,19 @@
-ghost use Rattle.std.specs.Prelude.{◌≡◌, cond, ◌+◌, ◌≤◌, length};
+ghost use Rattle.std.specs.Prelude.{◌≡◌, ◌+◌, ◌≤◌, length};
 ghost use Rattle.octets.specs.BigEndian.{laid};
 ghost use Rattle.records.specs.Records.{turned_part, lit_part, roof_record_of, roof_record_bytes};
 
 use solar::Given;
-
-// 1 for on, 0 for off.
-fn flag(on: bool) -> u8
-    ensures { result ≡ cond on 1 0 }
-{
-    if on { 1 } else { 0 }
-}
 
 // Lays the first part of an inverter's record: tag, length, step, inverter and whether it is on.
 fn put_turned(room: &mut [u8], at: usize, step: u32, inverter: u8, on: bool)
     requires { at + 9 ≤ length room.old }
     ensures { room.new ≡ laid room.old at (turned_part step inverter on) }
 {
-    let turned = flag(on);
     octets::put_u8(room, at, 0x12);
     octets::put_u16(room, at + 1, 26);
     octets::put_u32(room, at + 3, step);
     octets::put_u8(room, at + 7, inverter);
-    octets::put_u8(room, at + 8, turned);
+    octets::put_u8(room, at + 8, on as u8);
 }
 
 // Lays the rest of it: what the inverter gives.

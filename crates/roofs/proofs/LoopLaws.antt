@@ -2,16 +2,14 @@
 -- Assumes nothing.
 use mathlib.Core.Path.{◌≡◌, refl, sym, ap, ap₂, ◌∙◌, subst⁻¹}
 use mathlib.Core.Bool.{Bool, true, false}
-use mathlib.Core.List.{List, [], ◌∷◌}
+use mathlib.Core.List.{List}
 use Prim.Native.Nat.{ℕ, zero, suc, ◌+◌, ◌*◌, ◌≤◌, ◌<◌}
 use native.Mathlib.Numerals.{add-one}
 use native.Mathlib.Omega.{arith}
 use lib.IntN.{ℤ, pos}
-use lib.ListN.{length, get_or, set, replicate}
-use Rattle.whole.specs.Over.{each, each_from}
-use Rattle.whole.proofs.OverLaws.{part, part_none, part_all, part_length, part_next, part_more}
+use lib.ListN.{length, get_or, set}
+use Rattle.whole.proofs.OverLaws.{part, part_none, part_all, part_next, part_more}
 use Rattle.octets.specs.BigEndian.{laid}
-use Rattle.octets.proofs.LaidLaws.{laid_length}
 use Rattle.lead.specs.declared.Lead.{Lead}
 use Rattle.lead.specs.Lead.{Modest}
 use Rattle.solar.specs.declared.Sun.{Sun}
@@ -109,22 +107,6 @@ none_lit {b} r = record {
 }
 
 module _ {b : Begun} {i : ℕ} {Now-on : List Bool} {now-vars : List ℤ} {now-room : List ℕ} (g : Lighting b i Now-on now-vars now-room) where
-  pub on_length : length Now-on ≡ length b.on
-  on_length = ap length g.on_is ∙ part_length (turned b) b.on i g.upto
-
-  pub vars_length : length now-vars ≡ length b.vars
-  vars_length =
-      let u = g.upto in
-      let n = g.ready.held.count in
-      ap length g.vars_is ∙ part_length (kept b) b.vars i (omega arith)
-
-  pub room_length : length now-room ≡ length b.room
-  room_length =
-      let n : length (records b i) ≡ 29 * i = records_length i (roofs b) b.lead b.step b.sun b.on b.vars in
-      let u = g.upto in
-      let f = g.ready.fits in
-      ap length g.room_is ∙ laid_length b.room b.at (records b i) (omega arith)
-
   in_range : (k : ℕ) → k < length b.on → roof_in (roof_of (roofs b) k) ≡ true
   in_range = there_in b.bytes b.first (length b.on) g.ready.there
 
@@ -203,16 +185,3 @@ module _ {b : Begun} {i : ℕ} {Now-on : List Bool} {now-vars : List ℤ} {now-r
 
     pub all_laid : now-room ≡ laid b.room b.at (records b (length (roofs b)))
     all_laid = g.room_is ∙ ap (λ (n : ℕ). laid b.room b.at (records b n)) (e ∙ sym (here_count (length b.on) b.bytes b.first))
-
--- ---- all off
-abbrev pub off : ℕ → Bool → Bool
-off i was = false
-
-from_off : (k : ℕ) (on : List Bool) → each_from k off on ≡ replicate (length on) false
-unfolding each_from
-from_off k [] = refl
-from_off k (was ∷ on) = ap (λ (l : List Bool). false ∷ l) (from_off (suc k) on)
-
-pub off_all : (on Now-on : List Bool) (i : ℕ) → Now-on ≡ part off on i → i ≡ length on → Now-on ≡ replicate (length on) false
-unfolding each
-off_all on Now-on i e l = e ∙ ap (part off on) l ∙ part_all off on ∙ from_off 0 on

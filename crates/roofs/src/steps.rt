@@ -65,15 +65,13 @@ pub fn step(
     ensures room_after { room.new ≡ laid room.old at
         (roofs_by (roofs_here bytes.now first (length on.old)) l k s on.old vars.old) }
 {
-    let mut i = 0;
-    while i < on.len() {
+    for i in 0..on.len() {
         let g = light(bytes, first + ROOF_BYTES * i, on[i], s, l, vars[i]);
         let o = g.given;
         let kept = g.vars;
         on[i] = o.on;
         vars[i] = kept;
         records::put_roof(room, at + ROOF_RECORD_BYTES * i, k, i as u8, o);
-        i += 1;
     }
 }
 
@@ -83,12 +81,9 @@ pub fn own_vars(bytes: &[u8], first: usize, vars: &mut [i32])
     ensures vars_after { vars.new ≡ own_vars (roofs_here bytes.now first (length vars.old)) }
     ensures vars_held { VarsHeld (length vars.old) vars.new }
 {
-    let mut i = 0;
-    while i < vars.len() {
+    for (i, own) in vars.iter_mut().enumerate() {
         let v = fields::inverter_at(bytes, first + ROOF_BYTES * i + 3);
-        let own = v.var_request;
-        vars[i] = own;
-        i += 1;
+        *own = v.var_request;
     }
 }
 
@@ -96,9 +91,5 @@ pub fn own_vars(bytes: &[u8], first: usize, vars: &mut [i32])
 pub fn turn_off(on: &mut [bool])
     ensures { on.new ≡ replicate (length on.old) false }
 {
-    let mut i = 0;
-    while i < on.len() {
-        on[i] = false;
-        i += 1;
-    }
+    on.fill(false);
 }

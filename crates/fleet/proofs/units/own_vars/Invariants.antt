@@ -1,11 +1,6 @@
 -- The places passed hold the units' own vars, the others are as they were; there are as many places as rows.
-use Prim.Native.Nat.{◌-◌}
-use lib.ListN.{length}
 use Rattle.fleet.proofs.SiteLaws.{Owning}
 use Rattle.fleet.proofs.units.own_vars.Given as goal
 
 abbrev pub invariant-loop-i : goal.invariant-loop-i
 invariant-loop-i l = Owning l.units l.initial.vars l.vars l.i
-
-abbrev pub decreases-loop-i : goal.decreases-loop-i
-decreases-loop-i l = length l.initial.vars - l.i

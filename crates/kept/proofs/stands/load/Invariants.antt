@@ -1,12 +1,7 @@
 -- The places passed hold what the bytes say of their units, the others are as they were.
-use Prim.Native.Nat.{◌-◌}
-use lib.ListN.{length}
 use Rattle.kept.specs.Layout.{store_at, request_at}
 use Rattle.kept.proofs.StandLaws.{Filled}
 use Rattle.kept.proofs.stands.load.Given as goal
 
 abbrev pub invariant-loop-i : goal.invariant-loop-i
 invariant-loop-i l = Filled (store_at l.s) l.initial.stored l.stored l.i × Filled (request_at l.s) l.initial.requests l.requests l.i
-
-abbrev pub decreases-loop-i : goal.decreases-loop-i
-decreases-loop-i l = length l.initial.stored - l.i

@@ -1,11 +1,6 @@
 -- The flags of the inverters passed lie behind one another; the rest is as it was.
-use Prim.Native.Nat.{◌-◌}
-use lib.ListN.{length}
 use Rattle.kept.proofs.StandLaws.{Flagging}
 use Rattle.kept.proofs.stands.put_flags.Given as goal
 
 abbrev pub invariant-loop-i : goal.invariant-loop-i
 invariant-loop-i l = Flagging l.initial.s l.s l.on l.i
-
-abbrev pub decreases-loop-i : goal.decreases-loop-i
-decreases-loop-i l = length l.on - l.i

@@ -1,11 +1,6 @@
 -- What the units passed hold and are asked lies behind one another; the rest is as it was.
-use Prim.Native.Nat.{◌-◌}
-use lib.ListN.{length}
 use Rattle.kept.proofs.StandLaws.{Holding}
 use Rattle.kept.proofs.stands.put_held.Given as goal
 
 abbrev pub invariant-loop-i : goal.invariant-loop-i
 invariant-loop-i l = Holding l.initial.s l.s l.stored l.requests l.i
-
-abbrev pub decreases-loop-i : goal.decreases-loop-i
-decreases-loop-i l = length l.stored - l.i

@@ -1,34 +1,25 @@
+use Rattle.std.proofs.Common.{rules, tests}
+use Rattle.std.proofs.lemmas.Iterator.{YieldsList-from_slice}
+use Rattle.std.proofs.lemmas.Iterator.Search.{all_from_yields_List}
+use Prim.Native.Nat.{ℕ, ◌+◌, ◌-◌}
+use mathlib.Core.Path.{◌≡◌, ap, ◌∙◌}
+use mathlib.Core.Bool.{Bool}
 use native.Mathlib.Omega.{arith}
-use Prim.Native.Nat.{ℕ, ◌-◌}
-use mathlib.Core.Path.{◌≡◌, refl, sym, ap, ap₂, ◌∙◌}
-use mathlib.Core.Bool.{◌&&◌}
 use lib.Dec.{leb}
+use lib.ListN.{take, drop}
 use Rattle.whole.specs.Over.{all_of}
-use Rattle.whole.proofs.OverLaws.{all_next}
+use Rattle.kept.specs.Layout.{flag_place}
 use Rattle.kept.specs.Formed.{flag_fits}
+use Rattle.kept.proofs.PieceLaws.{part_passes, byte_at}
 use Rattle.kept.proofs.tests.flags_fit.Goals as goal
-use Rattle.kept.proofs.tests.flags_fit.Goals.{At-loop-i, In-loop-i}
-
-pub loop-i-init : goal.loop-i-init
-unfolding all_of
-loop-i-init c = (omega arith, refl)
-
-pub overflow_add-i : goal.overflow_add-i
-overflow_add-i c = omega (arith, c.requires.n_bound, c.loop-i-test.true)
-
-pub u8_at-requires : goal.u8_at-requires
-u8_at-requires c = omega (arith, c.requires.s_len, c.requires.n_bound, c.loop-i-test.true)
-
-pub loop-i-preserved : goal.loop-i-preserved
-unfolding flag_fits
-loop-i-preserved c =
-    let s = c.args.s.now in (
-      omega (arith, c.loop-i-test.true),
-      ap₂ ◌&&◌ c.loop-i.invariant.1 (ap (λ (n : ℕ). leb n 1) c.u8_at.ensures) ∙ sym (all_next c.loop-i.i (flag_fits s)),
-    )
 
 pub returns : goal.returns
+unfolding flag_fits
 returns c =
-    let a = c.args in
-    let e : c.loop-i.i ≡ a.n = omega (arith, c.loop-i.invariant.0, c.loop-i-test.false) in
-    c.loop-i.invariant.1 ∙ ap (λ (n : ℕ). all_of n (flag_fits a.s.now)) e
+    let s = c.args.s.now in
+    let n = flag_place + c.args.n - flag_place in
+    let few : ℕ → Bool = λ (x : ℕ). leb x 1 in
+    all_from_yields_List few _ _ _ c.all.ensures.ran (YieldsList-from_slice (take n (drop flag_place s)) cc) (λ x b q k. search (rules, tests))
+    ∙ part_passes few s flag_place n (omega arith)
+    ∙ ap (all_of n) (λ t. λ (k : ℕ). few (byte_at s (flag_place + k) t))
+    ∙ ap (λ (k : ℕ). all_of k (flag_fits s)) (let e : n ≡ c.args.n = omega arith in e)

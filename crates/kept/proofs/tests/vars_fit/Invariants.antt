@@ -1,5 +1,5 @@
 -- So far ok says that the vars passed are in their bounds.
-use Prim.Native.Nat.{◌-◌, ◌≤◌}
+use Prim.Native.Nat.{◌≤◌}
 use mathlib.Core.Path.{◌≡◌}
 use Rattle.whole.specs.Over.{all_of}
 use Rattle.kept.specs.Formed.{var_fits}
@@ -7,6 +7,3 @@ use Rattle.kept.proofs.tests.vars_fit.Given as goal
 
 abbrev pub invariant-loop-i : goal.invariant-loop-i
 invariant-loop-i l = (l.i ≤ l.n) × (l.ok ≡ all_of l.i (var_fits l.s))
-
-abbrev pub decreases-loop-i : goal.decreases-loop-i
-decreases-loop-i l = l.n - l.i

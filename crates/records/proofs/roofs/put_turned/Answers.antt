@@ -8,9 +8,8 @@ use mathlib.Core.Bool.{cond}
 use Rattle.octets.specs.BigEndian.{bytes_of, laid}
 use Rattle.octets.proofs.ByteLaws.{bytes_length}
 use Rattle.records.specs.Records.{turned_part}
-use Rattle.records.proofs.LayLaws.{behind, longer}
+use Rattle.records.proofs.LayLaws.{behind, longer, flag_byte}
 use Rattle.records.proofs.roofs.put_turned.Goals as goal
-use Rattle.records.proofs.roofs.put_turned.Goals.{After-flag-turned, After-put_u16, After-put_u32, After-put_u8, After-put_u8-2, After-put_u8-3, Start}
 
 pub returns : goal.returns
 unfolding turned_part
@@ -34,5 +33,5 @@ returns c =
     let two = behind s at h a (bytes_of 2 26) 1 la t₁ t₂ c.put_u8.ensures c.put_u16.ensures in
     let three = behind s at h b (bytes_of 4 c.args.step) 3 lb t₂ t₃ two c.put_u32.ensures in
     let four = behind s at h d (bytes_of 1 c.args.inverter) 7 ld t₃ t₄ three c.put_u8-2.ensures in
-    let five = c.put_u8-3.ensures ∙ ap (λ (n : ℕ). laid t₄ (at + 8) (bytes_of 1 n)) c.flag-turned.ensures in
+    let five = c.put_u8-3.ensures ∙ ap (λ (n : ℕ). laid t₄ (at + 8) (bytes_of 1 n)) (flag_byte c.args.on) in
     behind s at h e (bytes_of 1 (cond c.args.on 1 0)) 8 le t₄ t₅ four five
