@@ -1,19 +1,18 @@
 use super::say;
+use super::say::Hex;
 use std::io;
 
 // C: a file. Number, place and steps of its check.
 pub fn check(out: &impl Print, v: &[u8]) -> io::Result<()> {
     let a = stick::check(v);
-    say::refusal(out, a.number)?;
-    say::number(out, a.place)?;
-    say::number(out, a.steps as u64)
+    print!(out; "{} {} {}", a.number, a.place, a.steps)
 }
 
 // Where the value part of the field at a place begins, and how many bytes it has.
 fn part_at(out: &impl Print, file: &[u8], place: u64) -> io::Result<()> {
     let n = parts::value_at(file, place).len() as u64;
-    say::number(out, parts::place_past(file, place) - n)?;
-    say::number(out, n)
+    let start = parts::place_past(file, place) - n;
+    print!(out; "0 {start} {n}")
 }
 
 // V: a place and a file. Its value part.
@@ -21,8 +20,7 @@ pub fn part(out: &impl Print, v: &[u8]) -> io::Result<()> {
     if v.len() < 4 {
         return say::unknown(out);
     }
-    let place = octets::u32_at(v, 0) as u64;
-    say::refusal(out, 0)?;
+    let place = u64::from(octets::u32_at(v, 0));
     part_at(out, &v[4..], place)
 }
 
@@ -31,7 +29,7 @@ pub fn run(out: &impl Print, v: &[u8]) -> io::Result<()> {
     if v.len() < 2 {
         return say::unknown(out);
     }
-    let n = octets::u16_at(v, 0) as usize;
+    let n = usize::from(octets::u16_at(v, 0));
     if 8192 < n {
         return say::unknown(out);
     }
@@ -42,14 +40,10 @@ pub fn run(out: &impl Print, v: &[u8]) -> io::Result<()> {
 // The run in a room.
 fn run_in(out: &impl Print, file: &[u8], room: &mut [u8]) -> io::Result<()> {
     let a = season::run(file, room);
-    let number = a.number;
-    let place = a.place;
-    let steps = a.steps;
-    say::refusal(out, number)?;
-    say::number(out, place)?;
-    say::number(out, steps as u64)?;
-    if number == 0 {
-        say::bytes(out, room, season::room(file))?;
+    print!(out; "{} {} {}", a.number, a.place, a.steps)?;
+    if a.number == 0 {
+        let n = room.len().min(season::room(file) as usize);
+        print!(out; " {}", Hex(&room[..n]))?;
     }
     Ok(())
 }

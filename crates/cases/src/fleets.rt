@@ -1,8 +1,7 @@
-ghost use Rattle.std.specs.Prelude.{◌≤◌, length};
-ghost use Rattle.members.specs.Ranges.{fleet_of};
-ghost use Rattle.members.specs.Posts.{SameLengths};
+ghost use Rattle.std.specs.Prelude.{◌≤◌};
 
 use super::say;
+use super::say::Numbers;
 use controller::PassAnswer;
 use rules::Settings;
 use settling::{StudyAnswer, Trial};
@@ -17,111 +16,59 @@ const UNIT: usize = 30;
 
 const UNIT_AND_REQUEST: usize = 34;
 
-// The units from a place of the case, so many bytes apart, into lists of one length.
-fn units(
-    v: &[u8],
-    from: usize,
-    size: usize,
-    rated: &mut [u64],
-    reserve: &mut [u64],
-    stored: &mut [u64],
-    rating: &mut [u32],
-    weight: &mut [u16],
-)
-    requires le_size { 30 ≤ size }
-    requires same_lengths { SameLengths (fleet_of rated.old reserve.old stored.old rating.old weight.old) (length rated.old) }
-{
-    let mut at = from;
-    let mut i = 0;
-    while i < rated.len() {
-        if v.len() < size {
-            return;
+// The units of a case, in lists that hold the most; where the case ends, zeros follow.
+#[derive(Drop)]
+struct Units {
+    rated: [u64; MOST],
+    reserve: [u64; MOST],
+    stored: [u64; MOST],
+    rating: [u32; MOST],
+    weight: [u16; MOST],
+}
+
+impl Units {
+    // The units of a case, so many bytes apart.
+    fn read(v: &[u8], size: usize) -> Units
+        requires { 30 ≤ size }
+    {
+        let mut units = Units {
+            rated: [0; MOST],
+            reserve: [0; MOST],
+            stored: [0; MOST],
+            rating: [0; MOST],
+            weight: [0; MOST],
+        };
+        let mut rest = v;
+        for i in 0..MOST {
+            let Some((unit, behind)) = rest.split_at_checked(size) else {
+                break;
+            };
+            units.rated[i] = octets::u64_at(unit, 0);
+            units.reserve[i] = octets::u64_at(unit, 8);
+            units.stored[i] = octets::u64_at(unit, 16);
+            units.rating[i] = octets::u32_at(unit, 24);
+            units.weight[i] = octets::u16_at(unit, 28);
+            rest = behind;
         }
-        if v.len() - size < at {
-            return;
-        }
-        rated[i] = octets::u64_at(v, at);
-        reserve[i] = octets::u64_at(v, at + 8);
-        stored[i] = octets::u64_at(v, at + 16);
-        rating[i] = octets::u32_at(v, at + 24);
-        weight[i] = octets::u16_at(v, at + 28);
-        at += size;
-        i += 1;
+        units
     }
 }
 
 // The requests of a pass's units.
-fn asked(v: &[u8], from: usize, requests: &mut [i32]) {
-    let mut at = from;
-    let mut i = 0;
-    while i < requests.len() {
-        if v.len() < UNIT_AND_REQUEST {
-            return;
-        }
-        if v.len() - UNIT_AND_REQUEST < at {
-            return;
-        }
-        requests[i] = octets::i32_at(v, at + UNIT);
-        at += UNIT_AND_REQUEST;
-        i += 1;
+fn asked(v: &[u8], requests: &mut [i32]) {
+    for (request, unit) in requests.iter_mut().zip(v.chunks_exact(UNIT_AND_REQUEST)) {
+        *request = octets::i32_at(unit, UNIT);
     }
-}
-
-// The requests after a call.
-fn show(out: &impl Print, requests: &[i32]) -> io::Result<()> {
-    for request in requests {
-        say::signed(out, *request as i64)?;
-    }
-    Ok(())
 }
 
 // A pass's answer.
 fn tell_pass(out: &impl Print, a: PassAnswer, requests: &[i32]) -> io::Result<()> {
     match a {
         PassAnswer::PassDone(p) => {
-            say::refusal(out, 0)?;
-            say::signed(out, p.need)?;
-            say::number(out, p.changed as u64)?;
-            show(out, requests)
+            print!(out; "0 {} {}{}", p.need, u8::from(p.changed), Numbers(requests))
         }
         PassAnswer::PassRefused(r) => say::refusal(out, r.number),
     }
-}
-
-// A pass over a case's units, in lists of as many.
-fn pass_of(
-    out: &impl Print,
-    v: &[u8],
-    rated: &mut [u64],
-    reserve: &mut [u64],
-    stored: &mut [u64],
-    rating: &mut [u32],
-    weight: &mut [u16],
-    requests: &mut [i32],
-) -> io::Result<()>
-    requires in_bounds { 20 ≤ length v.now }
-    requires same_lengths { SameLengths (fleet_of rated.old reserve.old stored.old rating.old weight.old) (length rated.old) }
-{
-    units(
-        v,
-        20,
-        UNIT_AND_REQUEST,
-        rated,
-        reserve,
-        stored,
-        rating,
-        weight,
-    );
-    asked(v, 20, requests);
-    let s = Settings {
-        mode: octets::u8_at(v, 0),
-        target: octets::i32_at(v, 1),
-        band: octets::u32_at(v, 5),
-        factor: octets::u16_at(v, 9),
-    };
-    let measure = octets::i64_at(v, 11);
-    let a = controller::pass(s, measure, rated, reserve, stored, rating, weight, requests);
-    tell_pass(out, a, requests)
 }
 
 // P: mode, target, band, factor, measure, the number of units, and each with its request. The need,
@@ -130,56 +77,59 @@ pub fn pass(out: &impl Print, v: &[u8]) -> io::Result<()> {
     if v.len() < 20 {
         return say::unknown(out);
     }
-    let n = octets::u8_at(v, 19) as usize;
+    let n = usize::from(octets::u8_at(v, 19));
     if MOST < n {
         return say::unknown(out);
     }
-    let mut rated = [0u64; 65];
-    let mut reserve = [0u64; 65];
-    let mut stored = [0u64; 65];
-    let mut rating = [0u32; 65];
-    let mut weight = [0u16; 65];
-    let mut requests = [0i32; 65];
-    pass_of(
-        out,
-        v,
-        &mut rated[..n],
-        &mut reserve[..n],
-        &mut stored[..n],
-        &mut rating[..n],
-        &mut weight[..n],
-        &mut requests[..n],
-    )
+    let u = Units::read(&v[20..], UNIT_AND_REQUEST);
+    let mut requests = [0i32; MOST];
+    let requests = &mut requests[0..n];
+    asked(&v[20..], requests);
+    let settings = Settings {
+        mode: octets::u8_at(v, 0),
+        target: octets::i32_at(v, 1),
+        band: octets::u32_at(v, 5),
+        factor: octets::u16_at(v, 9),
+    };
+    let a = controller::pass(
+        settings,
+        octets::i64_at(v, 11),
+        &u.rated[..n],
+        &u.reserve[..n],
+        &u.stored[..n],
+        &u.rating[..n],
+        &u.weight[..n],
+        requests,
+    );
+    tell_pass(out, a, requests)
 }
 
 // A study's answer.
 fn tell_study(out: &impl Print, a: StudyAnswer, requests: &[i32]) -> io::Result<()> {
     match a {
         StudyAnswer::StudyDone(r) => {
-            say::refusal(out, 0)?;
-            say::number(out, r.settled as u64)?;
-            say::number(out, r.passes as u64)?;
-            show(out, requests)
+            print!(out;
+                "0 {} {}{}",
+                u8::from(r.settled),
+                r.passes,
+                Numbers(requests)
+            )
         }
         StudyAnswer::StudyRefused(r) => say::refusal(out, r.number),
     }
 }
 
-// A study of a case's units, in lists of as many.
-fn study_of(
-    out: &impl Print,
-    v: &[u8],
-    rated: &mut [u64],
-    reserve: &mut [u64],
-    stored: &mut [u64],
-    rating: &mut [u32],
-    weight: &mut [u16],
-    requests: &mut [i32],
-) -> io::Result<()>
-    requires in_bounds { 23 ≤ length v.now }
-    requires same_lengths { SameLengths (fleet_of rated.old reserve.old stored.old rating.old weight.old) (length rated.old) }
-{
-    units(v, 23, UNIT, rated, reserve, stored, rating, weight);
+// T: load, target, band, factor, budget, the number of units, and each. Whether it settled, the
+// passes that changed a request, and the requests.
+pub fn study(out: &impl Print, v: &[u8]) -> io::Result<()> {
+    if v.len() < 23 {
+        return say::unknown(out);
+    }
+    let n = usize::from(octets::u8_at(v, 22));
+    if MOST < n {
+        return say::unknown(out);
+    }
+    let u = Units::read(&v[23..], UNIT);
     let settings = Settings {
         mode: 1,
         target: octets::i32_at(v, 8),
@@ -191,34 +141,16 @@ fn study_of(
         load: octets::i64_at(v, 0),
         budget: octets::u32_at(v, 18),
     };
-    let a = settling::settle(q, rated, reserve, stored, rating, weight, requests);
+    let mut requests = [0i32; MOST];
+    let requests = &mut requests[0..n];
+    let a = settling::settle(
+        q,
+        &u.rated[..n],
+        &u.reserve[..n],
+        &u.stored[..n],
+        &u.rating[..n],
+        &u.weight[..n],
+        requests,
+    );
     tell_study(out, a, requests)
-}
-
-// T: load, target, band, factor, budget, the number of units, and each. Whether it settled, the
-// passes that changed a request, and the requests.
-pub fn study(out: &impl Print, v: &[u8]) -> io::Result<()> {
-    if v.len() < 23 {
-        return say::unknown(out);
-    }
-    let n = octets::u8_at(v, 22) as usize;
-    if MOST < n {
-        return say::unknown(out);
-    }
-    let mut rated = [0u64; 65];
-    let mut reserve = [0u64; 65];
-    let mut stored = [0u64; 65];
-    let mut rating = [0u32; 65];
-    let mut weight = [0u16; 65];
-    let mut requests = [0i32; 65];
-    study_of(
-        out,
-        v,
-        &mut rated[..n],
-        &mut reserve[..n],
-        &mut stored[..n],
-        &mut rating[..n],
-        &mut weight[..n],
-        &mut requests[..n],
-    )
 }

@@ -25,12 +25,5 @@ pub fn light(out: &impl Print, v: &[u8]) -> io::Result<()> {
 
 // What an inverter gives.
 fn tell(out: &impl Print, g: Given) -> io::Result<()> {
-    let watts = g.watts;
-    let vars = g.vars;
-    let on = g.on;
-    say::refusal(out, 0)?;
-    say::number(out, on as u64)?;
-    say::signed(out, watts as i64)?;
-    say::signed(out, vars as i64)?;
-    say::number(out, g.dc)
+    print!(out; "0 {} {} {} {}", u8::from(g.on), g.watts, g.vars, g.dc)
 }

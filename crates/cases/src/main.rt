@@ -33,7 +33,7 @@ fn answer(out: &impl Print, kind: u8, value: &[u8]) -> io::Result<()> {
         b'Z' => wholes::cut(out, value)?,
         _ => say::unknown(out)?,
     }
-    say::line_end(out)
+    println!(out; "")
 }
 
 // Fills a part from the input: whether it was all there.
@@ -45,35 +45,39 @@ fn filled(input: &mut impl Read, part: &mut [u8]) -> io::Result<bool> {
     }
 }
 
-// Reads a value that fills its part and answers it: whether it was all there.
-fn value(input: &mut impl Read, out: &impl Print, kind: u8, part: &mut [u8]) -> io::Result<bool> {
-    if !filled(input, part)? {
-        return Ok(false);
-    }
-    answer(out, kind, part)?;
-    Ok(true)
+// A case, whose value lies in a room.
+#[derive(Clone, Copy)]
+struct Case<'a> {
+    kind: u8,
+    value: &'a [u8],
 }
 
-// One case: whether there was a whole one, no longer than the room.
-fn one_case(input: &mut impl Read, out: &impl Print, room: &mut [u8]) -> io::Result<bool> {
+// The next case: none where the input has no whole one, or one that is longer than the room.
+fn next<'a>(input: &mut impl Read, room: &'a mut [u8]) -> io::Result<Option<Case<'a>>> {
     let mut head = [0u8; 3];
     if !filled(input, &mut head)? {
-        return Ok(false);
+        return Ok(None);
     }
-    let length = octets::u16_at(&head, 1) as usize;
+    let kind = head[0];
+    let length = usize::from(octets::u16_at(&head, 1));
     if room.len() < length {
-        return Ok(false);
+        return Ok(None);
     }
-    value(input, out, head[0], &mut room[..length])
+    let value = &mut room[..length];
+    if !filled(input, value)? {
+        return Ok(None);
+    }
+    Ok(Some(Case { kind, value }))
 }
 
 // A proved loop has to end, and nothing says that the input does: the count is one that no input
 // uses up.
 fn all_cases(input: &mut impl Read, out: &impl Print, room: &mut [u8]) -> io::Result<()> {
     for _ in 0..u64::MAX {
-        if !one_case(input, out, room)? {
+        let Some(case) = next(input, room)? else {
             break;
-        }
+        };
+        answer(out, case.kind, case.value)?;
     }
     Ok(())
 }

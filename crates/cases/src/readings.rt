@@ -8,10 +8,7 @@ pub fn watts(out: &impl Print, v: &[u8]) -> io::Result<()> {
         return say::unknown(out);
     }
     match reading::converted(octets::f64_at(v, 0)) {
-        Watts::Whole(w) => {
-            say::refusal(out, 0)?;
-            say::signed(out, w as i64)
-        }
+        Watts::Whole(watts) => print!(out; "0 {watts}"),
         Watts::Refused => say::refusal(out, 6),
     }
 }
@@ -28,10 +25,7 @@ pub fn measure(out: &impl Print, v: &[u8]) -> io::Result<()> {
         third: octets::f64_at(v, 17),
     };
     match reading::regulated(p, phase) {
-        Measure::Chosen(m) => {
-            say::refusal(out, 0)?;
-            say::signed(out, m)
-        }
+        Measure::Chosen(watts) => print!(out; "0 {watts}"),
         Measure::RefusedBy(r) => say::refusal(out, r.number),
     }
 }
@@ -41,6 +35,6 @@ pub fn kilowatts(out: &impl Print, v: &[u8]) -> io::Result<()> {
     if v.len() != 4 {
         return say::unknown(out);
     }
-    say::refusal(out, 0)?;
-    say::number(out, reading::kw_bits(octets::i32_at(v, 0)))
+    let bits = reading::kw_bits(octets::i32_at(v, 0));
+    print!(out; "0 {bits}")
 }

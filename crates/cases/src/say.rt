@@ -1,37 +1,37 @@
-use std::io;
+use std::{fmt, io};
 
-// The number of the refusal, which begins each answer.
-pub fn refusal(out: &impl Print, n: u8) -> io::Result<()> {
-    print!(out; "{n}")
+// The number of a refusal.
+pub fn refusal(out: &impl Print, number: u8) -> io::Result<()> {
+    print!(out; "{number}")
 }
 
-// A result that is not negative.
-pub fn number(out: &impl Print, n: u64) -> io::Result<()> {
-    print!(out; " {n}")
-}
+// Bytes in hexadecimal, two digits each.
+#[derive(Clone, Copy)]
+pub struct Hex<'a>(pub &'a [u8]);
 
-// A signed result.
-pub fn signed(out: &impl Print, z: i64) -> io::Result<()> {
-    print!(out; " {z}")
-}
-
-// The first bytes of a room, in hexadecimal, two digits each.
-pub fn bytes(out: &impl Print, room: &[u8], count: u64) -> io::Result<()> {
-    out.write_all(b" ")?;
-    let mut i = 0;
-    while i < room.len() && (i as u64) < count {
-        let byte = room[i];
-        print!(out; "{byte:02x}")?;
-        i += 1;
+impl fmt::Display for Hex<'_> {
+    fn fmt<W: fmt::Write>(&self, f: &mut fmt::Formatter<W>) -> fmt::Result {
+        for byte in self.0 {
+            write!(f, "{byte:02x}")?;
+        }
+        Ok(())
     }
-    Ok(())
+}
+
+// Numbers, each behind a blank.
+#[derive(Clone, Copy)]
+pub struct Numbers<'a>(pub &'a [i32]);
+
+impl fmt::Display for Numbers<'_> {
+    fn fmt<W: fmt::Write>(&self, f: &mut fmt::Formatter<W>) -> fmt::Result {
+        for number in self.0 {
+            write!(f, " {number}")?;
+        }
+        Ok(())
+    }
 }
 
 // A case that is none of this program's.
 pub fn unknown(out: &impl Print) -> io::Result<()> {
-    out.write_all(b"?")
-}
-
-pub fn line_end(out: &impl Print) -> io::Result<()> {
-    out.write_all(b"\n")
+    print!(out; "?")
 }

@@ -36,15 +36,7 @@ pub fn step(out: &impl Print, v: &[u8]) -> io::Result<()> {
 // A step's answer.
 fn tell(out: &impl Print, a: Stepped) -> io::Result<()> {
     match a {
-        Stepped::Done(o) => {
-            let watts = o.watts;
-            let vars = o.vars;
-            say::refusal(out, 0)?;
-            say::signed(out, watts as i64)?;
-            say::signed(out, vars as i64)?;
-            say::number(out, o.stored)?;
-            say::number(out, o.loss)
-        }
+        Stepped::Done(o) => print!(out; "0 {} {} {} {}", o.watts, o.vars, o.stored, o.loss),
         Stepped::RefusedBy(r) => say::refusal(out, r.number),
     }
 }

@@ -6,11 +6,8 @@ pub fn leg(out: &impl Print, v: &[u8]) -> io::Result<()> {
     if v.len() != 8 {
         return say::unknown(out);
     }
-    say::refusal(out, 0)?;
-    say::number(
-        out,
-        whole::leg(octets::u32_at(v, 0), octets::u32_at(v, 4)) as u64,
-    )
+    let leg = whole::leg(octets::u32_at(v, 0), octets::u32_at(v, 4));
+    print!(out; "0 {leg}")
 }
 
 // U: two numbers. Their quotient rounded up.
@@ -18,8 +15,8 @@ pub fn up(out: &impl Print, v: &[u8]) -> io::Result<()> {
     if v.len() != 16 {
         return say::unknown(out);
     }
-    say::refusal(out, 0)?;
-    say::number(out, whole::ceil(octets::u64_at(v, 0), octets::u64_at(v, 8)))
+    let quotient = whole::ceil(octets::u64_at(v, 0), octets::u64_at(v, 8));
+    print!(out; "0 {quotient}")
 }
 
 // Z: a signed number and a divisor. The quotient cut toward zero.
@@ -27,6 +24,6 @@ pub fn cut(out: &impl Print, v: &[u8]) -> io::Result<()> {
     if v.len() != 16 {
         return say::unknown(out);
     }
-    say::refusal(out, 0)?;
-    say::signed(out, whole::cut(octets::i64_at(v, 0), octets::u64_at(v, 8)))
+    let quotient = whole::cut(octets::i64_at(v, 0), octets::u64_at(v, 8));
+    print!(out; "0 {quotient}")
 }

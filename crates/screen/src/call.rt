@@ -15,6 +15,5 @@ pub fn word(rt: &impl Env, place: usize, buffer: &mut [u8]) -> Result<usize, Fil
 
 // Whether the call has a word at a place.
 pub fn is_given(rt: &impl Env, place: usize) -> bool {
-    let mut none = [0u8; 0];
-    !matches!(rt.arg(place, &mut none), Err(FillError::NotPresent))
+    !matches!(rt.arg(place, &mut []), Err(FillError::NotPresent))
 }

@@ -11,7 +11,7 @@ mod words;
 
 pub use call::{is_given, word};
 pub use dump::{hex, value};
-pub use input::{Filled, fill, read_whole};
+pub use input::{Filled, Stop, fill, read_whole};
 use std::io;
 use stick::{Answer, Known};
 
@@ -20,17 +20,19 @@ pub fn refusal(out: &impl Print, a: Answer) -> io::Result<()> {
     let number = a.number;
     let name = words::name(number);
     let place = a.place;
-    let steps = a.steps as u64;
+    let steps = a.steps;
     println!(out; ": refused {number} ({name}) at byte {place} after {steps} steps")
 }
 
 // What is known of the run file, as a line; a program says nothing else of it.
 pub fn line(out: &impl Print, k: Known) -> io::Result<()> {
-    out.write_all(b"standard input")?;
     match k {
-        Known::Complete(n) => println!(out; ": complete, {n} steps"),
-        Known::Refused(a) => refusal(out, a),
-        Known::NotKnown => println!(out; ": not read to its end"),
+        Known::Complete(steps) => println!(out; "standard input: complete, {steps} steps"),
+        Known::Refused(a) => {
+            print!(out; "standard input")?;
+            refusal(out, a)
+        }
+        Known::NotKnown => println!(out; "standard input: not read to its end"),
     }
 }
 
@@ -40,10 +42,8 @@ pub fn unreadable(out: &impl Print) -> io::Result<()> {
 }
 
 // The input is longer than the buffer: what was not done, and which command does it.
-pub fn too_long(out: &impl Print, not_done: &[u8], command: &[u8]) -> io::Result<()> {
-    out.write_all(b"standard input: not ")?;
-    out.write_all(not_done)?;
-    out.write_all(b": longer than the 65536 bytes that this program holds; use import ")?;
-    out.write_all(command)?;
-    out.write_all(b"\n")
+pub fn too_long(out: &impl Print, not_done: &str, command: &str) -> io::Result<()> {
+    println!(out;
+        "standard input: not {not_done}: longer than the 65536 bytes that this program holds; use import {command}"
+    )
 }

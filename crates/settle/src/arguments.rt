@@ -1,48 +1,56 @@
-ghost use Rattle.std.specs.Prelude.{◌≤◌};
-
 use std::io;
 
-// A word of the call: the number that it is, or that it is none.
+// A number of the call, and the word that it was given as.
 #[derive(Clone, Copy)]
-pub enum Given {
-    Number(u32),
-    NoNumber,
+pub struct Given<'a> {
+    pub word: &'a [u8],
+    pub number: u32,
+}
+
+// What is to be studied: a load in watts, in at most so many passes.
+#[derive(Clone, Copy)]
+pub struct Asked<'a> {
+    pub load: Given<'a>,
+    pub budget: Given<'a>,
 }
 
 // The most that a word is read as, which is more than any range here has.
 const MOST: u32 = 999999999;
 
-// The number of a word of decimal digits; a larger one than the most is the most.
-pub fn number(word: &[u8]) -> Given {
-    if word.len() == 0 {
-        return Given::NoNumber;
+// The number of a word of decimal digits, and none of another word; a larger one than the most is
+// the most.
+fn number(word: &[u8]) -> Option<u32> {
+    if word.is_empty() {
+        return None;
     }
     let mut n: u32 = 0;
-    let mut i = 0;
-    while i < word.len() {
-        let digit = word[i];
-        if digit < b'0' || b'9' < digit {
-            return Given::NoNumber;
-        }
-        n = with_digit(n, digit - b'0');
-        i += 1;
+    for byte in word {
+        let digit = (*byte as char).to_digit(10)?;
+        n = n.saturating_mul(10).saturating_add(digit).min(MOST);
     }
-    Given::Number(n)
+    Some(n)
 }
 
-// A number with one digit more.
-fn with_digit(n: u32, digit: u8) -> u32
-    requires { digit ≤ 9 }
-{
-    if 99999999 < n {
-        return MOST;
+impl<'a> Given<'a> {
+    // A word and its number, where it is one.
+    fn parse(word: &'a [u8]) -> Option<Self> {
+        let number = number(word)?;
+        Some(Given { word, number })
     }
-    10 * n + (digit as u32)
+}
+
+impl<'a> Asked<'a> {
+    // The words of the call, where both are numbers.
+    pub fn parse(load: &'a [u8], budget: &'a [u8]) -> Option<Self> {
+        let load = Given::parse(load)?;
+        let budget = Given::parse(budget)?;
+        Some(Asked { load, budget })
+    }
 }
 
 // How the program is called.
 pub fn usage(err: &impl Print) -> io::Result<()> {
-    err.write_all(
-        b"usage: settle LOAD [BUDGET] <FILE\n    LOAD is in watts, such as 150000; BUDGET is the most passes, such as 100.\n",
+    println!(err;
+        "usage: settle LOAD [BUDGET] <FILE\n    LOAD is in watts, such as 150000; BUDGET is the most passes, such as 100."
     )
 }

@@ -1,59 +1,39 @@
 ghost use Rattle.std.specs.Prelude.{◌≤◌, length};
 ghost use Rattle.stick.specs.Check.{Accepted};
 
+use super::arguments::Asked;
 use super::{lines, sums};
-use settling::StudyAnswer;
-use site::Head;
+use settling::{Studied, StudyAnswer};
 use std::io;
 
-// The lines of a study of an accepted file; none where it was refused, which is answered with false.
-fn told(
-    out: &impl Print,
-    file: &[u8],
-    head: Head,
-    a: StudyAnswer,
-    load: u32,
-    budget: u32,
-    requests: &[i32],
-) -> io::Result<bool>
+// The lines of a study of an accepted file.
+fn told(out: &impl Print, file: &[u8], asked: Asked, r: Studied, requests: &[i32]) -> io::Result<()>
     requires accepted { Accepted file.now }
     requires requests_len_bound { length requests.now ≤ 64 }
 {
-    let StudyAnswer::StudyDone(r) = a else {
-        return Ok(false);
-    };
-    let s = head.settings;
-    lines::outcome(out, r, budget)?;
+    let s = stick::head(file).settings;
+    lines::outcome(out, r, asked.budget.number)?;
     lines::mode(out, s.mode)?;
     lines::units(out, file, requests)?;
-    let l = sums::after(load, s.target, s.band, requests);
+    let l = sums::after(asked.load.number, s.target, s.band, requests);
     lines::left(out, l, s.target, s.band)?;
     if !r.settled {
         lines::rest(out, l, sums::room(file, requests))?;
     }
-    Ok(true)
+    Ok(())
 }
 
-// The study over the fleet and the settings of an accepted file, with a request for each unit.
-fn made_with(
-    out: &impl Print,
-    file: &[u8],
-    load: u32,
-    budget: u32,
-    requests: &mut [i32],
-) -> io::Result<bool>
-    requires accepted { Accepted file.now }
-    requires requests_len_bound { length requests.old ≤ 64 }
-{
-    let a = ask::study(file, load as i64, budget, requests);
-    told(out, file, stick::head(file), a, load, budget, requests)
-}
-
-// The same: false where the load or the budget is outside its range.
-pub fn made(out: &impl Print, file: &[u8], load: u32, budget: u32) -> io::Result<bool>
+// The study over the fleet and the settings of an accepted file, with a request for each unit, or
+// what is said where the load or the budget is outside its range.
+pub fn made(out: &impl Print, err: &impl Print, file: &[u8], asked: Asked) -> io::Result<()>
     requires { Accepted file.now }
 {
     let n = stick::units(file);
-    let mut requests = [0i32; 64];
-    made_with(out, file, load, budget, &mut requests[0..n])
+    let mut room = [0i32; 64];
+    let requests = &mut room[0..n];
+    let load = i64::from(asked.load.number);
+    match ask::study(file, load, asked.budget.number, requests) {
+        StudyAnswer::StudyDone(r) => told(out, file, asked, r, requests),
+        StudyAnswer::StudyRefused(_) => lines::refused(out, err, asked),
+    }
 }

@@ -10,21 +10,17 @@ use stick::Known;
 fn checked(out: &impl Print, file: &[u8]) -> io::Result<()> {
     let k = stick::known_whole(file);
     screen::line(out, k)?;
-    let Known::Refused(a) = k else {
-        return Ok(());
-    };
-    screen::value(out, parts::value_at(file, a.place))
+    match k {
+        Known::Refused(a) => screen::value(out, parts::value_at(file, a.place)),
+        _ => Ok(()),
+    }
 }
 
 fn main(rt: HostRuntime) -> io::Result<()> {
     let mut room = [0u8; 65536];
-    let f = screen::read_whole(&mut rt.stdin(), &mut room);
-    let n = f.count;
-    if f.failed.is_some() {
-        screen::unreadable(&rt)
-    } else if !f.ended {
-        screen::too_long(&rt, b"checked", b"check")
-    } else {
-        checked(&rt, &room[..n])
+    match screen::read_whole(&mut rt.stdin(), &mut room) {
+        Ok(Some(n)) => checked(&rt, &room[..n]),
+        Ok(None) => screen::too_long(&rt, "checked", "check"),
+        Err(_) => screen::unreadable(&rt),
     }
 }

@@ -6,6 +6,7 @@
 mod files;
 mod lines;
 
+use lines::Name;
 use partner::{PartnerAnswer, Verdict};
 use std::io;
 use std::rt::Files;
@@ -13,13 +14,12 @@ use std::rt::Files;
 // A verdict's line, and behind one of a wrong result the bytes that show it.
 fn told(
     out: &impl Print,
-    run_name: &[u8],
-    result_name: &[u8],
+    run_name: Name,
+    result_name: Name,
     v: Verdict,
     shown: &[u8],
 ) -> io::Result<()> {
-    let number = v.number;
-    match number {
+    match v.number {
         0 => lines::right(out, run_name, result_name)?,
         1 => lines::wrong(out, run_name, result_name, v.start)?,
         _ => lines::short(out, run_name, result_name, v.start)?,
@@ -28,13 +28,13 @@ fn told(
 }
 
 // The verdict on what was read, all of it.
-fn judged<'a>(
+fn judged(
     out: &impl Print,
     err: &impl Print,
-    run_name: &[u8],
-    run: &'a [u8],
-    result_name: &[u8],
-    res: &'a [u8],
+    run_name: Name,
+    run: &[u8],
+    result_name: Name,
+    res: &[u8],
 ) -> io::Result<()> {
     match partner::judge(run, res) {
         PartnerAnswer::Judged(v) => {
@@ -51,21 +51,17 @@ fn judged<'a>(
 fn call(
     rt: &(impl Files + Print + AllocGlobal),
     err: &impl Print,
-    run_name: &[u8],
-    result_name: &[u8],
+    run_name: Name,
+    result_name: Name,
 ) -> io::Result<()> {
     let mut run = [0u8; 65536];
     let mut result = [0u8; 65536];
-    let a = files::read(rt, err, run_name, &mut run)?;
-    if !a.ended {
+    let Some(n) = files::read(rt, err, run_name, &mut run)? else {
         return lines::no_verdict(err, result_name);
-    }
-    let b = files::read(rt, err, result_name, &mut result)?;
-    if !b.ended {
+    };
+    let Some(m) = files::read(rt, err, result_name, &mut result)? else {
         return lines::no_verdict(err, result_name);
-    }
-    let n = a.count;
-    let m = b.count;
+    };
     judged(rt, err, run_name, &run[..n], result_name, &result[..m])
 }
 
@@ -76,11 +72,11 @@ fn main(rt: HostRuntime) -> io::Result<()> {
     }
     let mut run_name = [0u8; 4096];
     let Ok(n) = screen::word(&rt, 1, &mut run_name) else {
-        return lines::too_long_a_name(&err, b"RUN");
+        return lines::too_long_a_name(&err, "RUN");
     };
     let mut result_name = [0u8; 4096];
     let Ok(m) = screen::word(&rt, 2, &mut result_name) else {
-        return lines::too_long_a_name(&err, b"RESULT");
+        return lines::too_long_a_name(&err, "RESULT");
     };
-    call(&rt, &err, &run_name[..n], &result_name[..m])
+    call(&rt, &err, Name(&run_name[..n]), Name(&result_name[..m]))
 }

@@ -1,77 +1,88 @@
-ghost use Rattle.std.specs.Prelude.{◌≤◌, length};
-
-use feed::Fed;
+use screen::Stop;
 use std::io;
 use stick::Known;
 
 // As many buffers as the longest file that is not refused can fill, and more.
 const TURNS: u32 = 64;
 
-// How a run goes: the number of a refusal, 0 for none; whether anything was written, and whether all
-// that should be was.
+// What the output holds: nothing, all that was to be written so far, or not all of that.
 #[derive(Clone, Copy)]
-pub struct Went {
-    pub number: u8,
-    pub begun: bool,
-    pub whole: bool,
+pub enum Output {
+    Empty,
+    Whole,
+    Cut,
 }
 
-// Writes the results of a call, which stand at the room's start.
-fn put(out: &impl Print, f: Fed, room: &[u8], begun: bool) -> Went
-    requires { f.written ≤ length room.now }
-{
-    let n = f.written as usize;
-    let number = f.number;
-    let whole = out.write_all(&room[0..n]).is_ok();
-    Went {
-        number,
-        begun: begun | (0 < n),
-        whole,
+// Why a run does not go on with the bytes behind a piece: the room is too small for its results, it
+// was refused, or its results were not written.
+#[derive(Clone, Copy)]
+enum Halt {
+    TooSmall,
+    Refused,
+    NotWritten,
+}
+
+// Writes results.
+fn put(out: &impl Print, results: &[u8], output: &mut Output) -> Result<(), Halt> {
+    if results.is_empty() {
+        return Ok(());
+    }
+    match out.write_all(results) {
+        Ok(()) => {
+            *output = Output::Whole;
+            Ok(())
+        }
+        Err(_) => {
+            *output = Output::Cut;
+            Err(Halt::NotWritten)
+        }
     }
 }
 
 // Feeds a piece and writes its results.
-fn give(out: &impl Print, state: &mut [u8], piece: &[u8], room: &mut [u8], begun: bool) -> Went {
+fn give(
+    out: &impl Print,
+    state: &mut [u8],
+    piece: &[u8],
+    room: &mut [u8],
+    output: &mut Output,
+) -> Result<(), Halt> {
     let f = feed::feed(state, piece, room);
-    put(out, f, room, begun)
+    let n = f.written as usize;
+    match f.number {
+        0 => put(out, &room[0..n], output),
+        11 => Err(Halt::TooSmall),
+        _ => Err(Halt::Refused),
+    }
 }
 
 // Feeds all of a chunk, in pieces whose results the room holds: where one has too many, half as many
 // bytes are tried. A byte closes one step at most, so that the room is large enough for some piece.
-fn chunk(out: &impl Print, state: &mut [u8], bytes: &[u8], room: &mut [u8], begun: bool) -> Went {
+fn chunk(
+    out: &impl Print,
+    state: &mut [u8],
+    bytes: &[u8],
+    room: &mut [u8],
+    output: &mut Output,
+) -> Result<(), Halt> {
     let mut at = 0;
     let mut most = bytes.len();
-    let mut w = Went {
-        number: 0,
-        begun,
-        whole: true,
-    };
-    while at < bytes.len() && 0 < most {
-        let end = at + (whole::least64(most as u64, (bytes.len() - at) as u64) as usize);
-        w = give(out, state, &bytes[at..end], room, w.begun);
-        if w.number == 11 {
-            most /= 2;
-        } else if (w.number != 0) | !w.whole {
-            return w;
-        } else {
-            at = end;
+    while at < bytes.len() {
+        let end = at + most.min(bytes.len() - at);
+        match give(out, state, &bytes[at..end], room, output) {
+            Ok(()) => at = end,
+            Err(Halt::TooSmall) if 1 < most => most /= 2,
+            Err(halt) => return Err(halt),
         }
     }
-    w
+    Ok(())
 }
 
-// What a buffer leaves: how the run goes, and whether the input ended there or a read failed.
+// What became of a buffer, and why there is no more in it.
 #[derive(Clone, Copy)]
-struct Read {
-    went: Went,
-    ended: bool,
-    failed: bool,
-}
-
-// The run goes on with the next buffer.
-fn on(t: Read) -> bool {
-    let w = t.went;
-    !(t.ended | t.failed | (w.number != 0) | !w.whole)
+struct Went {
+    fed: Result<(), Halt>,
+    stop: Stop,
 }
 
 // Feeds one buffer of standard input.
@@ -80,64 +91,55 @@ fn turn(
     out: &impl Print,
     state: &mut [u8],
     room: &mut [u8],
-    begun: bool,
-) -> Read {
+    output: &mut Output,
+) -> Went {
     let mut bytes = [0u8; 65536];
     let f = screen::fill(input, &mut bytes);
-    let n = f.count;
-    let went = chunk(out, state, &bytes[..n], room, begun);
-    Read {
-        went,
-        ended: f.ended,
-        failed: f.failed.is_some(),
-    }
+    let fed = chunk(out, state, &bytes[..f.count], room, output);
+    Went { fed, stop: f.stop }
 }
 
 // Feeds standard input, a buffer at a time, until it ends, cannot be read or is refused, or until its
 // results cannot be written.
-fn buffers(input: &mut impl io::Read, out: &impl Print, state: &mut [u8], room: &mut [u8]) -> Read {
-    let mut t = turn(input, out, state, room, false);
+fn buffers(
+    input: &mut impl io::Read,
+    out: &impl Print,
+    state: &mut [u8],
+    room: &mut [u8],
+    output: &mut Output,
+) -> Went {
+    let mut t = turn(input, out, state, room, output);
     for _ in 0..TURNS {
-        if !on(t) {
+        let (Ok(()), Stop::Full) = (t.fed, t.stop) else {
             return t;
-        }
-        let w = t.went;
-        t = turn(input, out, state, room, w.begun);
+        };
+        t = turn(input, out, state, room, output);
     }
     t
 }
 
-// Writes the end record of a complete stick, which stands at the room's start: false where that fails.
-fn put_end(out: &impl Print, k: Known, room: &[u8]) -> bool
-    requires { 7 ≤ length room.now }
-{
-    let Known::Complete(_) = k else {
-        return true;
-    };
-    out.write_all(&room[0..7]).is_ok()
-}
-
-// What a run came to: what is known of the stick, whether a read failed, whether anything was written,
-// and whether all that should be was.
+// What a run came to: what is known of the stick, whether a read failed, and what was written.
 #[derive(Clone, Copy)]
 pub struct Ran {
     pub known: Known,
     pub failed: bool,
-    pub begun: bool,
-    pub whole: bool,
+    pub output: Output,
 }
 
-// Feeds standard input, and its end where all of it was fed and written.
+// Feeds standard input, and its end where all of it was fed and written: of a complete stick the end
+// record then stands at the room's start.
 pub fn all(input: &mut impl io::Read, out: &impl Print, state: &mut [u8]) -> Ran {
     let mut room = [0u8; 65536];
-    let t = buffers(input, out, state, &mut room);
-    let w = t.went;
-    let known = fed::known(state, &mut room, t.ended & w.whole & (w.number == 0));
-    let last = put_end(out, known, &room);
+    let mut output = Output::Empty;
+    let t = buffers(input, out, state, &mut room, &mut output);
+    let all_fed = matches!((t.fed, t.stop), (Ok(()), Stop::Ended));
+    let known = fed::known(state, &mut room, all_fed);
+    if let Known::Complete(_) = known {
+        let _ = put(out, &room[0..7], &mut output);
+    }
     Ran {
         known,
-        failed: t.failed,
-        begun: w.begun,
-        whole: w.whole & last,
+        failed: matches!(t.stop, Stop::Failed(_)),
+        output,
     }
 }

@@ -5,19 +5,15 @@
 
 mod feeding;
 
-use feeding::Ran;
+use feeding::{Output, Ran};
 use std::io;
 use stick::Known;
 
 // What is known of the stick, or that it cannot be read.
 fn input_told(err: &impl Print, k: Known, failed: bool) -> io::Result<()> {
-    let Known::NotKnown = k else {
-        return screen::line(err, k);
-    };
-    if failed {
-        screen::unreadable(err)
-    } else {
-        screen::line(err, k)
+    match k {
+        Known::NotKnown if failed => screen::unreadable(err),
+        _ => screen::line(err, k),
     }
 }
 
@@ -25,16 +21,12 @@ fn input_told(err: &impl Print, k: Known, failed: bool) -> io::Result<()> {
 fn output_told(err: &impl Print, k: Known) -> io::Result<()> {
     match k {
         Known::Complete(_) => Ok(()),
-        Known::Refused(_) => {
-            err.write_all(
-                b"standard output: steps of a stick that was refused; throw away what it holds\n",
-            )
-        }
-        Known::NotKnown => {
-            err.write_all(
-                b"standard output: steps of a stick that was not read to its end; throw away what it holds\n",
-            )
-        }
+        Known::Refused(_) => println!(err;
+            "standard output: steps of a stick that was refused; throw away what it holds"
+        ),
+        Known::NotKnown => println!(err;
+            "standard output: steps of a stick that was not read to its end; throw away what it holds"
+        ),
     }
 }
 
@@ -42,12 +34,12 @@ fn output_told(err: &impl Print, k: Known) -> io::Result<()> {
 fn told(err: &impl Print, r: Ran) -> io::Result<()> {
     let known = r.known;
     input_told(err, known, r.failed)?;
-    if !r.whole {
-        err.write_all(b"standard output: not written whole; throw away what it holds\n")
-    } else if r.begun {
-        output_told(err, known)
-    } else {
-        Ok(())
+    match r.output {
+        Output::Empty => Ok(()),
+        Output::Whole => output_told(err, known),
+        Output::Cut => println!(err;
+            "standard output: not written whole; throw away what it holds"
+        ),
     }
 }
 

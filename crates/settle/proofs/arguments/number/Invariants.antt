@@ -1,9 +1,0 @@
--- The place stays below the word's end.
-use Rattle.std.proofs.Common.{length, ◌-◌, ◌≤◌}
-use Rattle.settle.proofs.arguments.number.Given as goal
-
-abbrev pub invariant-loop-i : goal.invariant-loop-i
-invariant-loop-i l = l.i ≤ length l.word
-
-abbrev pub decreases-loop-i : goal.decreases-loop-i
-decreases-loop-i l = length l.word - l.i
