@@ -11,6 +11,7 @@ use Rattle.whole.specs.Over.{all_of}
 use Rattle.whole.proofs.OverLaws.{and_parts}
 use Rattle.unit.specs.declared.Unit.{Unit}
 use Rattle.unit.specs.Ranges.{member_in, unit_in}
+use Rattle.rows.specs.declared.Row.{Row}
 use Rattle.rows.specs.Rows.{units_by, stores_by}
 use Rattle.members.specs.Ranges.{fleet_for, member_at, lengths_ok, lengths_in}
 use Rattle.members.specs.Posts.{fleet_by}
@@ -90,7 +91,7 @@ module _ (file : List ℕ) where
       go false e = refl
 
   -- ---- rows with the file's units, and a list of what they hold
-  pub rows_fleet : (rows : List (List ℕ)) (stored : List ℕ) → units_by rows ≡ (site_of file).units → stored ≡ stores_by rows → fleet_by rows stored ≡ fleet_said file
+  pub rows_fleet : (rows : List Row) (stored : List ℕ) → units_by rows ≡ (site_of file).units → stored ≡ stores_by rows → fleet_by rows stored ≡ fleet_said file
   unfolding stores_by
   rows_fleet rows stored e held = ap₂ fleet_for e (held ∙ ap (map (λ (u : Unit). u.stored)) e)
 

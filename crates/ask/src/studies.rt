@@ -4,13 +4,14 @@ ghost use Rattle.stick.specs.Site.{site_of};
 ghost use Rattle.ask.specs.Says.{file_study, file_study_leaves};
 ghost use Rattle.ask.specs.Posts.{Studying, Surveyed};
 
+use rows::Row;
 use settling::{Studied, StudyAnswer, Trial};
 
 // The study over an accepted file's fleet, with rows and a list for its units.
 fn study_with(
     file: &[u8],
     q: Trial,
-    rows: &mut [[u64; 24]],
+    rows: &mut [Row],
     stored: &mut [u64],
     requests: &mut [i32],
 ) -> Studied
@@ -31,7 +32,7 @@ fn study_over(file: &[u8], q: Trial, requests: &mut [i32]) -> Studied
     ensures { Surveyed file.now q requests.old requests.new result }
 {
     let n = requests.len();
-    let mut rows = [[0u64; 24]; 64];
+    let mut rows = [Row::EMPTY; 64];
     let mut stored = [0u64; 64];
     study_with(file, q, &mut rows[0..n], &mut stored[0..n], requests)
 }

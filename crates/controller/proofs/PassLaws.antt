@@ -14,6 +14,7 @@ use Rattle.whole.specs.Over.{all_of, each}
 use Rattle.whole.proofs.OverLaws.{sum_upto, none_of}
 use Rattle.whole.proofs.SignLaws.{read}
 use Rattle.unit.specs.declared.Unit.{Unit}
+use Rattle.rows.specs.declared.Row.{Row}
 use Rattle.rows.proofs.RowLaws.{column_count}
 use Rattle.rules.specs.declared.Settings.{Settings}
 use Rattle.rules.specs.declared.Asked.{Asked}
@@ -37,7 +38,7 @@ pub record TotalsFor (f : Fleet) (n : ℕ) (t : Totals) : Type 0 where
   pub weight : t.weight ≡ total n f.weight
 
 -- those of rows
-pub totals_for : (rows : List (List ℕ)) (stored : List ℕ) (n : ℕ) (t : Totals) → SameLengths (fleet_by rows stored) n → TotalsOf rows t → TotalsFor (fleet_by rows stored) n t
+pub totals_for : (rows : List Row) (stored : List ℕ) (n : ℕ) (t : Totals) → SameLengths (fleet_by rows stored) n → TotalsOf rows t → TotalsFor (fleet_by rows stored) n t
 totals_for rows stored n t h e =
     let count : length rows ≡ n = sym (column_count (λ (u : Unit). u.rated) rows) ∙ h.rated in record {
       rated = e.rated ∙ ap (λ (k : ℕ). total k (column_by (λ (u : Unit). u.rated) rows)) count;

@@ -19,7 +19,8 @@ use Rattle.whole.specs.Over.{all_of}
 use Rattle.whole.proofs.OverLaws.{and_parts, all_at, each_length, each_at}
 use Rattle.unit.specs.declared.Unit.{Unit}
 use Rattle.unit.specs.Ranges.{member_in, unit_in, link_of}
-use Rattle.rows.specs.Rows.{unit_by}
+use Rattle.rows.specs.declared.Row.{Row}
+use Rattle.rows.specs.Rows.{no_row, unit_by}
 use Rattle.unit.proofs.RangeLaws.{Bounds, bounds, link_most}
 use Rattle.rows.proofs.RowLaws.{column_count}
 use Rattle.rules.specs.declared.Settings.{Settings}
@@ -157,28 +158,26 @@ sound s m f n tl el ts hm hc tu link =
     link
 
 -- ---- rows of units in their ranges
-module _ (rows : List (List ℕ)) (units : (i : ℕ) → i < length rows → unit_in (unit_by (get_or rows i [])) ≡ true) (few : length rows ≤ 64) where
-  bounded : (i : ℕ) → i < length rows → Bounds (unit_by (get_or rows i [])) 1
-  bounded i h = bounds {u = unit_by (get_or rows i [])} {seconds = 1} (record { unit = units i h; seconds_in_is = refl })
+module _ (rows : List Row) (units : (i : ℕ) → i < length rows → unit_in (unit_by (get_or rows i no_row)) ≡ true) (few : length rows ≤ 64) where
+  bounded : (i : ℕ) → i < length rows → Bounds (unit_by (get_or rows i no_row)) 1
+  bounded i h = bounds {u = unit_by (get_or rows i no_row)} {seconds = 1} (record { unit = units i h; seconds_in_is = refl })
 
   -- a column whose values are bounded can be added up
-  column_addable : (value : Unit → ℕ) → value (unit_by []) ≡ 0 → ((i : ℕ) → i < length rows → value (unit_by (get_or rows i [])) ≤ 10000000000000) → Addable (column_by value rows)
+  column_addable : (value : Unit → ℕ) → value (unit_by no_row) ≡ 0 → ((i : ℕ) → i < length rows → value (unit_by (get_or rows i no_row)) ≤ 10000000000000) → Addable (column_by value rows)
   column_addable value none h = record {
     few = le_trans (le_of_eq (column_count value rows)) few;
     small = everywhere (column_by value rows) (length rows) 10000000000000 (column_count value rows) (λ i l. le_trans (le_of_eq (column_is value none rows i)) (h i l));
   }
 
   pub rows_addable : Addable (column_by (λ (u : Unit). u.rated) rows) × Addable (column_by (λ (u : Unit). u.reserve) rows)
-  unfolding unit_by
   rows_addable = (
     column_addable (λ (u : Unit). u.rated) refl (λ i l. (bounded i l).rated_most),
     column_addable (λ (u : Unit). u.reserve) refl (λ i l. le_trans (bounded i l).reserve_most (bounded i l).rated_most),
   )
 
   pub rows_sound : 1 ≤ length rows → (s : Settings) → settings_in s ≡ true → (stored : List ℕ) → length stored ≡ length rows
-      → ((i : ℕ) → i < length rows → get_or stored i 0 ≤ (unit_by (get_or rows i [])).rated) → ((i : ℕ) → i < length rows → (unit_by (get_or rows i [])).link ≤ 120000) → (m : ℤ) → nat_abs m ≤ 300000000
+      → ((i : ℕ) → i < length rows → get_or stored i 0 ≤ (unit_by (get_or rows i no_row)).rated) → ((i : ℕ) → i < length rows → (unit_by (get_or rows i no_row)).link ≤ 120000) → (m : ℤ) → nat_abs m ≤ 300000000
       → Sound s m (fleet_by rows stored) (length rows)
-  unfolding unit_by
   rows_sound some s ts stored e held links m hm =
       made_sound s m (fleet_by rows stored) (length rows)
       (record {

@@ -6,6 +6,7 @@ ghost use Rattle.controller.specs.Answers.{pass_answer, pass_leaves};
 
 use super::{Aim, PassAnswer, Passed};
 use members::Totals;
+use rows::Row;
 use rules::{Asked, Settings, Wanted};
 
 // What the requests ask. F is looked at in the state that is not the mode's own alone, and is 0 in others.
@@ -21,7 +22,7 @@ fn asked_for(charging: bool, requests: &[i32]) -> Asked
 }
 
 // P3: a fleet that is not in the mode's own state rests where no unit's own need calls.
-fn rests(charging: bool, w: Wanted, a: Asked, units: &[[u64; 24]], stored: &[u64]) -> bool
+fn rests(charging: bool, w: Wanted, a: Asked, units: &[Row], stored: &[u64]) -> bool
     requires in_bounds { 1 ≤ length units.now }
     requires linked { Linked w (fleet_by units.now stored.now) }
     ensures { result ≡ rests_by charging w a (fleet_by units.now stored.now) (length units.now) }
@@ -37,7 +38,7 @@ pub fn pass_within(
     s: Settings,
     measure: i64,
     t: Totals,
-    units: &[[u64; 24]],
+    units: &[Row],
     stored: &[u64],
     requests: &mut [i32],
 ) -> Passed
@@ -78,7 +79,7 @@ fn pass_with(
     rating: &[u32],
     weight: &[u16],
     links: &[u32],
-    units: &mut [[u64; 24]],
+    units: &mut [Row],
     requests: &mut [i32],
 ) -> Passed
     requires sound { Sound aim.settings aim.measure (fleet_linked rated.now reserve.now stored.now rating.now weight.now links.now) (length requests.old) }
@@ -110,7 +111,7 @@ pub fn pass_over(
         requests.old requests.new result }
 {
     let n = requests.len();
-    let mut units = [[0u64; 24]; 64];
+    let mut units = [Row::EMPTY; 64];
     pass_with(
         aim,
         rated,

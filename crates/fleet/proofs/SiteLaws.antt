@@ -13,7 +13,8 @@ use Rattle.whole.specs.Over.{each_from, each}
 use Rattle.whole.proofs.OverLaws.{each_length, each_at, part, part_none, part_all, part_more}
 use Rattle.unit.specs.declared.Unit.{Unit}
 use Rattle.unit.specs.Ranges.{unit_in, holding, Ranged}
-use Rattle.rows.specs.Rows.{unit_by, units_by}
+use Rattle.rows.specs.declared.Row.{Row}
+use Rattle.rows.specs.Rows.{no_row, unit_by, units_by}
 use Rattle.unit.proofs.RangeLaws.{bounds}
 use Rattle.rows.proofs.RowLaws.{units_count, units_at_lem, length_map}
 use Rattle.site.specs.declared.Head.{Head}
@@ -30,18 +31,17 @@ module _ (site : Site) (h : Sited site) where
   held_ranged i s l w = holding_ranged (unit_of site i) s site.head.seconds (unit_ranged site h i l) w
 
 -- ---- rows
-module _ (head : Head) (rows : List (List ℕ)) where
+module _ (head : Head) (rows : List Row) where
   pub rows_count : count (site_by head rows) ≡ length rows
   rows_count = units_count rows
 
-  pub row_unit_lem : (i : ℕ) → unit_of (site_by head rows) i ≡ unit_by (get_or rows i [])
-  unfolding unit_by
+  pub row_unit_lem : (i : ℕ) → unit_of (site_by head rows) i ≡ unit_by (get_or rows i no_row)
   row_unit_lem i = units_at_lem rows i
 
   pub rows_below : (i : ℕ) → i < length rows → i < count (site_by head rows)
   rows_below i l = le_trans l (le_of_eq (sym rows_count))
 
-  pub rows_in : Sited (site_by head rows) → (i : ℕ) → i < length rows → unit_in (unit_by (get_or rows i [])) ≡ true
+  pub rows_in : Sited (site_by head rows) → (i : ℕ) → i < length rows → unit_in (unit_by (get_or rows i no_row)) ≡ true
   rows_in h i l = ap unit_in (sym (row_unit_lem i)) ∙ h.units i (rows_below i l)
 
   pub rows_some : Sited (site_by head rows) → 1 ≤ length rows
@@ -61,9 +61,9 @@ unfolding each
 zeros rs n e = from_zero 0 rs ∙ ap (λ (k : ℕ). replicate k (pos 0)) e
 
 -- each unit's own vars, put one after the other
-module _ (rows : List (List ℕ)) (l : List ℤ) where
+module _ (rows : List Row) (l : List ℤ) where
   abbrev own : ℕ → ℤ → ℤ
-  own i v = (unit_by (get_or rows i [])).var_request
+  own i v = (unit_by (get_or rows i no_row)).var_request
 
   pub record Owning (now : List ℤ) (i : ℕ) : Type 0 where
     pub upto : i ≤ length l
@@ -73,14 +73,13 @@ module _ (rows : List (List ℕ)) (l : List ℤ) where
   none_own = record { upto = omega arith; is = sym (part_none own l) }
 
   module _ (now : List ℤ) (i : ℕ) (g : Owning now i) where
-    pub one_own : i < length l → (v : ℤ) → v ≡ (unit_by (get_or rows i [])).var_request → Owning (set now i v) (i + 1)
+    pub one_own : i < length l → (v : ℤ) → v ≡ (unit_by (get_or rows i no_row)).var_request → Owning (set now i v) (i + 1)
     one_own h v e = record {
       upto = omega arith;
       is = ap (λ (t : List ℤ). set t i v) g.is ∙ part_more own l i (pos 0) v h e;
     }
 
     pub all_own : i ≡ length l → length l ≡ length rows → now ≡ map (λ (u : Unit). u.var_request) (units_by rows)
-    unfolding unit_by
     all_own e same =
         let vars : List ℤ = map (λ (u : Unit). u.var_request) (units_by rows) in
         g.is ∙ ap (part own l) e ∙ part_all own l
@@ -89,7 +88,7 @@ module _ (rows : List (List ℕ)) (l : List ℤ) where
         each_at own l k (pos 0) (le_trans h (le_of_eq (each_length own l)))
         ∙ sym (get_or-map (λ (u : Unit). u.var_request) (units_by rows) k no_unit ∙ ap (λ (u : Unit). u.var_request) (units_at_lem rows k)))
 
-pub first_held : (head : Head) (rows : List (List ℕ)) (stored : List ℕ) (rs vs : List ℤ) → Sited (site_by head rows) → standing stored rs vs ≡ at_first (units_by rows)
+pub first_held : (head : Head) (rows : List Row) (stored : List ℕ) (rs vs : List ℤ) → Sited (site_by head rows) → standing stored rs vs ≡ at_first (units_by rows)
     → Held (site_by head rows) stored rs vs
 unfolding at_first
 first_held head rows stored rs vs h e =

@@ -3,7 +3,7 @@
 -- Assumes nothing.
 use mathlib.Core.Path.{◌≡◌, refl, sym, ap, ap₂, ◌∙◌, subst, subst⁻¹}
 use mathlib.Core.Bool.{Bool, true, false, not, cond, ◌||◌}
-use mathlib.Core.List.{List, [], ◌++◌}
+use mathlib.Core.List.{List, ◌++◌}
 use Prim.Native.Nat.{ℕ, zero, suc, ◌+◌, ◌*◌, ◌^◌, ◌≤◌, ◌<◌, zero-le}
 use native.Mathlib.Nat.{le_trans, le_of_eq}
 use native.Mathlib.Numerals.{add-one}
@@ -21,6 +21,7 @@ use Rattle.whole.proofs.SignLaws.{read}
 use Rattle.whole.specs.Over.{each}
 use Rattle.whole.proofs.OverLaws.{each_length, each_at, part, part_none, part_all, part_next, part_more}
 use Rattle.octets.specs.BigEndian.{laid}
+use Rattle.rows.specs.declared.Row.{Row}
 use Rattle.reading.specs.declared.Phases.{Phases}
 use Rattle.reading.specs.declared.Reading.{Reading}
 use Rattle.reading.specs.declared.Reading.TheVariants.{Missing, Power, Current}
@@ -29,7 +30,7 @@ use Rattle.reading.specs.declared.Measure.TheVariants.{Chosen, RefusedBy}
 use Rattle.reading.specs.Choice.{measure_of, current_of, measure_call}
 use Rattle.unit.specs.declared.Unit.{Unit}
 use Rattle.unit.specs.Ranges.{holding}
-use Rattle.rows.specs.Rows.{unit_by}
+use Rattle.rows.specs.Rows.{no_row, unit_by}
 use Rattle.rules.specs.Rules.{by_current}
 use Rattle.members.specs.Ranges.{fleet_for}
 use Rattle.controller.specs.Pass.{pass_of}
@@ -127,7 +128,7 @@ module _ (site : Site) (stored : List ℕ) (rs : List ℤ) (r : Reading) where
   asked_watts t = sym (ap (λ (b : Bool). cond b (asked_by_current site stored rs r) (asked_by_watts site stored rs r)) t)
 
 -- what the pass counts on, from a site in its ranges and what stands
-pub ask_sound : (head : Head) (rows : List (List ℕ)) (stored : List ℕ) (rs : List ℤ) (m : ℤ) → nat_abs m ≤ 300000000 → mag m < 2 ^ 63
+pub ask_sound : (head : Head) (rows : List Row) (stored : List ℕ) (rs : List ℤ) (m : ℤ) → nat_abs m ≤ 300000000 → mag m < 2 ^ 63
     → Sited (site_by head rows) → length stored ≡ count (site_by head rows) → length rs ≡ count (site_by head rows) → Stored (site_by head rows) stored
     → Sound head.settings (to_z w64 (of_z w64 m)) (fleet_by rows stored) (length rs)
 ask_sound head rows stored rs m small fits h stores asks within =
@@ -139,12 +140,12 @@ ask_sound head rows stored rs m small fits h stores asks within =
     (λ i l. le_trans (le_of_eq (ap (λ (u : Unit). u.link) (sym (row_unit_lem head rows i)))) (h.links i (rows_below head rows i l))) m small))
 
 -- ---- a unit's step, of its row
-module _ (head : Head) (rows : List (List ℕ)) (l : Lead) (i s : ℕ) (r v : ℤ) where
-  pub given_is : (o : Outcome) → o ≡ led_step l (holding (unit_by (get_or rows i [])) s) v head.seconds r → o ≡ given (site_by head rows) l i s r v
+module _ (head : Head) (rows : List Row) (l : Lead) (i s : ℕ) (r v : ℤ) where
+  pub given_is : (o : Outcome) → o ≡ led_step l (holding (unit_by (get_or rows i no_row)) s) v head.seconds r → o ≡ given (site_by head rows) l i s r v
   unfolding given
   given_is o e = e ∙ ap (λ (u : Unit). led_step l (holding u s) v head.seconds r) (sym (row_unit_lem head rows i))
 
-  pub kept_is : (k : ℤ) → k ≡ vars_kept l (holding (unit_by (get_or rows i [])) s) v head.seconds r → k ≡ kept_vars (site_by head rows) l i s r v
+  pub kept_is : (k : ℤ) → k ≡ vars_kept l (holding (unit_by (get_or rows i no_row)) s) v head.seconds r → k ≡ kept_vars (site_by head rows) l i s r v
   unfolding kept_vars
   kept_is k e = e ∙ ap (λ (u : Unit). vars_kept l (holding u s) v head.seconds r) (sym (row_unit_lem head rows i))
 

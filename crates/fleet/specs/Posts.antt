@@ -1,5 +1,6 @@
 -- Nobody has to believe this file: the parts of contracts by name, and what a step may count on.
 use Rattle.std.specs.Prelude.{ℕ, ◌≤◌, ◌<◌, false, List, ◌≡◌, ℤ, pos, nat_abs, length, get_or}
+use Rattle.rows.specs.declared.Row.{Row}
 use Rattle.rows.specs.Rows.{units_by}
 use Rattle.members.specs.Posts.{TotalsOf}
 use Rattle.storage.specs.Posts.{Rested}
@@ -10,14 +11,14 @@ use Rattle.site.specs.Ranges.{Sited}
 use Rattle.fleet.specs.declared.Frame.{Frame}
 
 -- the site of a head and of rows, and of a frame and of rows
-abbrev pub site_by : Head → List (List ℕ) → Site
+abbrev pub site_by : Head → List Row → Site
 site_by head rows = record { head = head; units = units_by rows }
 
-abbrev pub site_in : Frame → List (List ℕ) → Site
+abbrev pub site_in : Frame → List Row → Site
 site_in f rows = site_by f.head rows
 
 -- a site in its ranges, the sums over its fleet, and what each unit does while it idles
-pub record Ready (f : Frame) (rows : List (List ℕ)) : Type 0 where
+pub record Ready (f : Frame) (rows : List Row) : Type 0 where
   pub sited : Sited (site_in f rows)
   pub totals : TotalsOf rows f.totals
   pub rested : Rested f.head.seconds rows

@@ -11,10 +11,11 @@ ghost use Rattle.fleet.specs.Posts.{Ready, Stored, Held, Unled, site_in};
 use super::{Frame, Moment};
 use reading::{Measure, Reading};
 use records::RECORD_BYTES;
+use rows::Row;
 use storage::{IDLES, OPEN, Outcome};
 
 // The requests after a reading, by watts: one pass, and none if the reading is missing.
-fn ask_by_watts(f: Frame, rows: &[[u64; 24]], r: Reading, stored: &[u64], requests: &mut [i32])
+fn ask_by_watts(f: Frame, rows: &[Row], r: Reading, stored: &[u64], requests: &mut [i32])
     requires ready { Ready f rows.now }
     requires stored_len { length stored.now ≡ count (site_in f rows.now) }
     requires requests_len { length requests.old ≡ count (site_in f rows.now) }
@@ -34,7 +35,7 @@ fn ask_by_watts(f: Frame, rows: &[[u64; 24]], r: Reading, stored: &[u64], reques
 }
 
 // The same by current.
-fn ask_by_current(f: Frame, rows: &[[u64; 24]], r: Reading, stored: &[u64], requests: &mut [i32])
+fn ask_by_current(f: Frame, rows: &[Row], r: Reading, stored: &[u64], requests: &mut [i32])
     requires ready { Ready f rows.now }
     requires stored_len { length stored.now ≡ count (site_in f rows.now) }
     requires requests_len { length requests.old ≡ count (site_in f rows.now) }
@@ -54,7 +55,7 @@ fn ask_by_current(f: Frame, rows: &[[u64; 24]], r: Reading, stored: &[u64], requ
 }
 
 // The requests after a reading, by the mode.
-fn ask(f: Frame, rows: &[[u64; 24]], r: Reading, stored: &[u64], requests: &mut [i32])
+fn ask(f: Frame, rows: &[Row], r: Reading, stored: &[u64], requests: &mut [i32])
     requires ready { Ready f rows.now }
     requires stored_len { length stored.now ≡ count (site_in f rows.now) }
     requires requests_len { length requests.old ≡ count (site_in f rows.now) }
@@ -72,21 +73,21 @@ fn ask(f: Frame, rows: &[[u64; 24]], r: Reading, stored: &[u64], requests: &mut 
 
 // One step of the unit of row i that nothing leads: that of the unit. `storage::step_of` says the same;
 // this one is called in one place, so that the compiler lays it into the loop.
-fn own(rows: &[[u64; 24]], i: usize, held: u64, seconds: u32, request: i32) -> Outcome
+fn own(rows: &[Row], i: usize, held: u64, seconds: u32, request: i32) -> Outcome
     requires i_in_bounds { i < length rows.now }
     requires rested { Rested seconds rows.now }
     requires ranged { Ranged (row_unit rows.now i held) seconds }
     ensures { result ≡ step_of (row_unit rows.now i held) seconds request }
 {
-    let p = whole::least32(whole::size32(request), rows::most_of(rows, i));
-    let kind = storage::kind_of(rows, i, held, seconds, request, p, rows::clear_of(rows, i));
+    let p = whole::least32(whole::size32(request), rows[i].kept.most);
+    let kind = storage::kind_of(rows, i, held, seconds, request, p, rows[i].kept.clear);
     if kind == OPEN {
         return storage::step_within(rows::unit_holding(rows, i, held), seconds, request);
     }
     let vars = if kind == IDLES {
-        rows::vars_of(rows, i)
+        rows[i].kept.vars
     } else {
-        rows::full_of(rows, i)
+        rows[i].kept.full
     };
     storage::done(rows, i, held, seconds, kind, p, vars)
 }
@@ -94,7 +95,7 @@ fn own(rows: &[[u64; 24]], i: usize, held: u64, seconds: u32, request: i32) -> O
 // One step of every unit that nothing leads, and their records.
 fn give_own(
     f: Frame,
-    rows: &[[u64; 24]],
+    rows: &[Row],
     m: Moment,
     requests: &[i32],
     stored: &mut [u64],
@@ -122,7 +123,7 @@ fn give_own(
 // One step of every unit by what leads it, and their records.
 fn give_led(
     f: Frame,
-    rows: &[[u64; 24]],
+    rows: &[Row],
     m: Moment,
     requests: &[i32],
     stored: &mut [u64],
@@ -155,7 +156,7 @@ fn give_led(
 // One step of every unit, and their records.
 fn give_all(
     f: Frame,
-    rows: &[[u64; 24]],
+    rows: &[Row],
     m: Moment,
     requests: &[i32],
     stored: &mut [u64],
@@ -182,7 +183,7 @@ fn give_all(
 // One step of a site: what stands afterwards, and the step's records.
 pub fn step(
     f: Frame,
-    rows: &[[u64; 24]],
+    rows: &[Row],
     m: Moment,
     stored: &mut [u64],
     requests: &mut [i32],

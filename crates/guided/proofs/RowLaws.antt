@@ -2,7 +2,6 @@
 -- size at which the request is held, and for the vars; so they are those of the row's unit. Assumes nothing.
 use mathlib.Core.Path.{◌≡◌, refl, sym, ap, ap₂, ◌∙◌, subst⁻¹}
 use mathlib.Core.Bool.{Bool, true, false, cond, ◌&&◌}
-use mathlib.Core.List.{List}
 use Prim.Native.Nat.{ℕ, ◌-◌, ◌^◌, ◌≤◌, ◌<◌, min}
 use native.Mathlib.Nat.{le_trans, le_of_eq, lt_of_le_of_lt, min-le_left}
 use native.Mathlib.Omega.{arith}
@@ -23,6 +22,7 @@ use Rattle.whole.specs.Signed.{negative, signed}
 use Rattle.unit.proofs.RangeLaws.{bounds}
 use Rattle.unit.specs.declared.Unit.{Unit}
 use Rattle.unit.specs.Ranges.{idle_draw, holding, Ranged}
+use Rattle.rows.specs.declared.Row.{Row}
 use Rattle.rows.specs.Rows.{unit_by, draw_by, rest_by}
 use Rattle.energy.proofs.LimitLaws.{held_most}
 use Rattle.energy.specs.Limits.{held_size, limited_vars, removed_by, deliverable, added_by, takeable, vars_of}
@@ -61,7 +61,7 @@ unfolding vars_of
 vars_by_size u a b e = ap (vars_in u.kva (negative u.var_request) (limited_vars u)) e
 
 -- ---- by the test of the kind that the code makes
-module _ (row : List ℕ) (kind p : ℕ) where
+module _ (row : Row) (kind p : ℕ) where
   pub left_idles : kind ≡ 0 → rest_by row ≡ left_by row kind p
   unfolding left_by
   left_idles e = simp (eq-eqb kind 0 e)
@@ -79,7 +79,7 @@ module _ (row : List ℕ) (kind p : ℕ) where
   size_moves n = simp (ne_eqb kind 0 n)
 
 -- ---- its step, where the kind of the request is told
-module _ (row : List ℕ) (held s : ℕ) (told : Told s row) (request : ℤ) where
+module _ (row : Row) (held s : ℕ) (told : Told s row) (request : ℤ) where
   abbrev own : Unit
   own = holding (unit_by row) held
 
@@ -155,7 +155,7 @@ module _ (row : List ℕ) (held s : ℕ) (told : Told s row) (request : ℤ) whe
       vars_beside watts given e d = d ∙ vars_by_size led watts (inverter_watts led (flow_of led s request)) (e ∙ size_is ∙ ap nat_abs (sym watts_are))
 
 -- ---- the step of a unit that is the row's but for its vars and its priority, from what the code has
-module _ (row : List ℕ) (held s : ℕ) (told : Told s row) (r : Ranged (holding (unit_by row) held) s) (v : Unit) (from : LedFrom (holding (unit_by row) held) v)
+module _ (row : Row) (held s : ℕ) (told : Told s row) (r : Ranged (holding (unit_by row) held) s) (v : Unit) (from : LedFrom (holding (unit_by row) held) v)
     (request : ℤ) (h : mag request < 2 ^ 31) where
   abbrev unit : Unit
   unit = holding (unit_by row) held
@@ -204,7 +204,7 @@ pub led_from_lem : (l : Lead) (u w v : Unit) → w ≡ u → (vars : ℤ) → v 
 led_from_lem l u w v e vars ev = subst⁻¹ (LedFrom u) (ev ∙ ap (λ (x : Unit). led_unit l x vars) e) refl
 
 -- ---- a step led by what the circle leaves after the watts, from what the code has
-module _ (l : Lead) (row : List ℕ) (held s : ℕ) (told : Told s row) (r : Ranged (holding (unit_by row) held) s) (last : ℤ) (g : Guiding l last)
+module _ (l : Lead) (row : Row) (held s : ℕ) (told : Told s row) (r : Ranged (holding (unit_by row) held) s) (last : ℤ) (g : Guiding l last)
     (t : (l.fresh && l.after) ≡ true) (request : ℤ) (h : mag request < 2 ^ 31) (w : Unit) (ew : w ≡ holding (unit_by row) held) where
   abbrev u : Unit
   u = holding (unit_by row) held

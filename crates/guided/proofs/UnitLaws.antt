@@ -70,10 +70,6 @@ unit_with u priority vars = record {
   link = u.link;
 }
 
-pub led_made : (l : Lead) (u : Unit) (vars : ℤ) → mag vars < 2 ^ 31 → (first : ℕ) → first ≡ first_by l u.priority
-    → unit_with u first (back vars) ≡ led_unit l u vars
-led_made l u vars h first e = ap₂ (unit_with u) e (read w32 vars h)
-
 -- what the inverter carries does not hang on them
 pub watts_with : (u : Unit) (priority : ℕ) (vars : ℤ) (f : Flow) → inverter_watts (unit_with u priority vars) f ≡ inverter_watts u f
 unfolding inverter_watts idle_draw

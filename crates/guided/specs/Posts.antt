@@ -1,15 +1,16 @@
 -- Nobody has to believe this file: the parts of contracts by name.
-use Rattle.std.specs.Prelude.{ℕ, ◌-◌, cond, List, ◌≡◌, eqb}
+use Rattle.std.specs.Prelude.{ℕ, ◌-◌, cond, ◌≡◌, eqb}
 use Rattle.whole.specs.Largest.{leg_of}
 use Rattle.unit.specs.declared.Unit.{Unit}
+use Rattle.rows.specs.declared.Row.{Row}
 use Rattle.rows.specs.Rows.{unit_by, draw_by, rest_by}
 
 -- what the circle leaves beside the watts, and the size of the inverter's watts, by the kind of a request that is held at p watts
-unfoldable pub left_by : List ℕ → ℕ → ℕ → ℕ
+unfoldable pub left_by : Row → ℕ → ℕ → ℕ
 unfolding leg_of
 left_by row kind p = cond (eqb kind 0) (rest_by row) (leg_of (unit_by row).kva p)
 
-unfoldable pub size_by : List ℕ → ℕ → ℕ → ℕ
+unfoldable pub size_by : Row → ℕ → ℕ → ℕ
 size_by row kind p = cond (eqb kind 0) (draw_by row - (unit_by row).grid_loss) p
 
 -- the unit v is u but for its var request and its priority

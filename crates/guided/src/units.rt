@@ -1,6 +1,6 @@
 ghost use Rattle.std.specs.Prelude.{◌≡◌, true, false, ◌&&◌, [], ◌≤◌, ◌<◌, length, get_or, pos, nat_abs, ◌+ℤ◌};
 ghost use Rattle.unit.specs.Ranges.{Ranged};
-ghost use Rattle.rows.specs.Rows.{unit_by, draw_by};
+ghost use Rattle.rows.specs.Rows.{no_row, unit_by, draw_by};
 ghost use Rattle.storage.specs.Step.{step_of};
 ghost use Rattle.storage.specs.Posts.{Rested, row_unit};
 ghost use Rattle.guided.specs.Units.{led_unit, led_step, vars_kept};
@@ -9,6 +9,7 @@ ghost use Rattle.guided.specs.Posts.{left_by, size_by, LedFrom};
 
 use super::Led;
 use lead::Lead;
+use rows::Row;
 use storage::{IDLES, OPEN, Outcome};
 use unit::Unit;
 
@@ -16,11 +17,11 @@ use unit::Unit;
 fn led_unit(l: Lead, u: Unit, vars: i32) -> Unit
     ensures { result ≡ led_unit l u vars }
 {
-    let first = lead::first(l, u.priority);
-    let mut v = u;
-    v.priority = first;
-    v.var_request = vars;
-    v
+    Unit {
+        priority: lead::first(l, u.priority),
+        var_request: vars,
+        ..u
+    }
 }
 
 // The inverter's watts: those at the grid, and the loss there.
@@ -47,33 +48,27 @@ fn open_after(u: Unit, seconds: u32, request: i32, l: Lead, last: i32) -> Led
     let vars = energy::vars(led_unit(l, u, asked), watts);
     let kept = lead::kept(l, last, asked);
     Led {
-        outcome: Outcome {
-            watts: o.watts,
-            vars,
-            stored: o.stored,
-            loss: o.loss,
-        },
+        outcome: Outcome { vars, ..o },
         vars: kept,
     }
 }
 
 // What the circle of the unit of row i leaves beside its watts, by the kind of a request that is held
 // at p watts: where it idles the row keeps that.
-fn left(units: &[[u64; 24]], i: usize, kind: u8, p: u32) -> u32
+fn left(units: &[Row], i: usize, kind: u8, p: u32) -> u32
     requires { i < length units.now }
-    ensures { result ≡ left_by (get_or units.now i []) kind p }
+    ensures { result ≡ left_by (get_or units.now i no_row) kind p }
 {
     if kind == IDLES {
-        return rows::rest_of(units, i);
+        return units[i].kept.rest;
     }
-    let u = rows::unit_of(units, i);
-    whole::leg(u.kva, p)
+    whole::leg(units[i].unit.kva, p)
 }
 
 // One step led by what the circle leaves after the watts, by what the unit's row keeps where that
 // tells.
 fn after_watts(
-    units: &[[u64; 24]],
+    units: &[Row],
     i: usize,
     held: u64,
     seconds: u32,
@@ -105,27 +100,19 @@ fn after_watts(
 }
 
 // The size of the watts of the inverter of row i, by the kind of a request that is held at p watts.
-fn size_by(units: &[[u64; 24]], i: usize, kind: u8, p: u32) -> u32
+fn size_by(units: &[Row], i: usize, kind: u8, p: u32) -> u32
     requires i_in_bounds { i < length units.now }
-    requires grid_loss_bound { (unit_by (get_or units.now i [])).grid_loss ≤ draw_by (get_or units.now i []) }
-    ensures { result ≡ size_by (get_or units.now i []) kind p }
+    requires grid_loss_bound { (unit_by (get_or units.now i no_row)).grid_loss ≤ draw_by (get_or units.now i no_row) }
+    ensures { result ≡ size_by (get_or units.now i no_row) kind p }
 {
     if kind == IDLES {
-        let u = rows::unit_of(units, i);
-        return rows::draw_of(units, i) - u.grid_loss;
+        return units[i].kept.draw - units[i].unit.grid_loss;
     }
     p
 }
 
 // One step of a led unit, which is that of row i but for its vars and its priority.
-fn step_led(
-    units: &[[u64; 24]],
-    i: usize,
-    held: u64,
-    seconds: u32,
-    request: i32,
-    v: Unit,
-) -> Outcome
+fn step_led(units: &[Row], i: usize, held: u64, seconds: u32, request: i32, v: Unit) -> Outcome
     requires i_in_bounds { i < length units.now }
     requires rested { Rested seconds units.now }
     requires ranged { Ranged (row_unit units.now i held) seconds }
@@ -145,7 +132,7 @@ fn step_led(
 
 // One step whose vars are requested whatever its watts are.
 fn before_watts(
-    units: &[[u64; 24]],
+    units: &[Row],
     i: usize,
     held: u64,
     seconds: u32,
@@ -172,7 +159,7 @@ fn before_watts(
 // One step of the unit of row i, which holds so much, by what leads it and the vars last requested of
 // it.
 pub fn give(
-    units: &[[u64; 24]],
+    units: &[Row],
     i: usize,
     held: u64,
     seconds: u32,

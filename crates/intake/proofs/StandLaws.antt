@@ -5,6 +5,7 @@ use mathlib.Core.List.{List, ◌++◌}
 use Prim.Native.Nat.{ℕ, ◌+◌}
 use lib.IntN.{ℤ}
 use lib.ListN.{length, take, drop, replicate}
+use Rattle.rows.specs.declared.Row.{Row}
 use Rattle.rows.specs.Rows.{units_by}
 use Rattle.site.specs.Site.{count}
 use Rattle.stick.specs.Site.{site_of, roofs_of, plant_of}
@@ -57,7 +58,7 @@ module _ (m : Mark) (s site : List ℕ) (n : ℕ) (en : n ≡ length (roofs_of s
 
   -- what stands at first
   module _ (part : List ℕ) (ep : part ≡ site) (ok : Accepted site) (first : ℕ) (ef : first ≡ roof_place part 0) where
-    pub stands_first_lem : (rows : List (List ℕ)) → begun m.state ≡ false → units_by rows ≡ (site_of site).units
+    pub stands_first_lem : (rows : List Row) → begun m.state ≡ false → units_by rows ≡ (site_of site).units
         → standing stored rs (take (length rs) vs) ≡ at_first (units_by rows) → drop (length rs) vs ≡ own_vars (roofs_here part first n) → on ≡ replicate n false
         → stands_by stored rs vs on ≡ first_by m s site
     unfolding stands_first plant_of

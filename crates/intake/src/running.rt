@@ -16,13 +16,14 @@ use super::Course;
 use fields::State;
 use kept::{Mark, SITE};
 use records::{RECORD_BYTES, ROOF_RECORD_BYTES};
+use rows::Row;
 use site::Due;
 use stretch::{Track, Way};
 
 // The steps of whole fields, over the site that lies in bytes; its units are in the rows.
 fn over(
     site: &[u8],
-    rows: &[[u64; 24]],
+    rows: &[Row],
     bytes: &[u8],
     c: Course,
     stored: &mut [u64],
@@ -76,7 +77,7 @@ fn stand(
     s: &[u8],
     m: Mark,
     n: usize,
-    rows: &[[u64; 24]],
+    rows: &[Row],
     stored: &mut [u64],
     requests: &mut [i32],
     vars: &mut [i32],
@@ -145,7 +146,7 @@ fn run_with(
     s: &mut [u8],
     c: Course,
     bytes: &[u8],
-    rows: &mut [[u64; 24]],
+    rows: &mut [Row],
     stored: &mut [u64],
     requests: &mut [i32],
     vars: &mut [i32],
@@ -214,7 +215,7 @@ pub fn run(
     let units = stick::units(&s[SITE..SITE + n]);
     let roofs = stick::roofs(&s[SITE..SITE + n]);
     let size = bytes_of(&s[SITE..SITE + n], next.steps - m.state.steps);
-    let mut rows = [[0u64; 24]; 64];
+    let mut rows = [Row::EMPTY; 64];
     let mut stored = [0u64; 64];
     let mut requests = [0i32; 64];
     let mut vars = [0i32; 128];

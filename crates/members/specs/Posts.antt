@@ -4,6 +4,7 @@ use Rattle.std.specs.Int.Signed.{lt_z}
 use Rattle.whole.specs.Over.{sum_of, all_of}
 use Rattle.whole.specs.Signed.{signed}
 use Rattle.unit.specs.declared.Unit.{Unit}
+use Rattle.rows.specs.declared.Row.{Row}
 use Rattle.rows.specs.Rows.{unit_by, units_by}
 use Rattle.rules.specs.declared.Asked.{Asked}
 use Rattle.rules.specs.declared.Wanted.{Wanted}
@@ -14,15 +15,15 @@ use Rattle.rules.specs.Posts.{need_by, Modest}
 use Rattle.members.specs.Sums.{total, sum_of_all, unable_at}
 
 -- ---- the fleet as the code has it: rows of units, and what each holds now
-abbrev pub fleet_by : List (List ℕ) → List ℕ → Fleet
+abbrev pub fleet_by : List Row → List ℕ → Fleet
 fleet_by rows stored = fleet_for (units_by rows) stored
 
 -- one value of each row's unit
-abbrev pub column_by : (Unit → ℕ) → List (List ℕ) → List ℕ
+abbrev pub column_by : (Unit → ℕ) → List Row → List ℕ
 column_by value rows = map value (units_by rows)
 
 -- the sums over the fleet that no step changes
-pub record TotalsOf (rows : List (List ℕ)) (t : Totals) : Type 0 where
+pub record TotalsOf (rows : List Row) (t : Totals) : Type 0 where
   pub rated : t.rated ≡ total (length rows) (column_by (λ (u : Unit). u.rated) rows)
   pub reserve : t.reserve ≡ total (length rows) (column_by (λ (u : Unit). u.reserve) rows)
   pub weight : t.weight ≡ total (length rows) (column_by (λ (u : Unit). u.weight) rows)
@@ -59,7 +60,7 @@ pub record SameLengths (f : Fleet) (n : ℕ) : Type 0 where
   pub link : length f.link ≡ n
 
 -- a row whose unit has these values of a fleet's member
-pub record MemberRow (rated reserve rating weight link : ℕ) (row : List ℕ) : Type 0 where
+pub record MemberRow (rated reserve rating weight link : ℕ) (row : Row) : Type 0 where
   pub rated_is : (unit_by row).rated ≡ rated
   pub reserve_is : (unit_by row).reserve ≡ reserve
   pub rating_is : (unit_by row).rating ≡ rating

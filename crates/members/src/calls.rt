@@ -1,15 +1,16 @@
 ghost use Rattle.std.specs.Prelude.{◌≡◌, ◌≤◌, length};
 ghost use Rattle.members.specs.Posts.{Linked, fleet_by, none_calls_by, all_in_band_by};
 
+use rows::Row;
 use rules::Wanted;
 
 // P3 by current, over the units.
-fn no_unit_calls(charging: bool, w: Wanted, units: &[[u64; 24]], stored: &[u64]) -> bool
+fn no_unit_calls(charging: bool, w: Wanted, units: &[Row], stored: &[u64]) -> bool
     requires { Linked w (fleet_by units.now stored.now) }
     ensures { result ≡ none_calls_by charging w (fleet_by units.now stored.now) (length units.now) }
 {
     for i in 0..units.len() {
-        let need = rules::own_need(w, rows::link_of(units, i));
+        let need = rules::own_need(w, units[i].unit.link);
         if !rules::no_call(charging, need) {
             return false;
         }
@@ -19,7 +20,7 @@ fn no_unit_calls(charging: bool, w: Wanted, units: &[[u64; 24]], stored: &[u64])
 
 // P3: no unit's own need calls. By watts all have one need; by current none calls where the plain need
 // does not and F is not added.
-pub fn none_calls(charging: bool, w: Wanted, units: &[[u64; 24]], stored: &[u64]) -> bool
+pub fn none_calls(charging: bool, w: Wanted, units: &[Row], stored: &[u64]) -> bool
     requires in_bounds { 1 ≤ length units.now }
     requires linked { Linked w (fleet_by units.now stored.now) }
     ensures { result ≡ none_calls_by charging w (fleet_by units.now stored.now) (length units.now) }
@@ -34,12 +35,12 @@ pub fn none_calls(charging: bool, w: Wanted, units: &[[u64; 24]], stored: &[u64]
 }
 
 // P5 by current, over the units.
-fn units_in_band(band: u32, w: Wanted, units: &[[u64; 24]], stored: &[u64]) -> bool
+fn units_in_band(band: u32, w: Wanted, units: &[Row], stored: &[u64]) -> bool
     requires { Linked w (fleet_by units.now stored.now) }
     ensures { result ≡ all_in_band_by band w (fleet_by units.now stored.now) (length units.now) }
 {
     for i in 0..units.len() {
-        let link = rows::link_of(units, i);
+        let link = units[i].unit.link;
         let own = rules::own_band(w.current, link, band);
         if !rules::in_band(own, rules::own_need(w, link)) {
             return false;
@@ -49,7 +50,7 @@ fn units_in_band(band: u32, w: Wanted, units: &[[u64; 24]], stored: &[u64]) -> b
 }
 
 // P5: every unit is within its own band. By watts all have one band and one need.
-pub fn all_in_band(band: u32, w: Wanted, units: &[[u64; 24]], stored: &[u64]) -> bool
+pub fn all_in_band(band: u32, w: Wanted, units: &[Row], stored: &[u64]) -> bool
     requires in_bounds { 1 ≤ length units.now }
     requires linked { Linked w (fleet_by units.now stored.now) }
     ensures { result ≡ all_in_band_by band w (fleet_by units.now stored.now) (length units.now) }

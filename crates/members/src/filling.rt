@@ -2,42 +2,24 @@ ghost use Rattle.std.specs.Prelude.{◌≡◌, length};
 ghost use Rattle.members.specs.Ranges.{fleet_linked, links_of};
 ghost use Rattle.members.specs.Posts.{SameLengths, MemberRow, fleet_by};
 
-use rows::Kept;
+use rows::Row;
 use unit::Unit;
 
 // The row of a unit of which a pass knows these values alone.
-fn member_row(rated: u64, reserve: u64, rating: u32, weight: u16, link: u32) -> [u64; 24]
+fn member_row(rated: u64, reserve: u64, rating: u32, weight: u16, link: u32) -> Row
     ensures { MemberRow rated reserve rating weight link result }
 {
-    let u = Unit {
-        rated,
-        reserve,
-        stored: 0,
-        rating,
-        kva: 0,
-        dc_loss: 0,
-        var_request: 0,
-        weight,
-        inverter: 0,
-        charge: 0,
-        discharge: 0,
-        priority: 0,
-        provide: 0,
-        absorb: 0,
-        grid_loss: 0,
-        link,
-    };
-    let k = Kept {
-        draw: 0,
-        vars: 0,
-        most: 0,
-        floor: 0,
-        top: 0,
-        full: 0,
-        clear: 0,
-        rest: 0,
-    };
-    rows::row(u, k)
+    Row {
+        unit: Unit {
+            rated,
+            reserve,
+            rating,
+            weight,
+            link,
+            ..Row::EMPTY.unit
+        },
+        ..Row::EMPTY
+    }
 }
 
 // Fills rows with the units of lent lists; what each holds stays in its list.
@@ -48,7 +30,7 @@ pub fn fill(
     rating: &[u32],
     weight: &[u16],
     links: &[u32],
-    rows: &mut [[u64; 24]],
+    rows: &mut [Row],
 )
     requires { SameLengths (fleet_linked rated.now reserve.now stored.now rating.now weight.now links.now) (length rows.old) }
     ensures { fleet_by rows.new stored.now ≡

@@ -1,10 +1,11 @@
 ghost use Rattle.std.specs.Prelude.{◌≡◌, true, false, ℕ, ℤ, pos, length, [], ◌<◌, get_or};
 ghost use Rattle.whole.specs.Over.{each};
 ghost use Rattle.members.specs.Sums.{changed_of};
-ghost use Rattle.rows.specs.Rows.{unit_by};
+ghost use Rattle.rows.specs.Rows.{no_row, unit_by};
 ghost use Rattle.members.specs.Posts.{Sharing, Sharable, fleet_by, next_by, shared_by};
 
 use super::sized;
+use rows::Row;
 use rules::Wanted;
 
 // P4: every request becomes 0. Whether one changed.
@@ -27,25 +28,20 @@ fn next_request(
     factor: u16,
     need: i64,
     weights: u64,
-    units: &[[u64; 24]],
+    units: &[Row],
     i: usize,
     held: u64,
     request: i32,
 ) -> i32
     requires i_in_bounds { i < length units.now }
-    requires sharable { Sharable factor need weights (unit_by (get_or units.now i [])) }
-    ensures { result ≡ next_by charging factor need weights (unit_by (get_or units.now i [])) held request }
+    requires sharable { Sharable factor need weights (unit_by (get_or units.now i no_row)) }
+    ensures { result ≡ next_by charging factor need weights (unit_by (get_or units.now i no_row)) held request }
 {
-    if rules::unable(
-        charging,
-        rows::rated_of(units, i),
-        rows::reserve_of(units, i),
-        held,
-    ) {
+    if rules::unable(charging, units[i].unit.rated, units[i].unit.reserve, held) {
         return 0;
     }
-    let part = rules::share(factor, need, rows::weight_of(units, i), weights);
-    rules::request_after(charging, rows::rating_of(units, i), request, part)
+    let part = rules::share(factor, need, units[i].unit.weight, weights);
+    rules::request_after(charging, units[i].unit.rating, request, part)
 }
 
 // P6 where each unit has a need of its own. Whether a request changed.
@@ -54,7 +50,7 @@ fn share_linked(
     factor: u16,
     w: Wanted,
     weights: u64,
-    units: &[[u64; 24]],
+    units: &[Row],
     stored: &[u64],
     requests: &mut [i32],
 ) -> bool
@@ -65,7 +61,7 @@ fn share_linked(
     let mut changed = false;
     for i in 0..requests.len() {
         let old = requests[i];
-        let need = rules::own_need(w, rows::link_of(units, i));
+        let need = rules::own_need(w, units[i].unit.link);
         let next = next_request(charging, factor, need, weights, units, i, stored[i], old);
         changed = changed | (old != next);
         requests[i] = next;
@@ -79,7 +75,7 @@ fn share_alike(
     factor: u16,
     w: Wanted,
     weights: u64,
-    units: &[[u64; 24]],
+    units: &[Row],
     stored: &[u64],
     requests: &mut [i32],
 ) -> bool
@@ -105,7 +101,7 @@ fn share_current(
     factor: u16,
     w: Wanted,
     weights: u64,
-    units: &[[u64; 24]],
+    units: &[Row],
     stored: &[u64],
     requests: &mut [i32],
 ) -> bool
@@ -129,7 +125,7 @@ pub fn share_all(
     factor: u16,
     w: Wanted,
     weights: u64,
-    units: &[[u64; 24]],
+    units: &[Row],
     stored: &[u64],
     requests: &mut [i32],
 ) -> bool

@@ -1,9 +1,10 @@
 ghost use Rattle.std.specs.Prelude.{◌≡◌, true, false, [], ◌≤◌, ◌<◌, length, get_or};
 ghost use Rattle.whole.specs.Over.{each};
-ghost use Rattle.rows.specs.Rows.{unit_by};
+ghost use Rattle.rows.specs.Rows.{no_row, unit_by};
 ghost use Rattle.members.specs.Sums.{changed_of};
 ghost use Rattle.members.specs.Posts.{Sharing, SharableBySize, fleet_by, sized_by, shared_by};
 
+use rows::Row;
 use rules::Wanted;
 
 // P6 by current for the unit of row i, which holds so much, from the sign and the size of the plain
@@ -14,27 +15,22 @@ fn next_sized(
     factor: u16,
     size: u64,
     weights: u64,
-    units: &[[u64; 24]],
+    units: &[Row],
     i: usize,
     held: u64,
     request: i32,
 ) -> i32
     requires i_in_bounds { i < length units.now }
-    requires sharable_by_size { SharableBySize factor size weights (unit_by (get_or units.now i [])) }
-    ensures { result ≡ sized_by charging below factor size weights (unit_by (get_or units.now i [])) held request }
+    requires sharable_by_size { SharableBySize factor size weights (unit_by (get_or units.now i no_row)) }
+    ensures { result ≡ sized_by charging below factor size weights (unit_by (get_or units.now i no_row)) held request }
 {
-    if rules::unable(
-        charging,
-        rows::rated_of(units, i),
-        rows::reserve_of(units, i),
-        held,
-    ) {
+    if rules::unable(charging, units[i].unit.rated, units[i].unit.reserve, held) {
         return 0;
     }
-    let own = size * (rows::link_of(units, i) as u64) / 1000;
-    let part = rules::share_size(factor, own, rows::weight_of(units, i), weights);
+    let own = size * (units[i].unit.link as u64) / 1000;
+    let part = rules::share_size(factor, own, units[i].unit.weight, weights);
     let share = whole::signed64(below, part);
-    rules::request_after(charging, rows::rating_of(units, i), request, share)
+    rules::request_after(charging, units[i].unit.rating, request, share)
 }
 
 // P6 by current where F is not added and there is some weight. Whether a request changed.
@@ -43,7 +39,7 @@ pub fn share_sized(
     factor: u16,
     w: Wanted,
     weights: u64,
-    units: &[[u64; 24]],
+    units: &[Row],
     stored: &[u64],
     requests: &mut [i32],
 ) -> bool

@@ -4,6 +4,7 @@ ghost use Rattle.unit.specs.declared.Unit.{Unit};
 ghost use Rattle.members.specs.Posts.{WithRequest, AskedOf, SignsOf, Addable, TotalsOf, column_by, spent_by};
 
 use super::Totals;
+use rows::Row;
 use rules::Asked;
 
 // The sum of a fleet's energies.
@@ -28,7 +29,7 @@ pub fn is_spent(charging: bool, rated: u64, reserve: u64, stored: &[u64]) -> boo
 }
 
 // The sums over a fleet that no step changes.
-pub fn summed(units: &[[u64; 24]]) -> Totals
+pub fn summed(units: &[Row]) -> Totals
     requires addable { Addable (column_by (λ (u : Unit). u.rated) units.now) }
     requires addable_2 { Addable (column_by (λ (u : Unit). u.reserve) units.now) }
     ensures { TotalsOf units.now result }
@@ -37,9 +38,9 @@ pub fn summed(units: &[[u64; 24]]) -> Totals
     let mut reserve: u64 = 0;
     let mut weight: u64 = 0;
     for i in 0..units.len() {
-        rated += rows::rated_of(units, i);
-        reserve += rows::reserve_of(units, i);
-        weight += rows::weight_of(units, i) as u64;
+        rated += units[i].unit.rated;
+        reserve += units[i].unit.reserve;
+        weight += units[i].unit.weight as u64;
     }
     Totals {
         rated,

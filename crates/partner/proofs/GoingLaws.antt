@@ -12,6 +12,7 @@ use lib.Seq.{take_at, drop-drop}
 use borrow.Author.Tests.{ne_eqb}
 use Rattle.octets.specs.BigEndian.{laid}
 use Rattle.octets.proofs.LaidLaws.{laid_length}
+use Rattle.rows.specs.declared.Row.{Row}
 use Rattle.parts.specs.Header.{tag_at, past}
 use Rattle.solar.specs.Posts.{Shining}
 use Rattle.site.specs.declared.Due.{Due}
@@ -86,7 +87,7 @@ same_records : {p q : Plant} {k j : ℕ} {x y : Stands} {ss ts : List Step} → 
 same_records ep ek ex es = cc
 
 -- ---- before the first field of a step
-module _ (run result : List ℕ) (z : Accepted run) (t : Track) (rows : List (List ℕ)) (stored : List ℕ) (rs vars : List ℤ) (on : List Bool) (s : SetOut run t rows stored rs vars on) where
+module _ (run result : List ℕ) (z : Accepted run) (t : Track) (rows : List Row) (stored : List ℕ) (rs vars : List ℤ) (on : List Bool) (s : SetOut run t rows stored rs vars on) where
   abbrev here : Plant
   here = plant_by t rows run (length on)
 

@@ -8,6 +8,7 @@ ghost use Rattle.partner.specs.Verdict.{verdict_of, partner_answer};
 use super::{PartnerAnswer, Verdict, alike, places};
 use fields::HEADER;
 use records::{RECORD_BYTES, ROOF_RECORD_BYTES};
+use rows::Row;
 use stretch::Track;
 
 // The fields of an accepted run file in turn: what each brings stands in the room, and is held beside
@@ -15,7 +16,7 @@ use stretch::Track;
 fn steps_judged(
     run: &[u8],
     t: Track,
-    rows: &[[u64; 24]],
+    rows: &[Row],
     res: &[u8],
     stored: &mut [u64],
     requests: &mut [i32],
@@ -61,7 +62,7 @@ fn steps_judged(
 fn judged_with(
     run: &[u8],
     res: &[u8],
-    rows: &mut [[u64; 24]],
+    rows: &mut [Row],
     stored: &mut [u64],
     requests: &mut [i32],
     vars: &mut [i32],
@@ -84,7 +85,7 @@ fn judged(run: &[u8], res: &[u8]) -> Verdict
 {
     let n = stick::units(run);
     let m = stick::roofs(run);
-    let mut rows = [[0u64; 24]; 64];
+    let mut rows = [Row::EMPTY; 64];
     let mut stored = [0u64; 64];
     let mut requests = [0i32; 64];
     let mut vars = [0i32; 128];

@@ -11,6 +11,7 @@ ghost use Rattle.peaks.specs.Posts.{with_unit, of_kind};
 use fleet::Frame;
 use lead::Lead;
 use reading::{Meter, Reading};
+use rows::Row;
 use storage::Outcome;
 use tally::Sums;
 
@@ -42,7 +43,7 @@ fn with_unit(n: usize, s: Sums, missed: bool, o: Outcome) -> Sums
 // One step of every unit: what each then holds, the vars then kept, and the sums over the fleet.
 fn give_all(
     f: Frame,
-    rows: &[[u64; 24]],
+    rows: &[Row],
     l: Lead,
     requests: &[i32],
     stored: &mut [u64],
@@ -71,8 +72,7 @@ fn give_all(
         stored[i] = left;
         let kept = g.vars;
         vars[i] = kept;
-        let u = rows::unit_of(rows, i);
-        let missed = not_met(request, o.watts, u.grid_loss);
+        let missed = not_met(request, o.watts, rows[i].unit.grid_loss);
         sums = with_unit(i, sums, missed, o);
     }
     sums
@@ -91,7 +91,7 @@ fn fits(r: Reading, mode: u8) -> bool
 
 // The requests after a reading, by what the meter shows of it: one pass on that measure, none where
 // it is silent or the reading is of the other kind.
-fn ask(f: Frame, rows: &[[u64; 24]], r: Reading, m: Meter, stored: &[u64], requests: &mut [i32])
+fn ask(f: Frame, rows: &[Row], r: Reading, m: Meter, stored: &[u64], requests: &mut [i32])
     requires ready { Ready f rows.now }
     requires stored_len { length stored.now ≡ count (site_in f rows.now) }
     requires requests_len { length requests.old ≡ count (site_in f rows.now) }
@@ -114,7 +114,7 @@ fn ask(f: Frame, rows: &[[u64; 24]], r: Reading, m: Meter, stored: &[u64], reque
 // One step of a fleet: the pass on its reading, none if that is missing, then one step of every unit.
 pub fn step(
     f: Frame,
-    rows: &[[u64; 24]],
+    rows: &[Row],
     r: Reading,
     m: Meter,
     l: Lead,

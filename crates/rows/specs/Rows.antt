@@ -1,71 +1,79 @@
--- Nobody has to believe this file: it is how the code carries units. A row has a unit's values in the file's order, among them what an ampere is in watts,
--- and what the code keeps beside them; a signed number stands by its 32 bits.
-use Rattle.std.specs.Prelude.{ℕ, ◌%◌, List, [], ◌∷◌, map, ℤ, get_or}
-use Rattle.std.specs.Int.{w32}
-use Rattle.std.proofs.Common.{to_z, of_z}
+-- Nobody has to believe this file: it is how the code carries units. A row has a unit's values, and what the code keeps beside them.
+use Rattle.std.specs.Prelude.{ℕ, List, map, ℤ, pos}
 use Rattle.unit.specs.declared.Unit.{Unit}
 use Rattle.rows.specs.declared.Kept.{Kept}
+use Rattle.rows.specs.declared.Row.{Row}
 
-unfoldable pub row_of : Unit → Kept → List ℕ
-row_of u k =
-    u.rated ∷ u.reserve ∷ u.stored ∷ u.rating ∷ u.kva ∷ u.dc_loss ∷ of_z w32 u.var_request ∷ u.weight
-    ∷ u.inverter ∷ u.charge ∷ u.discharge ∷ u.priority ∷ u.provide ∷ u.absorb ∷ u.grid_loss
-    ∷ k.draw ∷ of_z w32 k.vars ∷ u.link ∷ k.most ∷ k.floor ∷ k.top ∷ of_z w32 k.full ∷ k.clear ∷ k.rest ∷ []
-
--- the unit of a row, whatever the row holds, with its var request
-abbrev pub unit_with : List ℕ → ℤ → Unit
-unit_with row vars = record {
-  rated = get_or row 0 0;
-  reserve = get_or row 1 0;
-  stored = get_or row 2 0;
-  rating = get_or row 3 0 % 4294967296;
-  kva = get_or row 4 0 % 4294967296;
-  dc_loss = get_or row 5 0 % 4294967296;
-  var_request = vars;
-  weight = get_or row 7 0 % 65536;
-  inverter = get_or row 8 0 % 65536;
-  charge = get_or row 9 0 % 65536;
-  discharge = get_or row 10 0 % 65536;
-  priority = get_or row 11 0 % 256;
-  provide = get_or row 12 0 % 4294967296;
-  absorb = get_or row 13 0 % 4294967296;
-  grid_loss = get_or row 14 0 % 4294967296;
-  link = get_or row 17 0 % 4294967296;
+-- a row of no values, as it stands past the end of rows
+abbrev pub no_row : Row
+no_row = record {
+  unit = record {
+    rated = 0;
+    reserve = 0;
+    stored = 0;
+    rating = 0;
+    kva = 0;
+    dc_loss = 0;
+    var_request = pos 0;
+    weight = 0;
+    inverter = 0;
+    charge = 0;
+    discharge = 0;
+    priority = 0;
+    provide = 0;
+    absorb = 0;
+    grid_loss = 0;
+    link = 0;
+  };
+  kept = record {
+    draw = 0;
+    vars = pos 0;
+    most = 0;
+    floor = 0;
+    top = 0;
+    full = pos 0;
+    clear = 0;
+    rest = 0;
+  };
 }
 
-unfoldable pub unit_by : List ℕ → Unit
-unit_by row = unit_with row (to_z w32 (get_or row 6 0 % 4294967296))
+abbrev pub row_of : Unit → Kept → Row
+row_of u k = record { unit = u; kept = k }
 
-unfoldable pub draw_by : List ℕ → ℕ
-draw_by row = get_or row 15 0 % 4294967296
+-- the unit of a row
+abbrev pub unit_by : Row → Unit
+unit_by row = row.unit
 
-unfoldable pub vars_by : List ℕ → ℤ
-vars_by row = to_z w32 (get_or row 16 0 % 4294967296)
+-- and what is kept beside it
+abbrev pub draw_by : Row → ℕ
+draw_by row = row.kept.draw
 
-unfoldable pub most_by : List ℕ → ℕ
-most_by row = get_or row 18 0 % 4294967296
+abbrev pub vars_by : Row → ℤ
+vars_by row = row.kept.vars
 
-unfoldable pub floor_by : List ℕ → ℕ
-floor_by row = get_or row 19 0
+abbrev pub most_by : Row → ℕ
+most_by row = row.kept.most
 
-unfoldable pub top_by : List ℕ → ℕ
-top_by row = get_or row 20 0
+abbrev pub floor_by : Row → ℕ
+floor_by row = row.kept.floor
 
-unfoldable pub full_by : List ℕ → ℤ
-full_by row = to_z w32 (get_or row 21 0 % 4294967296)
+abbrev pub top_by : Row → ℕ
+top_by row = row.kept.top
 
-unfoldable pub clear_by : List ℕ → ℕ
-clear_by row = get_or row 22 0 % 4294967296
+abbrev pub full_by : Row → ℤ
+full_by row = row.kept.full
 
-unfoldable pub rest_by : List ℕ → ℕ
-rest_by row = get_or row 23 0 % 4294967296
+abbrev pub clear_by : Row → ℕ
+clear_by row = row.kept.clear
+
+abbrev pub rest_by : Row → ℕ
+rest_by row = row.kept.rest
 
 -- the units of rows
-unfoldable pub units_by : List (List ℕ) → List Unit
-unfolding unit_by
+unfoldable pub units_by : List Row → List Unit
 units_by rows = map unit_by rows
 
 -- what each of them holds
-unfoldable pub stores_by : List (List ℕ) → List ℕ
+unfoldable pub stores_by : List Row → List ℕ
 unfolding units_by
 stores_by rows = map (λ (u : Unit). u.stored) (units_by rows)

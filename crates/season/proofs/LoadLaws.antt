@@ -6,6 +6,7 @@ use mathlib.Core.List.{List}
 use Prim.Native.Nat.{ℕ}
 use lib.IntN.{ℤ}
 use lib.ListN.{length, take, drop, replicate, length-replicate}
+use Rattle.rows.specs.declared.Row.{Row}
 use Rattle.rows.specs.Rows.{units_by}
 use Rattle.site.specs.Site.{none_yet}
 use Rattle.stick.specs.Site.{site_of, roofs_of, plant_of}
@@ -30,7 +31,7 @@ track frame first led function at =
     record { frame = frame; first = first; led = led; function = function; at = at; out = 0; way = record { step = 0; due = none_yet } }
 
 -- what is read of a file, and stands when a run begins, over rows, with n inverters
-pub record Begun (file : List ℕ) (t : Track) (rows : List (List ℕ)) (n : ℕ) (stored : List ℕ) (rs vars : List ℤ) (on : List Bool) : Type 0 where
+pub record Begun (file : List ℕ) (t : Track) (rows : List Row) (n : ℕ) (stored : List ℕ) (rs vars : List ℤ) (on : List Bool) : Type 0 where
   pub ready : Ready t.frame rows
   pub rows_are : units_by rows ≡ (site_of file).units
   pub head_is : t.frame.head ≡ (site_of file).head
@@ -44,7 +45,7 @@ pub record Begun (file : List ℕ) (t : Track) (rows : List (List ℕ)) (n : ℕ
   pub held : VarsHeld n (drop (length rs) vars)
   pub off : on ≡ replicate n false
 
-module _ {file : List ℕ} (z : Accepted file) {frame : Frame} {first : ℕ} {led : Bool} {function at : ℕ} {rows : List (List ℕ)} (n : ℕ) {stored : List ℕ} {rs vars : List ℤ} {on : List Bool}
+module _ {file : List ℕ} (z : Accepted file) {frame : Frame} {first : ℕ} {led : Bool} {function at : ℕ} {rows : List Row} (n : ℕ) {stored : List ℕ} {rs vars : List ℤ} {on : List Bool}
     (b : Begun file (track frame first led function at) rows n stored rs vars on) where
   flags : length on ≡ n
   flags = ap length b.off ∙ length-replicate n false

@@ -8,6 +8,7 @@ use native.Mathlib.Omega.{arith}
 use lib.IntN.{ℤ}
 use lib.ListN.{length}
 use Rattle.octets.specs.BigEndian.{laid}
+use Rattle.rows.specs.declared.Row.{Row}
 use Rattle.solar.specs.Posts.{Shining}
 use Rattle.site.specs.declared.Due.{Due}
 use Rattle.site.specs.declared.Step.{Step}
@@ -29,7 +30,7 @@ use Rattle.season.specs.Posts.{Counted, SetOut}
 use Rattle.season.proofs.RunLaws.{end_laid}
 use Rattle.season.proofs.AnswerLaws.{few_steps, same_steps}
 
-module _ {file : List ℕ} {count : ℕ} (n : Counted file count) {t : Track} {rows : List (List ℕ)} {stored : List ℕ} {rs vars : List ℤ} {on : List Bool} (o : SetOut file t rows stored rs vars on) where
+module _ {file : List ℕ} {count : ℕ} (n : Counted file count) {t : Track} {rows : List Row} {stored : List ℕ} {rs vars : List ℤ} {on : List Bool} (o : SetOut file t rows stored rs vars on) where
   abbrev ahead : List Step
   ahead = steps_from file t.way.due t.at
 

@@ -1,5 +1,6 @@
 -- Nobody has to believe this file: the parts of contracts by name.
 use Rattle.std.specs.Prelude.{ℕ, ◌+◌, Bool, List, ◌≡◌, ℤ, length}
+use Rattle.rows.specs.declared.Row.{Row}
 use Rattle.stick.specs.Check.{check_of}
 use Rattle.stick.specs.Site.{site_of, roofs_of, plant_of}
 use Rattle.stick.specs.Check.{Accepted}
@@ -16,7 +17,7 @@ pub record Counted (file : List ℕ) (steps : ℕ) : Type 0 where
   pub counted : (check_of file).steps ≡ steps
 
 -- a list, or rows, for each unit of a file, a flag for each inverter, and vars for each of both
-pub record Lengths (file : List ℕ) (rows : List (List ℕ)) (stored : List ℕ) (requests vars : List ℤ) (on : List Bool) : Type 0 where
+pub record Lengths (file : List ℕ) (rows : List Row) (stored : List ℕ) (requests vars : List ℤ) (on : List Bool) : Type 0 where
   pub rows_there : length rows ≡ count (site_of file)
   pub stored_there : length stored ≡ count (site_of file)
   pub requests_there : length requests ≡ count (site_of file)
@@ -24,7 +25,7 @@ pub record Lengths (file : List ℕ) (rows : List (List ℕ)) (stored : List ℕ
   pub vars_there : length vars ≡ count (site_of file) + length (roofs_of file)
 
 -- where a run over a file sets out: the file's plant in a track and rows, what stands at first, and the first step's place
-pub record SetOut (file : List ℕ) (t : Track) (rows : List (List ℕ)) (stored : List ℕ) (requests vars : List ℤ) (on : List Bool) : Type 0 where
+pub record SetOut (file : List ℕ) (t : Track) (rows : List Row) (stored : List ℕ) (requests vars : List ℤ) (on : List Bool) : Type 0 where
   pub planted : Planted t rows file (length on)
   pub plant_is : plant_by t rows file (length on) ≡ plant_of file
   pub held : Holding (site_in t.frame rows) stored requests vars on

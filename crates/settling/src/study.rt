@@ -8,18 +8,14 @@ ghost use Rattle.settling.specs.Answers.{study_answer, study_leaves};
 
 use super::{Studied, StudyAnswer, Trial};
 use members::Totals;
+use rows::Row;
 use rules::Settings;
 
 // The settings of a study: mode 1, whatever the mode was.
 fn shaved(s: Settings) -> Settings
     ensures { result ≡ shaving s }
 {
-    Settings {
-        mode: 1,
-        target: s.target,
-        band: s.band,
-        factor: s.factor,
-    }
+    Settings { mode: 1, ..s }
 }
 
 // The settings, the load and the budget of a study are in their ranges.
@@ -48,7 +44,7 @@ fn measure(load: i64, requests: &[i32]) -> i64
 pub fn settle_within(
     q: Trial,
     t: Totals,
-    units: &[[u64; 24]],
+    units: &[Row],
     stored: &[u64],
     requests: &mut [i32],
 ) -> Studied
@@ -85,7 +81,7 @@ fn settle_with(
     stored: &[u64],
     rating: &[u32],
     weight: &[u16],
-    units: &mut [[u64; 24]],
+    units: &mut [Row],
     requests: &mut [i32],
 ) -> Studied
     requires trying { Trying q (fleet_of rated.now reserve.now stored.now rating.now weight.now) (length requests.old) }
@@ -113,7 +109,7 @@ fn settle_over(
     ensures { DoneTrial q (fleet_of rated.now reserve.now stored.now rating.now weight.now) (length requests.old) requests.new result }
 {
     let n = requests.len();
-    let mut units = [[0u64; 24]; 64];
+    let mut units = [Row::EMPTY; 64];
     settle_with(
         q,
         rated,

@@ -1,7 +1,6 @@
 -- A step of a row's unit, as the code meets it: by what the row keeps, by the kind of its request, and with vars that are known. Assumes nothing.
 use mathlib.Core.Path.{◌≡◌, refl, sym, ap, ap₂, ◌∙◌, subst⁻¹}
 use mathlib.Core.Bool.{Bool, true, false, cond, ◌||◌}
-use mathlib.Core.List.{List}
 use Prim.Native.Nat.{ℕ, ◌+◌, ◌-◌, ◌*◌, ◌≤◌, ◌<◌, ◌^◌, min}
 use native.Mathlib.Nat.{le_trans, le_of_eq}
 use native.Mathlib.Omega.{arith}
@@ -9,7 +8,7 @@ use lib.Dec.{eqb, ltb}
 use lib.IntN.{ℤ, nat_abs}
 use lib.Signed.{mag}
 use mir.Syntax.{w32}
-use mir.Val.{SFits, to_z, of_z}
+use mir.Val.{to_z, of_z}
 use borrow.Author.Tests.{ne_eqb, ltb-false}
 use Rattle.whole.proofs.SignLaws.{read}
 use Rattle.whole.specs.Quotient.{ceil}
@@ -17,9 +16,6 @@ use Rattle.whole.specs.Signed.{negative}
 use Rattle.unit.proofs.RangeLaws.{bounds}
 use Rattle.unit.specs.declared.Unit.{Unit}
 use Rattle.unit.specs.Ranges.{idle_draw, holding, Ranged}
-use Rattle.rows.specs.declared.Kept.{Kept}
-use Rattle.rows.specs.Rows.{row_of, unit_by, draw_by, vars_by, most_by, floor_by, top_by, full_by, clear_by, rest_by}
-use Rattle.rows.proofs.RowLaws.{unit_back, draw_back, vars_back, most_back, floor_back, top_back, full_back, clear_back, rest_back}
 use Rattle.energy.proofs.EnergyLaws.{drawn_most, removed_room}
 use Rattle.energy.proofs.LimitLaws.{held_most, held_by_most}
 use Rattle.energy.specs.Limits.{held_size, removed_by, added_by, vars_of}
@@ -28,7 +24,7 @@ use Rattle.flows.specs.declared.Flow.TheVariants.{Out, In, Idle}
 use Rattle.flows.specs.Flows.{discharged, charged, flow_of, inverter_watts}
 use Rattle.flows.specs.Posts.{Carried, Moving, moved_by}
 use Rattle.storage.specs.declared.Outcome.{Outcome}
-use Rattle.storage.specs.Posts.{idle_vars, rest_draw, rest_of, most_held, floor_of, top_of, full_vars, clear_watts, rest_leg, Told, kind_out, kind_in, kind_of, flow_by, outcome_with}
+use Rattle.storage.specs.Posts.{idle_vars, rest_draw, rest_of, most_held, floor_of, top_of, full_vars, clear_watts, kind_out, kind_in, kind_of, flow_by, outcome_with}
 use Rattle.storage.specs.Step.{outcome_of, step_of}
 use Rattle.storage.proofs.StepLaws.{idle_with, outcome_is}
 use Rattle.storage.proofs.KindLaws.{kind_flow, kind_carried, kind_clear, kind_watts, limited_most, vars_beside}
@@ -161,8 +157,6 @@ module _ (u : Unit) (s : ℕ) (request : ℤ) (r : Ranged u s) (p : ℕ) (ep : p
         let all = kind_watts u s request p clear r held_within tells n in
         sym (ap (λ (k : ℕ). vars_of u (inverter_watts u (flow_by k p))) ek ∙ vars_beside u p (limited_most u s r) within _ all)
 
--- ---- a row of what is kept of its unit
-
 -- what one watt removes is small
 pub removal_small : (u : Unit) (s : ℕ) → Ranged u s → removed_by u s 1 ≤ 872640000000000
 unfolding removed_by
@@ -172,21 +166,3 @@ removal_small u s r =
     let m = removed_room (ceil (1 * 10000) u.inverter) u.dc_loss s (omega arith) b.idle_most b.seconds_most in
     let l = drawn_most ((ceil (1 * 10000) u.inverter + u.dc_loss) * s) u.discharge b.discharge_least in
     omega arith
-
-module _ (u : Unit) (s : ℕ) (r : Ranged u s) (link : u.link < 4294967296) (k : Kept) (row : List ℕ) (e : row ≡ row_of u k) where
-  pub row_unit_lem : unit_by row ≡ u
-  row_unit_lem = ap unit_by e ∙ unit_back u k r.unit link
-
-  pub row_told : k.draw < 4294967296 → SFits w32 k.vars → k.most < 4294967296 → SFits w32 k.full → k.clear < 4294967296 → k.rest < 4294967296
-      → k.draw ≡ rest_draw u → k.vars ≡ idle_vars u → k.most ≡ most_held u → k.floor ≡ floor_of u s → k.top ≡ top_of u s
-      → k.full ≡ full_vars u → k.clear ≡ clear_watts u → k.rest ≡ rest_leg u → Told s row
-  row_told hd hv hm hf hc hr ed ev em el et ef ec er = record {
-    draw_is = ap draw_by e ∙ draw_back u k hd ∙ ed ∙ sym (ap rest_draw row_unit_lem);
-    vars_is = ap vars_by e ∙ vars_back u k hv ∙ ev ∙ sym (ap idle_vars row_unit_lem);
-    most_is = ap most_by e ∙ most_back u k hm ∙ em ∙ sym (ap most_held row_unit_lem);
-    floor_is = ap floor_by e ∙ floor_back u k ∙ el ∙ sym (ap (λ (w : Unit). floor_of w s) row_unit_lem);
-    top_is = ap top_by e ∙ top_back u k ∙ et ∙ sym (ap (λ (w : Unit). top_of w s) row_unit_lem);
-    full_is = ap full_by e ∙ full_back u k hf ∙ ef ∙ sym (ap full_vars row_unit_lem);
-    clear_is = ap clear_by e ∙ clear_back u k hc ∙ ec ∙ sym (ap clear_watts row_unit_lem);
-    rest_is = ap rest_by e ∙ rest_back u k hr ∙ er ∙ sym (ap rest_leg row_unit_lem);
-  }

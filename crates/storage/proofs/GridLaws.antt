@@ -6,7 +6,7 @@ use Prim.Native.Nat.{ℕ, zero, suc, ◌+◌, ◌-◌, ◌*◌, ◌≤◌, ◌<�
 use native.Mathlib.Nat.{add-mul}
 use native.Mathlib.Omega.{arith}
 use lib.Dec.{ltb, leb→le, le→leb}
-use lib.IntN.{ℤ, pos, negsuc, neg_ℤ, nat_abs, sub_ℕ, ◌+ℤ◌, ◌-ℤ◌, +ℤ_idr, neg_ℤ-+ℤ}
+use lib.IntN.{ℤ, pos, negsuc, neg_ℤ, ◌-ℤ◌, +ℤ_idr, neg_ℤ-+ℤ}
 use lib.Signed.{◌≤ℤ◌}
 use borrow.Author.Tests.{ltb-true, ltb-false}
 use Rattle.storage.specs.Relied.{Balanced}

@@ -1,9 +1,8 @@
 -- What a planner relies on holds of a step, since the store has what flows or has room for it, and what flows is at most the held size, which is
 -- at most the request and at most S. Assumes nothing.
 use mathlib.Core.Path.{◌≡◌, ap, subst⁻¹}
-use mathlib.Core.Bool.{true}
 use mathlib.Core.Logic.{◌⊎◌}
-use Prim.Native.Nat.{ℕ, ◌+◌, ◌*◌, ◌≤◌}
+use Prim.Native.Nat.{◌+◌, ◌*◌, ◌≤◌}
 use native.Mathlib.Nat.{le_trans, le_of_eq}
 use lib.IntN.{ℤ, pos, neg_ℤ, nat_abs, -ℤ-+ℤ_cancel}
 use Rattle.unit.proofs.RangeLaws.{bounds}
@@ -11,8 +10,7 @@ use Rattle.storage.proofs.GridLaws.{no_more_less}
 use Rattle.energy.proofs.LimitLaws.{held_most}
 use Rattle.flows.proofs.FlowLaws.{flow_able}
 use Rattle.storage.proofs.ReliedLaws.{vars_in_circle, vars_provided, vars_absorbed, no_more, moves_no_more_lem, charging_draws, watts_le, stays, never_above, conserves}
-use Rattle.unit.specs.declared.Unit.{Unit}
-use Rattle.unit.specs.Ranges.{idle_draw, unit_in, seconds_in}
+use Rattle.unit.specs.Ranges.{idle_draw}
 use Rattle.storage.specs.Relied.{ReliedTheorem}
 use Rattle.energy.specs.Limits.{held_size, grid_loss, vars_of}
 use Rattle.flows.specs.Flows.{flow_of, inverter_watts}

@@ -1,13 +1,14 @@
 -- Nobody has to believe this file: the parts of contracts by name.
-use Rattle.std.specs.Prelude.{ℕ, ◌+◌, ◌-◌, ◌*◌, ◌/◌, ◌<◌, cond, ◌||◌, ltb, eqb, List, [], length, get_or, ℤ, pos, neg_ℤ, ◌≡◌}
+use Rattle.std.specs.Prelude.{ℕ, ◌+◌, ◌-◌, ◌*◌, ◌/◌, ◌<◌, cond, ◌||◌, ltb, eqb, List, length, get_or, ℤ, pos, neg_ℤ, ◌≡◌}
 use Rattle.unit.specs.declared.Unit.{Unit}
 use Rattle.whole.specs.Largest.{leg_of}
 use Rattle.whole.specs.Signed.{negative, signed}
+use Rattle.rows.specs.declared.Row.{Row}
 use Rattle.flows.specs.declared.Flow.{Flow}
 use Rattle.flows.specs.declared.Flow.TheVariants.{Out, In, Idle}
 use Rattle.storage.specs.declared.Outcome.{Outcome}
 use Rattle.unit.specs.Ranges.{idle_draw, holding}
-use Rattle.rows.specs.Rows.{unit_by, draw_by, vars_by, most_by, floor_by, top_by, full_by, clear_by, rest_by}
+use Rattle.rows.specs.Rows.{no_row, unit_by, draw_by, vars_by, most_by, floor_by, top_by, full_by, clear_by, rest_by}
 use Rattle.energy.specs.Limits.{grid_loss, limited_vars, held_size, removed_by, added_by, vars_of}
 use Rattle.flows.specs.Flows.{inverter_watts, stored_of, loss_of}
 use Rattle.storage.specs.Step.{grid_watts}
@@ -50,7 +51,7 @@ abbrev pub rest_leg : Unit → ℕ
 rest_leg u = leg_of u.kva (idle_draw u)
 
 -- a row keeps what is so of its unit
-pub record Told (seconds : ℕ) (row : List ℕ) : Type 0 where
+pub record Told (seconds : ℕ) (row : Row) : Type 0 where
   pub draw_is : draw_by row ≡ rest_draw (unit_by row)
   pub vars_is : vars_by row ≡ idle_vars (unit_by row)
   pub most_is : most_by row ≡ most_held (unit_by row)
@@ -60,12 +61,12 @@ pub record Told (seconds : ℕ) (row : List ℕ) : Type 0 where
   pub clear_is : clear_by row ≡ clear_watts (unit_by row)
   pub rest_is : rest_by row ≡ rest_leg (unit_by row)
 
-pub record Rested (seconds : ℕ) (rows : List (List ℕ)) : Type 0 where
-  pub told : (i : ℕ) → i < length rows → Told seconds (get_or rows i [])
+pub record Rested (seconds : ℕ) (rows : List Row) : Type 0 where
+  pub told : (i : ℕ) → i < length rows → Told seconds (get_or rows i no_row)
 
 -- the unit of row i, with what it holds
-abbrev pub row_unit : List (List ℕ) → ℕ → ℕ → Unit
-row_unit rows i held = holding (unit_by (get_or rows i [])) held
+abbrev pub row_unit : List Row → ℕ → ℕ → Unit
+row_unit rows i held = holding (unit_by (get_or rows i no_row)) held
 
 -- ---- what becomes of a request that is held at p watts, as far as can be told at once: 0 the unit idles, 1 it gives all of them, 2 it takes all of them,
 -- 3 says nothing. Watts above `clear` are left open

@@ -6,42 +6,43 @@ ghost use Rattle.storage.specs.Step.{step_of};
 ghost use Rattle.storage.specs.Posts.{Rested, row_unit, kind_out, kind_in, kind_of, flow_by, outcome_with};
 
 use super::{GIVES, IDLES, OPEN, Outcome, TAKES, steps};
+use rows::Row;
 use unit::Unit;
 
 // What becomes of a request to give p watts, as far as the row of the unit tells.
-fn kind_out(units: &[[u64; 24]], i: usize, held: u64, seconds: u32, p: u32, clear: u32) -> u8
+fn kind_out(units: &[Row], i: usize, held: u64, seconds: u32, p: u32, clear: u32) -> u8
     requires i_in_bounds { i < length units.now }
     requires rested { Rested seconds units.now }
     requires ranged { Ranged (row_unit units.now i held) seconds }
     requires p_bound { p ≤ 100000000 }
     ensures { result ≡ kind_out (row_unit units.now i held) seconds p clear }
 {
-    if (p == 0) | (held < rows::floor_of(units, i)) {
+    if (p == 0) | (held < units[i].kept.floor) {
         return IDLES;
     }
     let all = energy::removed(rows::unit_holding(units, i, held), seconds, p as u64);
-    if (held - rows::reserve_of(units, i) < all) | (clear < p) {
+    if (held - units[i].unit.reserve < all) | (clear < p) {
         return OPEN;
     }
     GIVES
 }
 
 // The same of a request to take p watts.
-fn kind_in(units: &[[u64; 24]], i: usize, held: u64, seconds: u32, p: u32, clear: u32) -> u8
+fn kind_in(units: &[Row], i: usize, held: u64, seconds: u32, p: u32, clear: u32) -> u8
     requires i_in_bounds { i < length units.now }
     requires rested { Rested seconds units.now }
     requires ranged { Ranged (row_unit units.now i held) seconds }
     requires p_bound { p ≤ 100000000 }
     ensures { result ≡ kind_in (row_unit units.now i held) seconds p clear }
 {
-    if rows::top_of(units, i) < held {
+    if units[i].kept.top < held {
         return IDLES;
     }
     let all = energy::added(rows::unit_holding(units, i, held), seconds, p as u64);
     if all == 0 {
         return IDLES;
     }
-    if (rows::rated_of(units, i) - held < all) | (clear < p) {
+    if (units[i].unit.rated - held < all) | (clear < p) {
         return OPEN;
     }
     TAKES
@@ -50,7 +51,7 @@ fn kind_in(units: &[[u64; 24]], i: usize, held: u64, seconds: u32, p: u32, clear
 // What becomes of a request that the unit of row i holds at p watts, as far as its row tells. Watts
 // above `clear` are left open.
 pub fn kind_of(
-    units: &[[u64; 24]],
+    units: &[Row],
     i: usize,
     held: u64,
     seconds: u32,
@@ -104,7 +105,7 @@ fn taken(u: Unit, seconds: u32, x: u32, vars: i32) -> Outcome
 
 // What the unit of row i does by the kind of its request, held at p watts, and with these vars.
 pub fn done(
-    units: &[[u64; 24]],
+    units: &[Row],
     i: usize,
     held: u64,
     seconds: u32,
@@ -124,33 +125,25 @@ pub fn done(
     if kind == TAKES {
         return taken(rows::unit_holding(units, i, held), seconds, p, vars);
     }
-    steps::rest(rows::draw_of(units, i), vars, held, seconds)
+    steps::rest(units[i].kept.draw, vars, held, seconds)
 }
 
 // One step of the unit of row i, which holds so much: that of the unit, by what its row keeps.
-pub fn step_of(units: &[[u64; 24]], i: usize, held: u64, seconds: u32, request: i32) -> Outcome
+pub fn step_of(units: &[Row], i: usize, held: u64, seconds: u32, request: i32) -> Outcome
     requires i_in_bounds { i < length units.now }
     requires rested { Rested seconds units.now }
     requires ranged { Ranged (row_unit units.now i held) seconds }
     ensures { result ≡ step_of (row_unit units.now i held) seconds request }
 {
-    let p = whole::least32(whole::size32(request), rows::most_of(units, i));
-    let kind = kind_of(
-        units,
-        i,
-        held,
-        seconds,
-        request,
-        p,
-        rows::clear_of(units, i),
-    );
+    let p = whole::least32(whole::size32(request), units[i].kept.most);
+    let kind = kind_of(units, i, held, seconds, request, p, units[i].kept.clear);
     if kind == OPEN {
         return steps::step_within(rows::unit_holding(units, i, held), seconds, request);
     }
     let vars = if kind == IDLES {
-        rows::vars_of(units, i)
+        units[i].kept.vars
     } else {
-        rows::full_of(units, i)
+        units[i].kept.full
     };
     done(units, i, held, seconds, kind, p, vars)
 }

@@ -4,10 +4,11 @@ ghost use Rattle.rows.specs.Rows.{unit_by};
 ghost use Rattle.storage.specs.Posts.{Told};
 
 use super::steps;
+use rows::{Kept, Row};
 use unit::Unit;
 
 // The row of a unit in its ranges, for steps of so many seconds.
-pub fn row_of(u: Unit, seconds: u32) -> [u64; 24]
+pub fn row_of(u: Unit, seconds: u32) -> Row
     requires { Ranged u seconds }
     ensures result_value { unit_by result ≡ u }
     ensures told { Told seconds result }
@@ -15,7 +16,7 @@ pub fn row_of(u: Unit, seconds: u32) -> [u64; 24]
     let idle = unit::idle_draw(u) as u32;
     let size = energy::limited(u);
     let least = (seconds as u64) * (u.charge as u64) / 10000;
-    let k = rows::Kept {
+    let kept = Kept {
         draw: idle + u.grid_loss,
         vars: steps::idle_vars(u),
         most: energy::most(u),
@@ -25,5 +26,5 @@ pub fn row_of(u: Unit, seconds: u32) -> [u64; 24]
         clear: whole::leg(u.kva, size),
         rest: whole::leg(u.kva, idle),
     };
-    rows::row(u, k)
+    Row { unit: u, kept }
 }

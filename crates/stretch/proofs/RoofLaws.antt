@@ -7,6 +7,7 @@ use native.Mathlib.Nat.{le_trans, le_of_eq}
 use native.Mathlib.Omega.{arith}
 use lib.ListN.{length}
 use lib.Seq.{ext_get_or}
+use Rattle.rows.specs.declared.Row.{Row}
 use Rattle.parts.specs.Header.{header}
 use Rattle.solar.specs.Roof.{Roof, roof_in}
 use Rattle.solar.specs.Posts.{Roofed}
@@ -64,7 +65,7 @@ pub roofs_read : (file : List ℕ) → Accepted file → (n first : ℕ) → n �
 roofs_read file z n first en ef = ap₂ (λ (p m : ℕ). roofs_here file p m) ef en ∙ roofs_are file z
 
 -- ---- the whole plant, by a track over rows that hold the site
-module _ (file : List ℕ) (z : Accepted file) (t : Track) (rows : List (List ℕ)) (n : ℕ) (en : n ≡ length (roofs_of file)) (ef : t.first ≡ roof_place file 0) (el : t.led ≡ guided file)
+module _ (file : List ℕ) (z : Accepted file) (t : Track) (rows : List Row) (n : ℕ) (en : n ≡ length (roofs_of file)) (ef : t.first ≡ roof_place file 0) (el : t.led ≡ guided file)
     (ep : t.function ≡ function_place file) where
   leading_read : leading_here file t.led t.function ≡ leading_of file
   leading_read = ap₂ (λ (b : Bool) (p : ℕ). leading_here file b p) el ep ∙ sym (leading_is file z)

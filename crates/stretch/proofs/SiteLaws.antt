@@ -5,6 +5,7 @@ use Prim.Native.Nat.{ℕ, ◌+◌, ◌*◌, ◌≤◌}
 use native.Mathlib.Nat.{add-le-add, mul-le-mul_left, mul-le-mul, le_trans, le_of_eq}
 use lib.ListN.{length}
 use Rattle.unit.specs.declared.Unit.{Unit}
+use Rattle.rows.specs.declared.Row.{Row}
 use Rattle.rows.specs.Rows.{units_by}
 use Rattle.rows.proofs.RowLaws.{units_count}
 use Rattle.site.specs.declared.Head.{Head}
@@ -19,7 +20,7 @@ use Rattle.fleet.specs.Posts.{site_by, site_in}
 abbrev site_with : Head → List Unit → Site
 site_with head units = record { head = head; units = units }
 
-module _ (file : List ℕ) (rows : List (List ℕ)) (eu : units_by rows ≡ (site_of file).units) where
+module _ (file : List ℕ) (rows : List Row) (eu : units_by rows ≡ (site_of file).units) where
   -- a row for each unit
   pub rows_there : length rows ≡ count (site_of file)
   rows_there = sym (units_count rows) ∙ ap length eu

@@ -10,13 +10,14 @@ ghost use Rattle.fleet.specs.Step.{standing, at_first, after, records_by, step_b
 ghost use Rattle.fleet.specs.Posts.{Ready, Held, site_in};
 
 use fleet::{Frame, Moment};
+use rows::Row;
 use solar::Sun;
 
 // One list has the vars last requested of the units and behind them those of the inverters. One step
 // of every unit changes the first part,
 pub fn step_units(
     f: Frame,
-    rows: &[[u64; 24]],
+    rows: &[Row],
     m: Moment,
     stored: &mut [u64],
     requests: &mut [i32],
@@ -84,7 +85,7 @@ pub fn step_roofs(
 pub fn begin(
     site: &[u8],
     first: usize,
-    rows: &[[u64; 24]],
+    rows: &[Row],
     stored: &mut [u64],
     requests: &mut [i32],
     vars: &mut [i32],

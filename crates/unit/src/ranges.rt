@@ -93,22 +93,11 @@ pub fn in_edition(edition: u8, u: Unit) -> Unit
     ensures { result ≡ in_edition edition u }
 {
     Unit {
-        rated: u.rated,
-        reserve: u.reserve,
-        stored: u.stored,
-        rating: u.rating,
-        kva: u.kva,
         dc_loss: direct_in(edition, u.dc_loss),
-        var_request: u.var_request,
-        weight: u.weight,
-        inverter: u.inverter,
-        charge: u.charge,
-        discharge: u.discharge,
-        priority: u.priority,
         provide: limit_in(edition, u.kva, u.provide),
         absorb: limit_in(edition, u.kva, u.absorb),
         grid_loss: grid_in(edition, u.dc_loss),
-        link: u.link,
+        ..u
     }
 }
 

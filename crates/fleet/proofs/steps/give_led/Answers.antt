@@ -2,12 +2,11 @@ use mathlib.Core.Path.{ap, subst}
 use Prim.Native.Nat.{◌<◌}
 use native.Mathlib.Nat.{le_trans, le_of_eq}
 use native.Mathlib.Omega.{arith}
-use mathlib.Core.List.{[]}
 use lib.IntN.{pos}
 use lib.ListN.{get_or}
 use Rattle.unit.specs.declared.Unit.{Unit}
 use Rattle.unit.specs.Ranges.{Ranged}
-use Rattle.rows.specs.Rows.{unit_by}
+use Rattle.rows.specs.Rows.{no_row, unit_by}
 use Rattle.site.specs.Site.{Site, count}
 use Rattle.site.proofs.RangeLaws.{unit_ranged}
 use Rattle.guided.proofs.SharedLaws.{back}
@@ -38,7 +37,7 @@ give-g-requires c =
     let within = next_within s a.m a.stored.now a.requests.now a.vars.now a.room.now c.requires.held c.requires.rows_in_bounds p.i p.stored p.vars p.room p.invariant below in record {
       i_in_bounds = le_trans below (le_of_eq (rows_count head rows));
       rested = c.requires.ready.rested;
-      ranged = holding_ranged (unit_by (get_or rows p.i [])) (get_or p.stored p.i 0) head.seconds
+      ranged = holding_ranged (unit_by (get_or rows p.i no_row)) (get_or p.stored p.i 0) head.seconds
           (subst (λ (v : Unit). Ranged v head.seconds) u (unit_ranged s c.requires.ready.sited p.i below)) (le_trans within (le_of_eq (ap (λ (v : Unit). v.rated) u)));
       guiding = next_guiding s a.m a.stored.now a.requests.now a.vars.now a.room.now c.requires.held c.requires.rows_in_bounds p.i p.stored p.vars p.room p.invariant below c.requires.modest;
     }

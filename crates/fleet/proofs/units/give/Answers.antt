@@ -1,9 +1,8 @@
 -- Where nothing leads, the step is that of the row's unit without a lead; otherwise it is the led one. Both go by what the row keeps, with what the unit holds now
 -- in place of what the row says.
-use mathlib.Core.List.{[]}
 use lib.ListN.{get_or}
 use Rattle.unit.specs.declared.Unit.{Unit}
-use Rattle.rows.specs.Rows.{unit_by}
+use Rattle.rows.specs.Rows.{no_row, unit_by}
 use Rattle.fleet.proofs.UnitLaws.{ranged, give_asks, step_is, kept_is, own_is, own_keeps}
 use mathlib.Core.Path.{ap}
 use mathlib.Core.Bool.{not}
@@ -12,7 +11,7 @@ use Rattle.fleet.proofs.units.give.Goals.{Start, Then-not-l}
 
 -- the row's unit
 abbrev unit : Start → Unit
-unit s = unit_by (get_or s.args.units.now s.args.i [])
+unit s = unit_by (get_or s.args.units.now s.args.i no_row)
 
 pub step_of-requires : goal.step_of-requires
 step_of-requires c =

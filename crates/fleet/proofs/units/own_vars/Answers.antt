@@ -1,9 +1,9 @@
-use mathlib.Core.Path.{ap, ◌∙◌}
 use native.Mathlib.Omega.{arith}
+use lib.ListN.{get_or}
 use mir.Syntax.{w32}
 use mir.Val.{to_z, of_z}
 use Rattle.whole.proofs.SignLaws.{read}
-use Rattle.unit.specs.declared.Unit.{Unit}
+use Rattle.rows.specs.Rows.{no_row, unit_by}
 use Rattle.fleet.proofs.SiteLaws.{none_own, one_own, all_own}
 use Rattle.fleet.proofs.units.own_vars.Goals as goal
 
@@ -13,9 +13,8 @@ loop-i-init c = none_own c.args.units.now c.args.vars.now
 pub loop-i-preserved : goal.loop-i-preserved
 loop-i-preserved c =
     let a = c.args in
-    let u = c.unit_of-u.result in
-    one_own a.units.now a.vars.now c.loop-i.vars c.loop-i.i c.loop-i.invariant (omega arith) (to_z w32 (of_z w32 u.var_request))
-    (read w32 u.var_request (omega arith) ∙ ap (λ (v : Unit). v.var_request) c.unit_of-u.ensures)
+    let own = (unit_by (get_or a.units.now c.loop-i.i no_row)).var_request in
+    one_own a.units.now a.vars.now c.loop-i.vars c.loop-i.i c.loop-i.invariant (omega arith) (to_z w32 (of_z w32 own)) (read w32 own (omega arith))
 
 pub returns : goal.returns
 returns c =

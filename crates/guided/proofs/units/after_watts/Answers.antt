@@ -1,11 +1,11 @@
 -- With watts first the request is held at S at most, whatever the vars. Where its kind is told, that is what flows, as of the row's unit; the circle leaves a
 -- known leg beside it, and of the vars led by that leg only the unit's limit cuts any. Else the step is worked out. Assumes nothing.
 use mathlib.Core.Path.{ap, ◌∙◌, subst⁻¹}
-use mathlib.Core.List.{List, []}
-use Prim.Native.Nat.{ℕ}
 use lib.ListN.{get_or}
 use Rattle.unit.specs.declared.Unit.{Unit}
 use Rattle.unit.specs.Ranges.{Ranged}
+use Rattle.rows.specs.declared.Row.{Row}
+use Rattle.rows.specs.Rows.{no_row}
 use Rattle.storage.specs.Posts.{Told}
 use Rattle.guided.specs.Units.{led_step, vars_kept}
 use Rattle.guided.proofs.SharedLaws.{guiding_back}
@@ -14,8 +14,8 @@ use Rattle.guided.proofs.UnitLaws.{step_read, kept_read}
 use Rattle.guided.proofs.units.after_watts.Goals as goal
 use Rattle.guided.proofs.units.after_watts.Goals.{After-below_zero32, After-done, After-kind_of-kind, After-least32-p, After-led_unit, After-left, After-limited-size, After-part-asked, After-signed32-vars, After-size32, After-unit_holding-u, Else-kind-eq-OPEN, Start}
 
-abbrev row : Start → List ℕ
-row s = get_or s.args.units.now s.args.i []
+abbrev row : Start → Row
+row s = get_or s.args.units.now s.args.i no_row
 
 told : (s : Start) → Told s.args.seconds (row s)
 told s = s.requires.rested.told s.args.i s.requires.i_in_bounds

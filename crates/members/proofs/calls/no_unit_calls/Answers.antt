@@ -20,20 +20,20 @@ abbrev at : (s : Start) → ℕ → Bool
 at s k = no_call s.args.charging (own_by s.args.w (fleet_by s.args.units.now s.args.stored.now) k)
 
 -- the test is that of the unit
-test_is : (c : After-no_call) → c.no_call.result ≡ at c.before.before.before.before.before.before.before c.loop-i.i
+test_is : (c : After-no_call) → c.no_call.result ≡ at c.before.before.before.before.before.before c.loop-i.i
 test_is c =
     let a = c.args in
     c.no_call.ensures
     ∙ ap (no_call a.charging)
     (read w64 c.own_need-need.result c.own_need-need.type_inv ∙ c.own_need-need.ensures.value
-    ∙ own_at a.w a.units.now a.stored.now c.loop-i.i c.link_of.result c.link_of.ensures)
+    ∙ own_at a.w a.units.now a.stored.now c.loop-i.i _ refl)
 
 pub loop-i-init : goal.loop-i-init
 unfolding all_of
 loop-i-init c = (refl)
 
 pub own_need-need-requires : goal.own_need-need-requires
-own_need-need-requires c = record { modest = c.requires.modest; link_bound = le_trans (le_of_eq (c.link_of.ensures ∙ sym (link_at_lem c.args.units.now c.args.stored.now c.loop-i.i))) (c.requires.link_small c.loop-i.i) }
+own_need-need-requires c = record { modest = c.requires.modest; link_bound = le_trans (le_of_eq (sym (link_at_lem c.args.units.now c.args.stored.now c.loop-i.i))) (c.requires.link_small c.loop-i.i) }
 
 pub returns-then-not-no_call : goal.returns-then-not-no_call
 unfolding none_calls_by

@@ -11,12 +11,13 @@ use borrow.Author.Tests.{not-true, not-false}
 use Rattle.whole.specs.Over.{all_of}
 use Rattle.whole.proofs.OverLaws.{all_next}
 use Rattle.whole.proofs.SignLaws.{read}
+use Rattle.rows.specs.Rows.{no_row, unit_by}
 use Rattle.rules.specs.Rules.{in_band, band_in_watts}
 use Rattle.members.specs.Posts.{fleet_by, own_by, all_in_band_by}
 use Rattle.members.proofs.ColumnLaws.{link_at_lem, own_at}
 use Rattle.members.proofs.CallLaws.{one_fails}
 use Rattle.members.proofs.calls.units_in_band.Goals as goal
-use Rattle.members.proofs.calls.units_in_band.Goals.{After-in_band, After-link_of-link, At-loop-i, Start}
+use Rattle.members.proofs.calls.units_in_band.Goals.{After-in_band, At-loop-i, Start}
 
 abbrev at : (s : Start) → ℕ → Bool
 at s k =
@@ -25,20 +26,19 @@ at s k =
     in_band (band_in_watts a.w.current (get_or f.link k 0) a.band) (own_by a.w f k)
 
 -- the link that was read is the unit's
-link_is : (c : After-link_of-link) → let a = c.args in
-    c.link_of-link.result ≡ get_or (fleet_by a.units.now a.stored.now).link c.loop-i.i 0
-link_is c = let a = c.args in c.link_of-link.ensures ∙ sym (link_at_lem a.units.now a.stored.now c.loop-i.i)
+link_is : (s : Start) (i : ℕ) → (unit_by (get_or s.args.units.now i no_row)).link ≡ get_or (fleet_by s.args.units.now s.args.stored.now).link i 0
+link_is s i = sym (link_at_lem s.args.units.now s.args.stored.now i)
 
-link_ok : (c : After-link_of-link) → c.link_of-link.result ≤ 120000
-link_ok c = le_trans (le_of_eq (link_is c)) (c.requires.link_small c.loop-i.i)
+link_ok : (s : Start) (i : ℕ) → (unit_by (get_or s.args.units.now i no_row)).link ≤ 120000
+link_ok s i = le_trans (le_of_eq (link_is s i)) (s.requires.link_small i)
 
 -- and so is the test
-test_is : (c : After-in_band) → c.in_band.result ≡ at c.before.before.before.before.before.before.before.before c.loop-i.i
+test_is : (c : After-in_band) → c.in_band.result ≡ at c.before.before.before.before.before.before.before c.loop-i.i
 test_is c =
     let a = c.args in
-    let band = c.own_band-own.ensures ∙ ap (λ (link : ℕ). band_in_watts a.w.current link a.band) (link_is (record { before = c.before.before.before.before; type_inv = record { stored = c.shared_slice_known-1.given } })) in
+    let band = c.own_band-own.ensures ∙ ap (λ (link : ℕ). band_in_watts a.w.current link a.band) (link_is c.before.before.before.before.before.before.before c.loop-i.i) in
     let need = read w64 c.own_need.result c.own_need.type_inv ∙ c.own_need.ensures.value
-    ∙ own_at a.w a.units.now a.stored.now c.loop-i.i c.link_of-link.result c.link_of-link.ensures in
+    ∙ own_at a.w a.units.now a.stored.now c.loop-i.i _ refl in
     c.in_band.ensures ∙ ap₂ in_band band need
 
 pub loop-i-init : goal.loop-i-init
@@ -46,10 +46,10 @@ unfolding all_of
 loop-i-init c = (refl)
 
 pub own_band-own-requires : goal.own_band-own-requires
-own_band-own-requires c = link_ok c
+own_band-own-requires c = link_ok (goal.at.own_band-own-requires c).Start c.loop-i.i
 
 pub own_need-requires : goal.own_need-requires
-own_need-requires c = record { modest = c.requires.modest; link_bound = link_ok (goal.at.own_need-requires c).After-link_of-link }
+own_need-requires c = record { modest = c.requires.modest; link_bound = link_ok (goal.at.own_need-requires c).Start c.loop-i.i }
 
 pub in_band-requires : goal.in_band-requires
 in_band-requires c =

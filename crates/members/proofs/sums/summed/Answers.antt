@@ -1,10 +1,9 @@
 use native.Mathlib.Omega.{arith}
 use mathlib.Core.Path.{refl}
 use Rattle.unit.specs.declared.Unit.{Unit}
-use Rattle.rows.specs.Rows.{unit_by}
 use Rattle.rows.proofs.RowLaws.{column_count}
 use Rattle.members.specs.Posts.{column_by}
-use Rattle.members.proofs.ColumnLaws.{summing_none, summing_more, summing_all, addable_upto, weight_upto, column_is}
+use Rattle.members.proofs.ColumnLaws.{summing_none, summing_more, summing_all, addable_upto, column_is}
 use Rattle.members.proofs.sums.summed.Goals as goal
 use Rattle.members.proofs.sums.summed.Goals.{At-loop-i, Start}
 
@@ -12,7 +11,6 @@ pub loop-i-init : goal.loop-i-init
 loop-i-init c = summing_none c.args.units.now
 
 pub overflow_add-rated : goal.overflow_add-rated
-unfolding unit_by
 overflow_add-rated c =
     let rows = c.args.units.now in
     let i = c.loop-i.i in
@@ -25,11 +23,9 @@ overflow_add-rated c =
       add.few,
       column_count (λ (u : Unit). u.rated) rows,
       column_is (λ (u : Unit). u.rated) refl rows i,
-      c.rated_of-rated.ensures,
     )
 
 pub overflow_add-reserve : goal.overflow_add-reserve
-unfolding unit_by
 overflow_add-reserve c =
     let rows = c.args.units.now in
     let i = c.loop-i.i in
@@ -42,18 +38,16 @@ overflow_add-reserve c =
       add.few,
       column_count (λ (u : Unit). u.reserve) rows,
       column_is (λ (u : Unit). u.reserve) refl rows i,
-      c.reserve_of-reserve.ensures,
     )
 
 pub overflow_add-weight : goal.overflow_add-weight
 overflow_add-weight c =
-    let rows = c.args.units.now in
-    omega (arith, weight_upto rows c.loop-i.i, c.loop-i.invariant.weight_is, c.requires.addable.few, column_count (λ (u : Unit). u.rated) rows, c.weight_of.type_inv)
+    omega (arith, c.requires.addable.few, column_count (λ (u : Unit). u.rated) c.args.units.now)
 
 pub loop-i-preserved : goal.loop-i-preserved
 loop-i-preserved c =
-    summing_more c.args.units.now c.loop-i.i c.loop-i.rated c.loop-i.reserve c.loop-i.weight c.rated_of-rated.result c.reserve_of-reserve.result c.weight_of.result c.loop-i.invariant (omega arith)
-    c.rated_of-rated.ensures c.reserve_of-reserve.ensures c.weight_of.ensures
+    summing_more c.args.units.now c.loop-i.i c.loop-i.rated c.loop-i.reserve c.loop-i.weight _ _ _ c.loop-i.invariant (omega arith)
+    refl refl refl (omega arith)
 
 pub returns : goal.returns
 returns c =

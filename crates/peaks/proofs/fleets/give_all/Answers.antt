@@ -8,6 +8,7 @@ use mir.Syntax.{w32}
 use Rattle.whole.proofs.SignLaws.{read}
 use Rattle.unit.specs.declared.Unit.{Unit}
 use Rattle.unit.specs.Ranges.{Ranged}
+use Rattle.rows.specs.Rows.{no_row, unit_by}
 use Rattle.site.specs.Site.{Site, count}
 use Rattle.site.proofs.RangeLaws.{unit_ranged}
 use Rattle.guided.proofs.SharedLaws.{back}
@@ -42,8 +43,8 @@ give-g-requires c =
       guiding = next_guiding s a.l a.stored.now a.requests.now a.vars.now c.requires.ready.sited held c.requires.modest p.i p.stored p.vars p.sums p.invariant below;
     }
 
-pub unit_of-u-requires : goal.unit_of-u-requires
-unit_of-u-requires c = omega (arith, c.requires.held.asks, rows_count c.args.f.head c.args.rows.now)
+pub bounds-rows-i : goal.bounds-rows-i
+bounds-rows-i c = omega (arith, c.requires.held.asks, rows_count c.args.f.head c.args.rows.now)
 
 pub with_unit-sums-requires : goal.with_unit-sums-requires
 with_unit-sums-requires c =
@@ -74,12 +75,12 @@ loop-i-preserved c =
     let request = back (get_or a.requests.now p.i (pos 0)) in
     let last = back (get_or p.vars p.i (pos 0)) in
     let g = c.give-g.result in
-    let u = c.unit_of-u in
+    let grid = (unit_by (get_or rows p.i no_row)).grid_loss in
     one_more s a.l a.stored.now a.requests.now a.vars.now c.requires.ready.sited held c.requires.modest p.i p.stored p.vars p.sums p.invariant (omega (arith, held.asks))
     (omega arith) g.outcome (given_is head rows a.l p.i (get_or p.stored p.i 0) request last g.outcome c.give-g.ensures.outcome_value)
     g.vars (omega arith) (kept_is head rows a.l p.i (get_or p.stored p.i 0) request last g.vars c.give-g.ensures.vars_value)
-    u.result.grid_loss (ap (λ (v : Unit). v.grid_loss) (u.ensures ∙ sym (row_unit_lem head rows p.i)))
-    c.not_met-missed.result (c.not_met-missed.ensures ∙ ap (λ (z : ℤ). not_met request (z +ℤ pos u.result.grid_loss)) (read w32 g.outcome.watts (omega arith)))
+    grid (ap (λ (v : Unit). v.grid_loss) (sym (row_unit_lem head rows p.i)))
+    c.not_met-missed.result (c.not_met-missed.ensures ∙ ap (λ (z : ℤ). not_met request (z +ℤ pos grid)) (read w32 g.outcome.watts (omega arith)))
     c.with_unit-sums.result c.with_unit-sums.ensures.value c.with_unit-sums.ensures.within_2
 
 pub returns : goal.returns

@@ -1,15 +1,14 @@
 -- Of each kind what its function does; of a unit that idles by what the row keeps of it.
 use mathlib.Core.Path.{◌≡◌, sym, ◌∙◌}
-use mathlib.Core.List.{[]}
 use lib.ListN.{get_or}
 use Rattle.unit.specs.declared.Unit.{Unit}
-use Rattle.rows.specs.Rows.{unit_by}
+use Rattle.rows.specs.Rows.{no_row, unit_by, draw_by}
 use Rattle.flows.specs.declared.Flow.TheVariants.{Out, In}
 use Rattle.storage.specs.Posts.{row_unit, rest_draw, flow_by}
 use Rattle.storage.proofs.StepLaws.{resting_small}
 use Rattle.storage.proofs.GivingLaws.{holding_draw, flow_gives, flow_takes, flow_idles, done_asks, done_is, rests_is}
 use Rattle.storage.proofs.giving.done.Goals as goal
-use Rattle.storage.proofs.giving.done.Goals.{After-draw_of, After-unit_holding, After-unit_holding-then-kind-eq-TAKES, Else-kind-eq-TAKES, Start, Then-kind-eq-GIVES, Then-kind-eq-TAKES}
+use Rattle.storage.proofs.giving.done.Goals.{Start}
 
 abbrev unit : Start → Unit
 unit s = row_unit s.args.units.now s.args.i s.args.held
@@ -37,16 +36,16 @@ returns-then-kind-eq-TAKES c =
     a.vars c.ranges.vars.sfits c.taken.result c.taken.ensures
 
 -- what the unit draws while it idles
-draw : (d : After-draw_of) → d.draw_of.result ≡ rest_draw (unit_by (get_or d.args.units.now d.args.i []))
-draw d = d.draw_of.ensures ∙ (d.requires.rested.told d.args.i d.requires.i_in_bounds).draw_is
+draw : (s : Start) → draw_by (get_or s.args.units.now s.args.i no_row) ≡ rest_draw (unit_by (get_or s.args.units.now s.args.i no_row))
+draw s = (s.requires.rested.told s.args.i s.requires.i_in_bounds).draw_is
 
 pub rest-requires : goal.rest-requires
 rest-requires c =
     let a = c.args in
-    resting_small (unit (goal.at.rest-requires c).Start) c.requires.ranged.unit c.draw_of.result (draw c ∙ sym (holding_draw (unit_by (get_or a.units.now a.i [])) a.held))
+    resting_small (unit (goal.at.rest-requires c).Start) c.requires.ranged.unit _ (draw (goal.at.rest-requires c).Start ∙ sym (holding_draw (unit_by (get_or a.units.now a.i no_row)) a.held))
 
 pub returns : goal.returns
 returns c =
     let a = c.args in
-    rests_is (unit_by (get_or a.units.now a.i [])) a.held a.seconds c.draw_of.result (draw (goal.at.returns c).After-draw_of) (flow_by a.kind a.p)
+    rests_is (unit_by (get_or a.units.now a.i no_row)) a.held a.seconds _ (draw (goal.at.returns c).Start) (flow_by a.kind a.p)
     (flow_idles a.kind a.p c.if-kind-eq-GIVES.false c.if-kind-eq-TAKES.false) a.vars c.ranges.vars.sfits c.rest.result c.rest.ensures

@@ -1,8 +1,7 @@
 -- The row keeps the most that a request is held at, so the smaller of that and the size of this one is what it is held at. Where its kind is told, that is what
 -- flows, with the vars that the row keeps; else the step is worked out.
 use mathlib.Core.Path.{◌≡◌, sym, ap, ap₂, ◌∙◌, subst⁻¹}
-use mathlib.Core.List.{[]}
-use mathlib.Core.Logic.{⊎_elim}
+use native.Mathlib.Omega.{arith}
 use lib.IntN.{ℤ}
 use lib.ListN.{get_or}
 use mir.Syntax.{w32}
@@ -10,54 +9,40 @@ use mir.Val.{to_z}
 use Rattle.whole.proofs.SignLaws.{read}
 use Rattle.unit.specs.declared.Unit.{Unit}
 use Rattle.unit.specs.Ranges.{Ranged}
-use Rattle.rows.specs.Rows.{unit_by}
+use Rattle.rows.specs.declared.Row.{Row}
+use Rattle.rows.specs.Rows.{no_row, unit_by, vars_by, most_by, full_by, clear_by}
 use Rattle.energy.specs.Limits.{held_size, vars_of}
 use Rattle.flows.specs.Flows.{inverter_watts}
-use Rattle.storage.specs.Posts.{Told, row_unit, clear_watts, kind_of, flow_by}
+use Rattle.storage.specs.Posts.{Told, row_unit, kind_of, flow_by}
 use Rattle.storage.specs.Step.{step_of}
 use Rattle.storage.proofs.GivingLaws.{holding_vars, holds, held_few, step_carried, step_is, vars_idle, vars_full}
 use Rattle.storage.proofs.giving.step_of.Goals as goal
-use Rattle.storage.proofs.giving.step_of.Goals.{then-kind-eq-IDLES, else-kind-eq-IDLES, After-clear_of, After-kind_of-kind, After-least32-p, After-unit_holding, Else-kind-eq-OPEN, Joined-kind-eq-IDLES, Start}
+use Rattle.storage.proofs.giving.step_of.Goals.{then-kind-eq-IDLES, else-kind-eq-IDLES, After-kind_of-kind, After-least32-p, Start}
 
 abbrev unit : Start → Unit
 unit s = row_unit s.args.units.now s.args.i s.args.held
 
-told : (s : Start) → Told s.args.seconds (get_or s.args.units.now s.args.i [])
+abbrev row : Start → Row
+row s = get_or s.args.units.now s.args.i no_row
+
+told : (s : Start) → Told s.args.seconds (row s)
 told s = s.requires.rested.told s.args.i s.requires.i_in_bounds
 
 -- what the request is held at
-held : (l : After-least32-p) → l.least32-p.result ≡ held_size (unit l.before.before.before) l.args.request
+held : (l : After-least32-p) → let a = l.args in l.least32-p.result ≡ held_size (row_unit a.units.now a.i a.held) a.request
 held l =
     let a = l.args in
-    holds (unit_by (get_or a.units.now a.i [])) a.held a.request l.ranges.request.sfits l.size32.result l.most_of.result l.least32-p.result
-    l.size32.ensures (l.most_of.ensures ∙ (told l.before.before.before).most_is) l.least32-p.ensures
-
-clear : (v : After-clear_of) → v.clear_of.result ≡ clear_watts (unit v.before.before.before.before)
-clear v = v.clear_of.ensures ∙ (told v.before.before.before.before).clear_is
+    let here = get_or a.units.now a.i no_row in
+    holds (unit_by here) a.held a.request l.ranges.request.sfits l.size32.result (most_by here) l.least32-p.result
+    l.size32.ensures (l.requires.rested.told a.i l.requires.i_in_bounds).most_is l.least32-p.ensures
 
 -- its kind
-kind : (k : After-kind_of-kind) → k.kind_of-kind.result
-    ≡ kind_of (unit k.before.before.before.before.before) k.args.seconds k.args.request
-    k.least32-p.result k.clear_of.result
+kind : (k : After-kind_of-kind) → let a = k.args in
+    k.kind_of-kind.result ≡ kind_of (row_unit a.units.now a.i a.held) a.seconds a.request k.least32-p.result (clear_by (get_or a.units.now a.i no_row))
 kind k =
     let a = k.args in
     k.kind_of-kind.ensures
-    ∙ ap (λ (z : ℤ). kind_of (unit k.before.before.before.before.before) a.seconds z k.least32-p.result k.clear_of.result) (read w32 a.request k.ranges.request.sfits)
-
--- the vars that the row keeps are those of what flows
-vars : (j : Joined-kind-eq-IDLES) → to_z w32 j.if-kind-eq-IDLES.vars-bits
-    ≡ vars_of (unit j.before.before.before.before.before.before.before)
-    (inverter_watts (unit j.before.before.before.before.before.before.before) (flow_by j.kind_of-kind.result j.least32-p.result))
-vars j =
-    let a = j.args in
-    let u = unit_by (get_or a.units.now a.i []) in
-    let r = j.requires.ranged in
-    elim j.if-kind-eq-IDLES.branch [
-      | then-kind-eq-IDLES w ↦ w.vars-is ∙ read w32 w.vars_of-vars.result w.vars_of-vars.type_inv ∙ w.vars_of-vars.ensures ∙ (told j.before.before.before.before.before.before.before).vars_is ∙ sym (holding_vars u a.held)
-          ∙ vars_idle (unit j.before.before.before.before.before.before.before) a.seconds a.request r j.least32-p.result (held j.before.before.before.before) j.clear_of.result (clear j.before.before.before) j.kind_of-kind.result (kind j.before.before) j.if-kind-eq-OPEN.false w.if-kind-eq-IDLES.true
-      | else-kind-eq-IDLES w ↦ w.vars-is ∙ read w32 w.full_of-vars.result w.full_of-vars.type_inv ∙ w.full_of-vars.ensures ∙ (told j.before.before.before.before.before.before.before).full_is
-          ∙ vars_full (unit j.before.before.before.before.before.before.before) a.seconds a.request r j.least32-p.result (held j.before.before.before.before) j.clear_of.result (clear j.before.before.before) j.kind_of-kind.result (kind j.before.before) j.if-kind-eq-OPEN.false w.if-kind-eq-IDLES.false
-    ]
+    ∙ ap (λ (z : ℤ). kind_of (row_unit a.units.now a.i a.held) a.seconds z k.least32-p.result (clear_by (get_or a.units.now a.i no_row))) (read w32 a.request k.ranges.request.sfits)
 
 pub kind_of-kind-requires : goal.kind_of-kind-requires
 kind_of-kind-requires c =
@@ -77,10 +62,25 @@ pub done-requires : goal.done-requires
 done-requires c =
     let a = c.args in
     let r = c.requires.ranged in
-    let carried = step_carried (unit (goal.at.done-requires c).Start) a.seconds a.request r c.least32-p.result (held (goal.at.done-requires c).After-least32-p) c.clear_of.result (clear (goal.at.done-requires c).After-clear_of) c.kind_of-kind.result (kind (goal.at.done-requires c).After-kind_of-kind) c.if-kind-eq-OPEN.false in record { i_in_bounds = c.requires.i_in_bounds; rested = c.requires.rested; ranged = r; carried = carried }
+    let s = (goal.at.done-requires c).Start in
+    let carried = step_carried (unit s) a.seconds a.request r c.least32-p.result (held (goal.at.done-requires c).After-least32-p) (clear_by (row s)) (told s).clear_is c.kind_of-kind.result (kind (goal.at.done-requires c).After-kind_of-kind) c.if-kind-eq-OPEN.false in record { i_in_bounds = c.requires.i_in_bounds; rested = c.requires.rested; ranged = r; carried = carried }
 
 pub returns : goal.returns
 returns c =
     let a = c.args in
-    step_is (unit (goal.at.returns c).Start) a.seconds a.request c.requires.ranged c.least32-p.result (held (goal.at.returns c).After-least32-p) c.clear_of.result (clear (goal.at.returns c).After-clear_of) c.kind_of-kind.result (kind (goal.at.returns c).After-kind_of-kind) c.if-kind-eq-OPEN.false
-    (to_z w32 c.if-kind-eq-IDLES.vars-bits) (vars (goal.at.returns c).Joined-kind-eq-IDLES) c.done.result c.done.ensures
+    let s = (goal.at.returns c).Start in
+    let r = c.requires.ranged in
+    let p = c.least32-p.result in
+    let kept = told s in
+    let h = held (goal.at.returns c).After-least32-p in
+    let k = kind (goal.at.returns c).After-kind_of-kind in
+    -- the vars that the row keeps are those of what flows
+    let vars : to_z w32 c.if-kind-eq-IDLES.vars-bits ≡ vars_of (unit s) (inverter_watts (unit s) (flow_by c.kind_of-kind.result p)) =
+    elim c.if-kind-eq-IDLES.branch [
+      | then-kind-eq-IDLES w ↦ w.vars-is ∙ read w32 (vars_by (row s)) (omega arith) ∙ kept.vars_is ∙ sym (holding_vars (unit_by (row s)) a.held)
+          ∙ vars_idle (unit s) a.seconds a.request r p h (clear_by (row s)) kept.clear_is c.kind_of-kind.result k c.if-kind-eq-OPEN.false w.if-kind-eq-IDLES.true
+      | else-kind-eq-IDLES w ↦ w.vars-is ∙ read w32 (full_by (row s)) (omega arith) ∙ kept.full_is
+          ∙ vars_full (unit s) a.seconds a.request r p h (clear_by (row s)) kept.clear_is c.kind_of-kind.result k c.if-kind-eq-OPEN.false w.if-kind-eq-IDLES.false
+    ] in
+    step_is (unit s) a.seconds a.request r p h (clear_by (row s)) kept.clear_is c.kind_of-kind.result k c.if-kind-eq-OPEN.false
+    (to_z w32 c.if-kind-eq-IDLES.vars-bits) vars c.done.result c.done.ensures
