@@ -10,8 +10,6 @@ use borrow.Author.Tests.{eq-eqb, ne_eqb, lt-ltb, le-ltb}
 use Rattle.whole.specs.declared.Refusal.{Refusal}
 use Rattle.whole.specs.Call.{refusal}
 use Rattle.unit.specs.declared.Unit.{Unit}
-use Rattle.settling.specs.declared.StudyAnswer.{StudyAnswer}
-use Rattle.settling.specs.declared.StudyAnswer.TheVariants.{StudyRefused}
 use Rattle.settling.specs.Answers.{study_answer, study_leaves}
 use Rattle.site.specs.declared.Head.{Head}
 use Rattle.site.specs.Site.{count, unit_of}
@@ -23,12 +21,10 @@ use Rattle.stick.specs.Posts.{connections_place, connected}
 use Rattle.stick.proofs.SiteProved.{walk_accepted, connections_picked}
 use Rattle.parts.specs.Header.{header}
 use Rattle.fields.specs.Fields.{phases_in, volts_in}
-use Rattle.ask.specs.declared.ConnectionAnswer.{ConnectionAnswer}
-use Rattle.ask.specs.declared.ConnectionAnswer.TheVariants.{ConnectionSaid, ConnectionRefused}
-use Rattle.ask.specs.declared.HeadAnswer.TheVariants.{HeadSaid, HeadRefused}
-use Rattle.ask.specs.declared.UnitAnswer.{UnitAnswer}
-use Rattle.ask.specs.declared.UnitAnswer.TheVariants.{UnitSaid, UnitRefused}
 use Rattle.ask.specs.Says.{units_said, inverters_said, seconds_said, head_answer, unit_answer, connection_of, connection_answer, fleet_said, trial_said, file_study, file_study_leaves}
+use Rattle.std.proofs.Common.{Err, Ok, Result}
+use Rattle.settling.specs.declared.Studied.{Studied}
+use Rattle.ask.specs.declared.Connection.{Connection}
 
 -- a choice by whether a number is 0
 abbrev by_number {ℓ} : {X : Type ℓ} → ℕ → X → X → X
@@ -69,27 +65,27 @@ module _ (file : List ℕ) (a : Answer) (is : a ≡ check_of file) where
       whole_is : r ≡ refusal_by (check_of file)
       whole_is = er ∙ ap refusal_by is
 
-      pub no_head : HeadRefused r ≡ head_answer file
+      pub no_head : Err r ≡ head_answer file
       unfolding head_answer
-      no_head = ap HeadRefused whole_is ∙ sym (other_number (check_of file).number (HeadSaid (site_of file).head) (HeadRefused (refusal_by (check_of file))) refused)
+      no_head = ap Err whole_is ∙ sym (other_number (check_of file).number (Ok (site_of file).head) (Err (refusal_by (check_of file))) refused)
 
-      pub no_unit_lem : (i : ℕ) → UnitRefused r ≡ unit_answer file i
+      pub no_unit_lem : (i : ℕ) → Err r ≡ unit_answer file i
       unfolding unit_answer
       no_unit_lem i =
-          let said = cond (ltb i (count (site_of file))) (UnitSaid (unit_of (site_of file) i)) (UnitRefused (refusal 10)) in
-          ap UnitRefused whole_is ∙ sym (other_number (check_of file).number said (UnitRefused (refusal_by (check_of file))) refused)
+          let said = cond (ltb i (count (site_of file))) (Ok (unit_of (site_of file) i)) (Err (refusal 10)) in
+          ap Err whole_is ∙ sym (other_number (check_of file).number said (Err (refusal_by (check_of file))) refused)
 
-      pub no_connection : (i : ℕ) → ConnectionRefused r ≡ connection_answer file i
+      pub no_connection : (i : ℕ) → Err r ≡ connection_answer file i
       unfolding connection_answer
       no_connection i =
-          let said = cond (ltb i (count (site_of file)) && leb 1 (length (connections_of file))) (ConnectionSaid (connection_of file i)) (ConnectionRefused (refusal 10)) in
-          ap ConnectionRefused whole_is ∙ sym (other_number (check_of file).number said (ConnectionRefused (refusal_by (check_of file))) refused)
+          let said = cond (ltb i (count (site_of file)) && leb 1 (length (connections_of file))) (Ok (connection_of file i)) (Err (refusal 10)) in
+          ap Err whole_is ∙ sym (other_number (check_of file).number said (Err (refusal_by (check_of file))) refused)
 
-      pub no_study : (load : ℤ) (budget : ℕ) (rs : List ℤ) → (StudyRefused r ≡ file_study file load budget rs) × (rs ≡ file_study_leaves file load budget rs)
+      pub no_study : (load : ℤ) (budget : ℕ) (rs : List ℤ) → (Err r ≡ file_study file load budget rs) × (rs ≡ file_study_leaves file load budget rs)
       unfolding file_study file_study_leaves
       no_study load budget rs = (
-        ap StudyRefused whole_is
-            ∙ sym (other_number (check_of file).number (study_answer (trial_said file load budget) (fleet_said file) rs) (StudyRefused (refusal_by (check_of file))) refused),
+        ap Err whole_is
+            ∙ sym (other_number (check_of file).number (study_answer (trial_said file load budget) (fleet_said file) rs) (Err (refusal_by (check_of file))) refused),
         sym (other_number (check_of file).number (study_leaves (trial_said file load budget) (fleet_said file) rs) rs refused),
       )
 
@@ -107,24 +103,24 @@ module _ (file : List ℕ) (z : Accepted file) where
   unfolding seconds_said
   seconds_said_lem h e = ap (λ (x : Head). x.seconds) e ∙ sym (zero_number (check_of file).number (site_of file).head.seconds 0 z.complete)
 
-  pub head_said_lem : (h : Head) → h ≡ (site_of file).head → HeadSaid h ≡ head_answer file
+  pub head_said_lem : (h : Head) → h ≡ (site_of file).head → Ok h ≡ head_answer file
   unfolding head_answer
-  head_said_lem h e = ap HeadSaid e ∙ sym (zero_number (check_of file).number (HeadSaid (site_of file).head) (HeadRefused (refusal_by (check_of file))) z.complete)
+  head_said_lem h e = ap Ok e ∙ sym (zero_number (check_of file).number (Ok (site_of file).head) (Err (refusal_by (check_of file))) z.complete)
 
   -- a unit, by its number
-  abbrev within : ℕ → Bool → UnitAnswer
-  within i b = cond b (UnitSaid (unit_of (site_of file) i)) (UnitRefused (refusal 10))
+  abbrev within : ℕ → Bool → Result Unit Refusal
+  within i b = cond b (Ok (unit_of (site_of file) i)) (Err (refusal 10))
 
   answered : (i : ℕ) (b : Bool) → ltb i (count (site_of file)) ≡ b → within i b ≡ unit_answer file i
   unfolding unit_answer
   answered i b e =
-      sym (zero_number (check_of file).number (within i (ltb i (count (site_of file)))) (UnitRefused (refusal_by (check_of file))) z.complete ∙ ap (within i) e)
+      sym (zero_number (check_of file).number (within i (ltb i (count (site_of file)))) (Err (refusal_by (check_of file))) z.complete ∙ ap (within i) e)
 
-  pub unit_said_lem : (i : ℕ) → i < count (site_of file) → (u : Unit) → u ≡ unit_of (site_of file) i → UnitSaid u ≡ unit_answer file i
-  unit_said_lem i l u e = ap UnitSaid e ∙ answered i true (lt-ltb i (count (site_of file)) l)
+  pub unit_said_lem : (i : ℕ) → i < count (site_of file) → (u : Unit) → u ≡ unit_of (site_of file) i → Ok u ≡ unit_answer file i
+  unit_said_lem i l u e = ap Ok e ∙ answered i true (lt-ltb i (count (site_of file)) l)
 
-  pub unit_outside : (i : ℕ) → count (site_of file) ≤ i → (r : Refusal) → r ≡ refusal 10 → UnitRefused r ≡ unit_answer file i
-  unit_outside i l r er = ap UnitRefused er ∙ answered i false (le-ltb i (count (site_of file)) l)
+  pub unit_outside : (i : ℕ) → count (site_of file) ≤ i → (r : Refusal) → r ≡ refusal 10 → Err r ≡ unit_answer file i
+  unit_outside i l r er = ap Err er ∙ answered i false (le-ltb i (count (site_of file)) l)
 
   -- a unit's connection, by its number and by whether the file has connections: they stand where the code looks for them
   there_is : (b : Bool) → connected file ≡ b → connections_of file ≡ cond b (connections_place file ∷ []) []
@@ -139,38 +135,38 @@ module _ (file : List ℕ) (z : Accepted file) where
   has_some true e = ap (λ (ats : List ℕ). leb 1 (length ats)) (there_is true e)
   has_some false e = ap (λ (ats : List ℕ). leb 1 (length ats)) (there_is false e)
 
-  abbrev joined : ℕ → Bool → ConnectionAnswer
-  joined i b = cond b (ConnectionSaid (connection_of file i)) (ConnectionRefused (refusal 10))
+  abbrev joined : ℕ → Bool → Result Connection Refusal
+  joined i b = cond b (Ok (connection_of file i)) (Err (refusal 10))
 
   told : (i : ℕ) (b : Bool) → (ltb i (count (site_of file)) && leb 1 (length (connections_of file))) ≡ b → joined i b ≡ connection_answer file i
   unfolding connection_answer
   told i b e =
       let inside : Bool = ltb i (count (site_of file)) && leb 1 (length (connections_of file)) in
-      sym (zero_number (check_of file).number (joined i inside) (ConnectionRefused (refusal_by (check_of file))) z.complete ∙ ap (joined i) e)
+      sym (zero_number (check_of file).number (joined i inside) (Err (refusal_by (check_of file))) z.complete ∙ ap (joined i) e)
 
   pub connection_said : (i : ℕ) → i < count (site_of file) → connected file ≡ true → (phases volts : ℕ)
       → phases ≡ phases_in file (connections_place file + header) i → volts ≡ volts_in file (connections_place file + header) i
-      → ConnectionSaid (record { phases = phases; volts = volts }) ≡ connection_answer file i
+      → Ok (record { phases = phases; volts = volts }) ≡ connection_answer file i
   unfolding connection_of
   connection_said i l e phases volts ep ev =
       let at = sym (place_is e) in
       let phases-are = ep ∙ ap (λ (v : ℕ). phases_in file v i) at in
       let volts-are = ev ∙ ap (λ (v : ℕ). volts_in file v i) at in
-      (λ k. ConnectionSaid (record { phases = phases-are k; volts = volts-are k }))
+      (λ k. Ok (record { phases = phases-are k; volts = volts-are k }))
       ∙ told i true (ap₂ ◌&&◌ (lt-ltb i (count (site_of file)) l) (has_some true e))
 
-  pub connection_outside : (i : ℕ) → count (site_of file) ≤ i → (r : Refusal) → r ≡ refusal 10 → ConnectionRefused r ≡ connection_answer file i
-  connection_outside i l r er = ap ConnectionRefused er ∙ told i false (ap (λ (b : Bool). b && leb 1 (length (connections_of file))) (le-ltb i (count (site_of file)) l))
+  pub connection_outside : (i : ℕ) → count (site_of file) ≤ i → (r : Refusal) → r ≡ refusal 10 → Err r ≡ connection_answer file i
+  connection_outside i l r er = ap Err er ∙ told i false (ap (λ (b : Bool). b && leb 1 (length (connections_of file))) (le-ltb i (count (site_of file)) l))
 
-  pub none_connected : (i : ℕ) → i < count (site_of file) → connected file ≡ false → (r : Refusal) → r ≡ refusal 10 → ConnectionRefused r ≡ connection_answer file i
-  none_connected i l e r er = ap ConnectionRefused er ∙ told i false (ap₂ ◌&&◌ (lt-ltb i (count (site_of file)) l) (has_some false e))
+  pub none_connected : (i : ℕ) → i < count (site_of file) → connected file ≡ false → (r : Refusal) → r ≡ refusal 10 → Err r ≡ connection_answer file i
+  none_connected i l e r er = ap Err er ∙ told i false (ap₂ ◌&&◌ (lt-ltb i (count (site_of file)) l) (has_some false e))
 
   -- a study of the file is a study of its fleet
-  pub study_said : (load : ℤ) (budget : ℕ) (rs after : List ℤ) (r : StudyAnswer)
+  pub study_said : (load : ℤ) (budget : ℕ) (rs after : List ℤ) (r : Result Studied Refusal)
       → (r ≡ study_answer (trial_said file load budget) (fleet_said file) rs) × (after ≡ study_leaves (trial_said file load budget) (fleet_said file) rs)
       → (r ≡ file_study file load budget rs) × (after ≡ file_study_leaves file load budget rs)
   unfolding file_study file_study_leaves
   study_said load budget rs after r e = (
-    e.0 ∙ sym (zero_number (check_of file).number (study_answer (trial_said file load budget) (fleet_said file) rs) (StudyRefused (refusal_by (check_of file))) z.complete),
+    e.0 ∙ sym (zero_number (check_of file).number (study_answer (trial_said file load budget) (fleet_said file) rs) (Err (refusal_by (check_of file))) z.complete),
     e.1 ∙ sym (zero_number (check_of file).number (study_leaves (trial_said file load budget) (fleet_said file) rs) rs z.complete),
   )

@@ -12,7 +12,6 @@ use Rattle.rules.specs.declared.Settings.{Settings}
 use Rattle.members.specs.Ranges.{member_at, lengths_in}
 use Rattle.settling.specs.declared.Trial.{Trial}
 use Rattle.settling.specs.declared.Studied.{Studied}
-use Rattle.settling.specs.declared.StudyAnswer.TheVariants.{StudyDone, StudyRefused}
 use Rattle.settling.specs.Study.{trial_in}
 use Rattle.settling.specs.Posts.{Trying}
 use Rattle.settling.proofs.TrialLaws.{trying}
@@ -24,6 +23,7 @@ use Rattle.ask.specs.Says.{fleet_said, trial_said, file_study, file_study_leaves
 use Rattle.ask.specs.Posts.{Studying, Surveyed}
 use Rattle.ask.proofs.SaysLaws.{study_said}
 use Rattle.ask.proofs.FleetLaws.{links_long, other_length, own_length, members_in, links_small}
+use Rattle.std.proofs.Common.{Err, Ok}
 
 and_true : (a b : Bool) → b ≡ true → a ≡ (a && b)
 and_true true b e = sym e
@@ -49,9 +49,9 @@ module _ (file : List ℕ) (z : Accepted file) (load : ℤ) (budget : ℕ) (rs :
   values = study_values trial (fleet_said file) rs
 
   pub other_count : (length rs ≡ count (site_of file) → ⊥) → (r : Refusal) → r ≡ refusal 10
-      → (StudyRefused r ≡ file_study file load budget rs) × (rs ≡ file_study_leaves file load budget rs)
+      → (Err r ≡ file_study file load budget rs) × (rs ≡ file_study_leaves file load budget rs)
   other_count other r er =
-      study_said file z load budget rs rs (StudyRefused r)
+      study_said file z load budget rs rs (Err r)
       (wrong_lengths trial (fleet_said file) rs (lengths_in (fleet_said file) (length rs)) values refl refl (ap not (other_length file (length rs) other)) r er)
 
   module _ (e : length rs ≡ count (site_of file)) where
@@ -63,14 +63,14 @@ module _ (file : List ℕ) (z : Accepted file) (load : ℤ) (budget : ℕ) (rs :
     values_are q fine ef eq = ef ∙ ap trial_in eq ∙ and_true (trial_in trial) (all_of (length rs) (member_at (fleet_said file))) (members_in file z (length rs) e)
 
     pub other_trial : (q : Trial) (fine : Bool) → fine ≡ trial_in q → q ≡ trial → not fine ≡ true → (r : Refusal) → r ≡ refusal 5
-        → (StudyRefused r ≡ file_study file load budget rs) × (rs ≡ file_study_leaves file load budget rs)
+        → (Err r ≡ file_study file load budget rs) × (rs ≡ file_study_leaves file load budget rs)
     other_trial q fine ef eq t r er =
-        study_said file z load budget rs rs (StudyRefused r)
+        study_said file z load budget rs rs (Err r)
         (wrong_values trial (fleet_said file) rs (lengths_in (fleet_said file) (length rs)) fine refl (values_are q fine ef eq) lengths_fine t r er)
 
     pub study_made : (q : Trial) (fine : Bool) → fine ≡ trial_in q → q ≡ trial → not fine ≡ false → (after : List ℤ) (r : Studied) → Surveyed file q rs after r
-        → (StudyDone r ≡ file_study file load budget rs) × (after ≡ file_study_leaves file load budget rs)
+        → (Ok r ≡ file_study file load budget rs) × (after ≡ file_study_leaves file load budget rs)
     study_made q fine ef eq t after r d =
-        study_said file z load budget rs after (StudyDone r)
+        study_said file z load budget rs after (Ok r)
         (all_fine trial (fleet_said file) rs (lengths_in (fleet_said file) (length rs)) fine refl (values_are q fine ef eq) lengths_fine t after r
         (subst (λ (x : Trial). Surveyed file x rs after r) eq d))

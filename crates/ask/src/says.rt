@@ -1,7 +1,10 @@
 ghost use Rattle.std.specs.Prelude.{◌≡◌};
 ghost use Rattle.ask.specs.Says.{units_said, inverters_said, seconds_said, head_answer, unit_answer, connection_answer};
 
-use super::{Connection, ConnectionAnswer, HeadAnswer, UnitAnswer};
+use super::Connection;
+use site::Head;
+use unit::Unit;
+use whole::Refusal;
 
 // The number of units of an accepted file, 0 of any other.
 pub fn units(file: &[u8]) -> u32
@@ -34,47 +37,47 @@ pub fn seconds(file: &[u8]) -> u32
 }
 
 // What a file says beside its units.
-pub fn head(file: &[u8]) -> HeadAnswer
+pub fn head(file: &[u8]) -> Result<Head, Refusal>
     ensures { result ≡ head_answer file.now }
 {
     let a = stick::check(file);
     if a.number != 0 {
-        return HeadAnswer::HeadRefused(stick::refusal_of(a));
+        return Err(stick::refusal_of(a));
     }
-    HeadAnswer::HeadSaid(stick::head(file))
+    Ok(stick::head(file))
 }
 
 // Unit i of a file.
-pub fn unit(file: &[u8], i: u32) -> UnitAnswer
+pub fn unit(file: &[u8], i: u32) -> Result<Unit, Refusal>
     ensures { result ≡ unit_answer file.now i }
 {
     let a = stick::check(file);
     if a.number != 0 {
-        return UnitAnswer::UnitRefused(stick::refusal_of(a));
+        return Err(stick::refusal_of(a));
     }
     let place = i as usize;
     if place < stick::units(file) {
-        return UnitAnswer::UnitSaid(stick::unit(file, place));
+        return Ok(stick::unit(file, place));
     }
-    UnitAnswer::UnitRefused(whole::refused(10))
+    Err(whole::refused(10))
 }
 
 // The connection of unit i of a file.
-pub fn connection_of(file: &[u8], i: u32) -> ConnectionAnswer
+pub fn connection_of(file: &[u8], i: u32) -> Result<Connection, Refusal>
     ensures { result ≡ connection_answer file.now i }
 {
     let a = stick::check(file);
     if a.number != 0 {
-        return ConnectionAnswer::ConnectionRefused(stick::refusal_of(a));
+        return Err(stick::refusal_of(a));
     }
     let place = i as usize;
     if stick::units(file) <= place {
-        return ConnectionAnswer::ConnectionRefused(whole::refused(10));
+        return Err(whole::refused(10));
     }
     if !stick::is_connected(file) {
-        return ConnectionAnswer::ConnectionRefused(whole::refused(10));
+        return Err(whole::refused(10));
     }
-    ConnectionAnswer::ConnectionSaid(Connection {
+    Ok(Connection {
         phases: stick::phases(file, place),
         volts: stick::volts(file, place),
     })

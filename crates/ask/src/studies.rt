@@ -5,7 +5,8 @@ ghost use Rattle.ask.specs.Says.{file_study, file_study_leaves};
 ghost use Rattle.ask.specs.Posts.{Studying, Surveyed};
 
 use rows::Row;
-use settling::{Studied, StudyAnswer, Trial};
+use settling::{Studied, Trial};
+use whole::Refusal;
 
 // The study over an accepted file's fleet, with rows and a list for its units.
 fn study_with(
@@ -40,16 +41,16 @@ fn study_over(file: &[u8], q: Trial, requests: &mut [i32]) -> Studied
 // The study over a file's fleet and settings, in mode 1 whatever the file's mode. Refused are a file
 // by the check's refusal, a list that has not the fleet's length (10), and a load or a budget out of
 // range (5); on a refusal the requests are as they were.
-pub fn study(file: &[u8], load: i64, budget: u32, requests: &mut [i32]) -> StudyAnswer
+pub fn study(file: &[u8], load: i64, budget: u32, requests: &mut [i32]) -> Result<Studied, Refusal>
     ensures value { result ≡ file_study file.now load budget requests.old }
     ensures requests_after { requests.new ≡ file_study_leaves file.now load budget requests.old }
 {
     let a = stick::check(file);
     if a.number != 0 {
-        return StudyAnswer::StudyRefused(stick::refusal_of(a));
+        return Err(stick::refusal_of(a));
     }
     if requests.len() != stick::units(file) {
-        return StudyAnswer::StudyRefused(whole::refused(10));
+        return Err(whole::refused(10));
     }
     let head = stick::head(file);
     let settings = head.settings;
@@ -59,7 +60,7 @@ pub fn study(file: &[u8], load: i64, budget: u32, requests: &mut [i32]) -> Study
         budget,
     };
     if !settling::trial_in(q) {
-        return StudyAnswer::StudyRefused(whole::refused(5));
+        return Err(whole::refused(5));
     }
-    StudyAnswer::StudyDone(study_over(file, q, requests))
+    Ok(study_over(file, q, requests))
 }

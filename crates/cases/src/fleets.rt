@@ -2,10 +2,11 @@ ghost use Rattle.std.specs.Prelude.{◌≤◌};
 
 use super::say;
 use super::say::Numbers;
-use controller::PassAnswer;
+use controller::Passed;
 use rules::Settings;
-use settling::{StudyAnswer, Trial};
+use settling::{Studied, Trial};
 use std::io;
+use whole::Refusal;
 
 // Most units that a case may have: one more than a call accepts.
 const MOST: usize = 65;
@@ -62,12 +63,10 @@ fn asked(v: &[u8], requests: &mut [i32]) {
 }
 
 // A pass's answer.
-fn tell_pass(out: &impl Print, a: PassAnswer, requests: &[i32]) -> io::Result<()> {
+fn tell_pass(out: &impl Print, a: Result<Passed, Refusal>, requests: &[i32]) -> io::Result<()> {
     match a {
-        PassAnswer::PassDone(p) => {
-            print!(out; "0 {} {}{}", p.need, u8::from(p.changed), Numbers(requests))
-        }
-        PassAnswer::PassRefused(r) => say::refusal(out, r.number),
+        Ok(p) => { print!(out; "0 {} {}{}", p.need, u8::from(p.changed), Numbers(requests)) }
+        Err(r) => say::refusal(out, r.number),
     }
 }
 
@@ -105,9 +104,9 @@ pub fn pass(out: &impl Print, v: &[u8]) -> io::Result<()> {
 }
 
 // A study's answer.
-fn tell_study(out: &impl Print, a: StudyAnswer, requests: &[i32]) -> io::Result<()> {
+fn tell_study(out: &impl Print, a: Result<Studied, Refusal>, requests: &[i32]) -> io::Result<()> {
     match a {
-        StudyAnswer::StudyDone(r) => {
+        Ok(r) => {
             print!(out;
                 "0 {} {}{}",
                 u8::from(r.settled),
@@ -115,7 +114,7 @@ fn tell_study(out: &impl Print, a: StudyAnswer, requests: &[i32]) -> io::Result<
                 Numbers(requests)
             )
         }
-        StudyAnswer::StudyRefused(r) => say::refusal(out, r.number),
+        Err(r) => say::refusal(out, r.number),
     }
 }
 

@@ -1,5 +1,5 @@
 use super::say;
-use solar::{Given, Sky, Weather};
+use solar::{Given, Weather};
 use std::io;
 
 // I: an inverter's seven values, its two curves, a weather and whether the inverter was on, each as
@@ -17,7 +17,7 @@ pub fn light(out: &impl Print, v: &[u8]) -> io::Result<()> {
         irradiance: octets::f64_at(v, 277),
         temperature: octets::f64_at(v, 285),
     };
-    let Sky::Clear(s) = solar::sky_of(w) else {
+    let Some(s) = solar::sky_of(w) else {
         return say::refusal(out, 6);
     };
     tell(out, solar::step_within(i, v, 19, 148, on == 1, s))

@@ -1,5 +1,5 @@
 use super::say;
-use reading::{Measure, Phases, Watts};
+use reading::Phases;
 use std::io;
 
 // W: a kW double. The watts.
@@ -8,8 +8,8 @@ pub fn watts(out: &impl Print, v: &[u8]) -> io::Result<()> {
         return say::unknown(out);
     }
     match reading::converted(octets::f64_at(v, 0)) {
-        Watts::Whole(watts) => print!(out; "0 {watts}"),
-        Watts::Refused => say::refusal(out, 6),
+        Some(watts) => print!(out; "0 {watts}"),
+        None => say::refusal(out, 6),
     }
 }
 
@@ -25,8 +25,8 @@ pub fn measure(out: &impl Print, v: &[u8]) -> io::Result<()> {
         third: octets::f64_at(v, 17),
     };
     match reading::regulated(p, phase) {
-        Measure::Chosen(watts) => print!(out; "0 {watts}"),
-        Measure::RefusedBy(r) => say::refusal(out, r.number),
+        Ok(watts) => print!(out; "0 {watts}"),
+        Err(r) => say::refusal(out, r.number),
     }
 }
 

@@ -1,7 +1,8 @@
 use super::say;
 use std::io;
-use storage::Stepped;
+use storage::Outcome;
 use unit::Unit;
+use whole::Refusal;
 
 // S: seconds, a unit's twelve values in the file's order, and the request. Watts, vars, the store
 // after the step and the loss.
@@ -34,9 +35,9 @@ pub fn step(out: &impl Print, v: &[u8]) -> io::Result<()> {
 }
 
 // A step's answer.
-fn tell(out: &impl Print, a: Stepped) -> io::Result<()> {
+fn tell(out: &impl Print, a: Result<Outcome, Refusal>) -> io::Result<()> {
     match a {
-        Stepped::Done(o) => print!(out; "0 {} {} {} {}", o.watts, o.vars, o.stored, o.loss),
-        Stepped::RefusedBy(r) => say::refusal(out, r.number),
+        Ok(o) => print!(out; "0 {} {} {} {}", o.watts, o.vars, o.stored, o.loss),
+        Err(r) => say::refusal(out, r.number),
     }
 }

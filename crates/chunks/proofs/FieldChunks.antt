@@ -13,8 +13,6 @@ use lib.Seq.{get_or-append-add, length-take-le, take_all}
 use borrow.Author.Tests.{leb-true, leb-false, ltb-true, ltb-false, le-ltb, eqb-true, eqb-false}
 use Rattle.whole.proofs.Choice.{by_test}
 use Rattle.octets.specs.BigEndian.{be}
-use Rattle.reading.specs.declared.Watts.{Watts}
-use Rattle.reading.specs.declared.Watts.TheVariants.{Whole, Refused}
 use Rattle.reading.specs.Choice.{usable_of, refusal_of}
 use Rattle.reading.specs.Conversion.{watts_of, milli_of}
 use Rattle.curve.specs.Layout.{curve_in}
@@ -22,19 +20,17 @@ use Rattle.unit.specs.Ranges.{unit_in}
 use Rattle.rules.specs.Ranges.{settings_in}
 use Rattle.lead.specs.Lead.{voltage_in}
 use Rattle.solar.specs.Roof.{inverter_in}
-use Rattle.solar.specs.declared.Sky.{Sky}
-use Rattle.solar.specs.declared.Sky.TheVariants.{Clear, Unknown}
 use Rattle.solar.specs.Weather.{sky_of}
 use Rattle.parts.specs.Header.{header, tag_at, length_at, past}
 use Rattle.fields.specs.declared.State.{State}
-use Rattle.fields.specs.declared.Taken.{Taken}
-use Rattle.fields.specs.declared.Taken.TheVariants.{Stop}
 use Rattle.fields.specs.Fields.{kinds, size_in, size_of, head_of, allowed, fleet_in, unit_at, settings_at, phase_at, phases_at, inverter_at, bounds_at, weather_at, six_unless, five_unless, value_of, too_many, refused_by, taken_by, connections_in, base_in}
 use Rattle.fields.proofs.FieldLaws.{by_tag, size_else}
 use Rattle.stick.specs.Check.{field_at}
 use Rattle.stick.proofs.WalkLaws.{field_stops, field_goes, Headed, headed}
 use Rattle.chunks.specs.Sizes.{largest_field}
 use Rattle.chunks.proofs.SameLaws.{Same, same_from, same_less, tag_same, length_same, taken_same}
+use Rattle.std.proofs.Common.{Err, None, Option, Result, Some, ℤ}
+use Rattle.solar.specs.declared.Sun.{Sun}
 
 -- ---- the bytes of a list behind another, and before another
 pub same_behind : (a b : List ℕ) (i n : ℕ) → Same (a ++ b) b (length a + i) i n
@@ -68,15 +64,15 @@ five_not_one : (b : Bool) → five_unless b ≡ 1 → ⊥
 five_not_one true e = omega arith
 five_not_one false e = omega arith
 
-six_not_one : (s : Sky) → six_unless s ≡ 1 → ⊥
-six_not_one (Clear s) e = omega arith
-six_not_one Unknown e = omega arith
+six_not_one : (s : Option Sun) → six_unless s ≡ 1 → ⊥
+six_not_one (Some s) e = omega arith
+six_not_one None e = omega arith
 
-usable_not_one : (a b c : Watts) → usable_of a b c ≡ 1 → ⊥
-usable_not_one Refused b c e = omega arith
-usable_not_one (Whole a) Refused c e = omega arith
-usable_not_one (Whole a) (Whole b) Refused e = omega arith
-usable_not_one (Whole a) (Whole b) (Whole c) e = omega arith
+usable_not_one : (a b c : Option ℤ) → usable_of a b c ≡ 1 → ⊥
+usable_not_one None b c e = omega arith
+usable_not_one (Some a) None c e = omega arith
+usable_not_one (Some a) (Some b) None e = omega arith
+usable_not_one (Some a) (Some b) (Some c) e = omega arith
 
 abbrev NotOne : ℕ → Type 0
 NotOne n = n ≡ 1 → ⊥
@@ -163,7 +159,7 @@ module _ (st : State) (F G : List ℕ) (p q : ℕ) (left : length F - p ≡ leng
   unfolding field_at
   fields_same h v =
       let tag = tag_same F G p q (same_less F G p q 3 h 1 (lit≤ tt)) in
-      ap₂ (λ (n : ℕ) (t : Taken). cond (eqb n 0) t (Stop n)) (heads_same h)
+      ap₂ (λ (n : ℕ) (t : Result State ℕ). cond (eqb n 0) t (Err n)) (heads_same h)
       (taken_same F G (p + 3) (q + 3) st (tag_at F p) v ∙ ap (λ (t : ℕ). taken_by st t G (q + header)) tag)
 
 -- ---- behind other bytes
@@ -232,7 +228,7 @@ module _ (st : State) (a b : List ℕ) (i : ℕ) where
           ∙ field_goes st a i (head_of st a i) refl e
       go false e = sym (field_stops st (a ++ b) i (head_of st a i) (sym (head_of_append n)) e) ∙ field_stops st a i (head_of st a i) refl e
 
-  pub field_append : (t : Taken) → field_at st a i ≡ t → (t ≡ Stop 1 → ⊥) → field_at st (a ++ b) i ≡ t
+  pub field_append : (t : Result State ℕ) → field_at st a i ≡ t → (t ≡ Err 1 → ⊥) → field_at st (a ++ b) i ≡ t
   field_append t e n = field_whole (λ h. n (sym e ∙ sym (field_stops st a i 1 (sym h) refl))) ∙ e
 
   -- the other way round, where the field ends before the other bytes

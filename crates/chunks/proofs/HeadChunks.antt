@@ -15,7 +15,6 @@ use Rattle.octets.specs.BigEndian.{be}
 use Rattle.rules.specs.Rules.{by_current}
 use Rattle.parts.specs.Header.{header, tag_at, length_at, past}
 use Rattle.fields.specs.declared.State.{State}
-use Rattle.fields.specs.declared.Taken.TheVariants.{Next}
 use Rattle.fields.specs.Fields.{at_fleet, at_units, at_settings, at_inverters, at_temperature, at_efficiency, at_connections, at_volt_var, at_led, kinds, size_in, size_of, stands_in, allowed, is_reading, fleet_in, value_of, Flags, flags, flags_of, state_of, gone_to, curve_next, led_from, roof_after, state_after}
 use Rattle.fields.proofs.FieldLaws.{NoTag, by_tag, stands_nowhere, fleet_alone, units_alone, settings_alone, warm_alone, efficiency_alone, volt_var_alone, led_or_end}
 use Rattle.stick.specs.Check.{field_at, reach_of, start}
@@ -27,6 +26,7 @@ use Rattle.chunks.specs.Sizes.{largest_field, head_most}
 use Rattle.chunks.proofs.FieldChunks.{Few, tag_shift, past_shift}
 use Rattle.chunks.proofs.ReachChunks.{fleet_counts, over_shift, Went, there, passing, far, far_gone, far_all}
 use Rattle.chunks.proofs.PlaceChunks.{Whole, whole_end, whole_field, at_end_lem, there_tag, there_past}
+use Rattle.std.proofs.Common.{Ok}
 
 -- ---- one field after another, with fields enough allowed
 module _ (file : List ℕ) where
@@ -246,7 +246,7 @@ pub record FieldTaken (file : List ℕ) (st m : State) (i : ℕ) : Type 0 where
   pub value : value_of st (tag_at file i) file (i + header) ≡ 0
   pub is : state_after st (tag_at file i) file (i + header) ≡ m
 
-module _ (file : List ℕ) (st m : State) (i : ℕ) (upto : i ≤ length file) (f : field_at st file i ≡ Next m) where
+module _ (file : List ℕ) (st m : State) (i : ℕ) (upto : i ≤ length file) (f : field_at st file i ≡ Ok m) where
   pub accepted_field : FieldTaken file st m i
   accepted_field =
       field_cases st file i upto

@@ -15,7 +15,6 @@ use Rattle.site.specs.declared.Step.{Step}
 use Rattle.site.specs.declared.Due.{Due}
 use Rattle.site.specs.Site.{step_with}
 use Rattle.fields.specs.declared.State.{State}
-use Rattle.fields.specs.declared.Taken.TheVariants.{Next}
 use Rattle.fields.specs.Fields.{is_reading, kinds, size_in, size_of}
 use Rattle.fields.proofs.FieldLaws.{by_tag, size_else}
 use Rattle.stick.specs.Check.{field_at, start}
@@ -26,6 +25,7 @@ use Rattle.stick.proofs.PlaceLaws.{same as places-fuel}
 use Rattle.chunks.proofs.SameLaws.{Same, reading_same, due_same}
 use Rattle.chunks.proofs.FieldChunks.{same_behind, same_before, tag_shift, past_shift, tag_append, past_append}
 use Rattle.chunks.proofs.ReachChunks.{over_shift, Went, there, passing, went_take, far, far_gone, far_upto}
+use Rattle.std.proofs.Common.{Ok}
 
 -- ---- the bytes from a place on are whole fields: each has at least the bytes of its tag's value, and ends within the list
 pub record FieldThere (a : List ℕ) (i : ℕ) : Type 0 where
@@ -53,7 +53,7 @@ size_least st tag =
     omega (arith, c))
 
 -- the bytes that the fields go over are whole fields
-pub accepted_there : (st m : State) (a : List ℕ) (i : ℕ) → i ≤ length a → field_at st a i ≡ Next m → FieldThere a i
+pub accepted_there : (st m : State) (a : List ℕ) (i : ℕ) → i ≤ length a → field_at st a i ≡ Ok m → FieldThere a i
 accepted_there st m a i h f =
     field_cases st a i h
     (λ n z e. let o : ◌≡◌ {A = ℕ} 0 1 = cc in absurd (omega arith))

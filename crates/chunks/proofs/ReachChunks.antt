@@ -16,8 +16,6 @@ use Rattle.octets.specs.BigEndian.{be}
 use Rattle.unit.specs.Ranges.{seconds_in, edition_in}
 use Rattle.parts.specs.Header.{header, tag_at, past}
 use Rattle.fields.specs.declared.State.{State}
-use Rattle.fields.specs.declared.Taken.{Taken}
-use Rattle.fields.specs.declared.Taken.TheVariants.{Next, Stop}
 use Rattle.fields.specs.Fields.{head_of, fleet_in, is_reading, value_of, refused_by, roof_after, state_after, taken_by}
 use Rattle.fields.proofs.TakenLaws.{stops, goes_on}
 use Rattle.stick.specs.declared.Reached.{Reached}
@@ -28,6 +26,7 @@ use Rattle.stick.proofs.SaidLaws.{free_parts, accepted_test}
 use Rattle.chunks.specs.Sizes.{largest_field}
 use Rattle.chunks.specs.Holds.{moved}
 use Rattle.chunks.proofs.FieldChunks.{Few, refused_not_one, head_of_shift, field_shift, past_shift, past_append, field_append, field_cut, head_cut_short}
+use Rattle.std.proofs.Common.{Err, Ok, Result}
 
 -- ---- no accepted field leads to more than 64 units: only the fleet says how many there are
 pub fleet_counts : (file : List ℕ) (at : ℕ) → fleet_in file at ≡ true → (1 ≤ be 1 file (at + 1)) × (be 1 file (at + 1) ≤ 64)
@@ -54,7 +53,7 @@ few_after st tag file at v few =
     (λ t. by_test Few (eqb tag 11) _ _ (λ t. few)
     (λ t. by_test Few (eqb tag 12) _ _ (λ t. few) (λ t. few))))))))))
 
-pub few_next : (st m : State) (file : List ℕ) (at : ℕ) → at ≤ length file → field_at st file at ≡ Next m → Few st → Few m
+pub few_next : (st m : State) (file : List ℕ) (at : ℕ) → at ≤ length file → field_at st file at ≡ Ok m → Few st → Few m
 few_next st m file at upto f few =
     field_cases st file at upto
     (λ n z e. let o : ◌≡◌ {A = ℕ} 0 1 = cc in absurd (omega arith))
@@ -63,15 +62,15 @@ few_next st m file at upto f few =
     subst Few is (few_after st (tag_at file at) file (at + header) (free_parts st (tag_at file at) file (at + header) z).1 few))
 
 -- ---- a field is not both accepted and refused, and is refused by one number
-pub apart : {t : Taken} {s : State} {n : ℕ} → t ≡ Next s → t ≡ Stop n → ⊥
+pub apart : {t : Result State ℕ} {s : State} {n : ℕ} → t ≡ Ok s → t ≡ Err n → ⊥
 apart {t} {s} {n} a b = let z : ◌≡◌ {A = ℕ} 0 1 = cc in omega arith
 
-same_number : {t : Taken} {m n : ℕ} → t ≡ Stop m → t ≡ Stop n → m ≡ n
+same_number : {t : Result State ℕ} {m n : ℕ} → t ≡ Err m → t ≡ Err n → m ≡ n
 same_number {t} {m} {n} a b = cc
 
 -- ---- one field after another, with fields enough allowed
 module _ (file : List ℕ) where
-  abbrev pub by_field : ℕ → State → ℕ → Bool → Bool → Taken → Reached
+  abbrev pub by_field : ℕ → State → ℕ → Bool → Bool → Result State ℕ → Reached
   by_field k st at over ended t =
       cond over (reached 0 at st) (cond ended (reached 9 at st) (onward (λ (s : State). reach_of k s file (past file at)) at st t))
 
@@ -89,12 +88,12 @@ module _ (file : List ℕ) where
       ap (λ (r : Reached). cond (leb (length file) at) (reached 0 at st) (cond (eqb st.stage 0) (reached 9 at st) r))
       (go (λ s. reach_fuel j k s (past file at) (omega arith) (omega arith)) (field_at st file at))
     where
-      go : ((s : State) → reach_of j s file (past file at) ≡ reach_of k s file (past file at)) → (t : Taken)
+      go : ((s : State) → reach_of j s file (past file at) ≡ reach_of k s file (past file at)) → (t : Result State ℕ)
           → onward (λ (s : State). reach_of j s file (past file at)) at st t ≡ onward (λ (s : State). reach_of k s file (past file at)) at st t
-      go more (Next s) = more s
-      go more (Stop n) = refl
+      go more (Ok s) = more s
+      go more (Err n) = refl
 
-  pub reach_step : (k : ℕ) (st : State) (at : ℕ) (ended : Bool) (t : Taken) → length file ≤ at + k → at < length file → eqb st.stage 0 ≡ ended → field_at st file at ≡ t
+  pub reach_step : (k : ℕ) (st : State) (at : ℕ) (ended : Bool) (t : Result State ℕ) → length file ≤ at + k → at < length file → eqb st.stage 0 ≡ ended → field_at st file at ≡ t
       → reach_of k st file at ≡ by_field (length file) st at false ended t
   unfolding reach_of
   reach_step zero st at ended t h l e f = absurd (omega arith)
@@ -104,14 +103,14 @@ module _ (file : List ℕ) where
       ∙ ap (by_field k st at false ended) f
       ∙ ap (cond ended (reached 9 at st)) (go t)
     where
-      go : (t : Taken) → onward (λ (s : State). reach_of k s file (past file at)) at st t ≡ onward (λ (s : State). reach_of (length file) s file (past file at)) at st t
-      go (Next s) = reach_fuel k (length file) s (past file at) (omega arith) (omega arith)
-      go (Stop n) = refl
+      go : (t : Result State ℕ) → onward (λ (s : State). reach_of k s file (past file at)) at st t ≡ onward (λ (s : State). reach_of (length file) s file (past file at)) at st t
+      go (Ok s) = reach_fuel k (length file) s (past file at) (omega arith) (omega arith)
+      go (Err n) = refl
 
   -- ---- from a state and a place the fields are gone over, one by one, to a state and a place
   pub data Went (s : State) (j : ℕ) : State → ℕ → Type 0 where
     there : {st : State} {i : ℕ} → st ≡ s → i ≡ j → Went s j st i
-    passing : {st : State} {i : ℕ} (m : State) → i < length file → eqb st.stage 0 ≡ false → field_at st file i ≡ Next m → past file i ≤ length file
+    passing : {st : State} {i : ℕ} (m : State) → i < length file → eqb st.stage 0 ≡ false → field_at st file i ≡ Ok m → past file i ≤ length file
         → Went s j m (past file i) → Went s j st i
 
   pub went_upto : {s : State} {j : ℕ} {st : State} {i : ℕ} → Went s j st i → i ≤ length file → (i ≤ j) × (j ≤ length file)
@@ -126,13 +125,13 @@ module _ (file : List ℕ) where
   went_reach {s} {j} {st} {i} (there e f) k n h l =
       ap₂ (λ (s : State) (p : ℕ). reach_of k s file p) e f ∙ reach_fuel k n s j (omega arith) l
   went_reach {s} {j} {st} {i} (passing m l e f w more) k n h o =
-      reach_step k st i false (Next m) h l e f ∙ went_reach more (length file) n (omega arith) o
+      reach_step k st i false (Ok m) h l e f ∙ went_reach more (length file) n (omega arith) o
 
   -- ---- why the fields stop there
   pub data Ending : Reached → Type 0 where
     all_gone : {r : Reached} → r.number ≡ 0 → r.at ≡ length file → Ending r
     after_end : {r : Reached} → r.number ≡ 9 → r.at < length file → eqb r.state.stage 0 ≡ true → Ending r
-    refused : {r : Reached} → r.at < length file → eqb r.state.stage 0 ≡ false → field_at r.state file r.at ≡ Stop r.number → Ending r
+    refused : {r : Reached} → r.at < length file → eqb r.state.stage 0 ≡ false → field_at r.state file r.at ≡ Err r.number → Ending r
 
   pub record Gone (st : State) (at : ℕ) (r : Reached) : Type 0 where
     pub went : Went r.state r.at st at
@@ -144,7 +143,7 @@ module _ (file : List ℕ) where
   gone (suc k) st at h l =
       go (leb (length file) at) refl (eqb st.stage 0) refl (field_at st file at) refl (λ s w. gone k s (past file at) (omega arith) w)
     where
-      go : (over : Bool) → leb (length file) at ≡ over → (ended : Bool) → eqb st.stage 0 ≡ ended → (t : Taken) → field_at st file at ≡ t
+      go : (over : Bool) → leb (length file) at ≡ over → (ended : Bool) → eqb st.stage 0 ≡ ended → (t : Result State ℕ) → field_at st file at ≡ t
           → ((s : State) → past file at ≤ length file → Gone s (past file at) (reach_of k s file (past file at)))
           → Gone st at (by_field k st at over ended t)
       go true a ended b t c more =
@@ -152,21 +151,21 @@ module _ (file : List ℕ) where
           let e : at ≡ length file = omega arith in
           record { went = there refl refl; ending = all_gone {r = reached 0 at st} refl e }
       go false a true b t c more = record { went = there refl refl; ending = after_end {r = reached 9 at st} refl (leb-false (length file) at a) b }
-      go false a false b (Stop n) c more = record { went = there refl refl; ending = refused {r = reached n at st} (leb-false (length file) at a) b c }
-      go false a false b (Next s) c more =
+      go false a false b (Err n) c more = record { went = there refl refl; ending = refused {r = reached n at st} (leb-false (length file) at a) b c }
+      go false a false b (Ok s) c more =
           let m : at < length file = leb-false (length file) at a in
           let w : past file at ≤ length file = field_cases st file at l (λ n z f. absurd (apart c (sym f))) (λ hd z f. hd.all) in
           let g = more s w in
           record { went = passing s m b c w g.went; ending = g.ending }
 
 -- ---- a field is refused by 1 only for its bytes
-pub field_one : (st : State) (file : List ℕ) (at : ℕ) → field_at st file at ≡ Stop 1 → head_of st file at ≡ 1
+pub field_one : (st : State) (file : List ℕ) (at : ℕ) → field_at st file at ≡ Err 1 → head_of st file at ≡ 1
 field_one st file at e = go (eqb (head_of st file at) 0) refl
   where
     N : ℕ
     N = refused_by st (tag_at file at) file (at + header)
 
-    value : (b : Bool) → eqb N 0 ≡ b → taken_by st (tag_at file at) file (at + header) ≡ Stop 1 → ⊥
+    value : (b : Bool) → eqb N 0 ≡ b → taken_by st (tag_at file at) file (at + header) ≡ Err 1 → ⊥
     value true z f = apart (sym (goes_on st (tag_at file at) file (at + header) N refl (eqb-true N 0 z) (state_after st (tag_at file at) file (at + header)) refl)) f
     value false z f =
         refused_not_one st (tag_at file at) file (at + header) (same_number (sym (stops st (tag_at file at) file (at + header) N refl (eqb-false N 0 z))) f)
@@ -188,21 +187,21 @@ module _ (a b : List ℕ) where
   unfolding reach_of
   reach_shift zero st i = refl
   reach_shift (suc k) st i =
-      ap₂ (λ (over : Bool) (t : Taken). by_field (a ++ b) k st (length a + i) over (eqb st.stage 0) t) (over_shift i) (field_shift st a b i)
+      ap₂ (λ (over : Bool) (t : Result State ℕ). by_field (a ++ b) k st (length a + i) over (eqb st.stage 0) t) (over_shift i) (field_shift st a b i)
       ∙ go (leb (length b) i) (eqb st.stage 0) (field_at st b i) (λ s. ap (reach_of k s (a ++ b)) (past_shift a b i) ∙ reach_shift k s (past b i))
     where
-      go : (over ended : Bool) (t : Taken) → ((s : State) → reach_of k s (a ++ b) (past (a ++ b) (length a + i)) ≡ moved (length a) (reach_of k s b (past b i)))
+      go : (over ended : Bool) (t : Result State ℕ) → ((s : State) → reach_of k s (a ++ b) (past (a ++ b) (length a + i)) ≡ moved (length a) (reach_of k s b (past b i)))
           → by_field (a ++ b) k st (length a + i) over ended t ≡ moved (length a) (by_field b k st i over ended t)
       go true ended t more = refl
       go false true t more = refl
-      go false false (Stop n) more = refl
-      go false false (Next s) more = more s
+      go false false (Err n) more = refl
+      go false false (Ok s) more = more s
 
   -- ---- before other bytes they go over the same fields; and without them too, where the fields end before these
   pub went_append : {s : State} {j : ℕ} {st : State} {i : ℕ} → Went a s j st i → Went (a ++ b) s j st i
   went_append (there e f) = there e f
   went_append {s} {j} {st} {i} (passing m l e f w more) =
-      passing {st = st} {i = i} m (omega (arith, length-append a b)) e (field_append st a b i (Next m) f (λ t. apart refl t)) (omega (arith, length-append a b, past_append a b i (omega arith)))
+      passing {st = st} {i = i} m (omega (arith, length-append a b)) e (field_append st a b i (Ok m) f (λ t. apart refl t)) (omega (arith, length-append a b, past_append a b i (omega arith)))
       (subst⁻¹ (Went (a ++ b) s j m) (past_append a b i (omega arith)) (went_append more))
 
   pub went_cut : {s : State} {j : ℕ} {st : State} {i : ℕ} → Went (a ++ b) s j st i → j ≤ length a → Went a s j st i
@@ -258,7 +257,7 @@ module _ (p : List ℕ) (st : State) (i : ℕ) (upto : i ≤ length p) where
       go r (all_gone n e) few z = absurd (omega (arith, n, z))
       go r (after_end n l b) few z = absurd (omega (arith, n, z))
       go r (refused l b f) few z =
-          let one : head_of r.state p r.at ≡ 1 = field_one r.state p r.at (f ∙ ap Stop z) in
+          let one : head_of r.state p r.at ≡ 1 = field_one r.state p r.at (f ∙ ap Err z) in
           let long : length (take r.at p) ≡ r.at = length-take-le r.at p (omega arith) in
           let place : length (take r.at p) + 0 ≡ r.at = omega arith in
           record {
@@ -294,8 +293,8 @@ module _ (p : List ℕ) (st : State) (i : ℕ) (upto : i ≤ length p) where
             reach_step (p ++ c) (length (p ++ c)) r.state r.at true (field_at r.state (p ++ c) r.at) (omega arith) (omega (arith, length-append p c)) b refl
             ∙ ap (λ (n : ℕ). reached n r.at r.state) (sym n)
         go r (refused l b f) z o =
-            reach_step (p ++ c) (length (p ++ c)) r.state r.at false (Stop r.number) (omega arith) (omega (arith, length-append p c)) b
-            (field_append r.state p c r.at (Stop r.number) f (λ e. o (same_number refl e)))
+            reach_step (p ++ c) (length (p ++ c)) r.state r.at false (Err r.number) (omega arith) (omega (arith, length-append p c)) b
+            (field_append r.state p c r.at (Err r.number) f (λ e. o (same_number refl e)))
 
     -- (c) and as they do by themselves from there
     pub reach_append : reach_of (length (p ++ c)) st (p ++ c) i ≡ moved far.at (reach_of (length (drop far.at p ++ c)) far.state (drop far.at p ++ c) 0)

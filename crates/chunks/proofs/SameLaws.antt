@@ -28,8 +28,6 @@ use Rattle.curve.proofs.PointLaws.{points_count}
 use Rattle.unit.specs.Ranges.{own_limits, direct_in, grid_in, unit_in, connection_in}
 use Rattle.rules.specs.Rules.{by_current}
 use Rattle.rules.specs.Ranges.{settings_in}
-use Rattle.lead.specs.declared.Voltage.{Voltage}
-use Rattle.lead.specs.declared.Voltage.TheVariants.{Said}
 use Rattle.lead.specs.Lead.{voltage_in}
 use Rattle.solar.specs.declared.Sun.{Sun}
 use Rattle.solar.specs.Roof.{inverter_in}
@@ -38,13 +36,13 @@ use Rattle.site.specs.declared.Due.{Due}
 use Rattle.site.specs.Site.{due, none_yet}
 use Rattle.parts.specs.Header.{header, tag_at, length_at, past}
 use Rattle.fields.specs.declared.State.{State}
-use Rattle.fields.specs.declared.Taken.TheVariants.{Next, Stop}
 use Rattle.fields.specs.Fields.{at_units, at_connections, bounds_at, kinds, size_in, size_of, allowed, fleet_in, unit_at, settings_at, phase_at, is_reading, base_in, flags, flags_of}
 use Rattle.fields.specs.Fields.{phases_at, inverter_at, weather_at, six_unless, five_unless, value_of, too_many, refused_by, state_of, state_after, taken_by, phases_in, volts_in, connections_in}
 use Rattle.fields.proofs.FieldLaws.{by_tag}
 use Rattle.fields.proofs.TakenLaws.{room_end, value_end}
 use Rattle.stick.specs.Check.{start}
 use Rattle.stick.specs.Site.{head_by, roof_at, function_at, reading_at, sun_at, voltage_at, due_after}
+use Rattle.std.proofs.Common.{Err, Ok, Option, Some}
 
 -- ---- n bytes of F from p on are those of G from q on
 abbrev pub Same : List ℕ → List ℕ → ℕ → ℕ → ℕ → Type 0
@@ -261,7 +259,7 @@ module _ (F G : List ℕ) (p q : ℕ) where
 
   pub taken_same : (st : State) (tag : ℕ) → Same F G p q (size_of st tag) → taken_by st tag F p ≡ taken_by st tag G q
   unfolding taken_by
-  taken_same st tag h = ap₂ (λ (n : ℕ) (s : State). cond (eqb n 0) (Next s) (Stop n)) (refused_same st tag h) (after_same st tag h)
+  taken_same st tag h = ap₂ (λ (n : ℕ) (s : State). cond (eqb n 0) (Ok s) (Err n)) (refused_same st tag h) (after_same st tag h)
 
   -- ---- what a field says, from its tag on: a reading, whose bytes need be there only where it has powers or currents; a sun, a voltage
   pub reading_same : Same F G p q 1 → ((k : ℕ) → size_of start k ≡ 24 → tag_at F p ≡ k → Same F G p q 27) → reading_at F p ≡ reading_at G q
@@ -290,7 +288,7 @@ module _ (F G : List ℕ) (p q : ℕ) where
 
   pub voltage_same : Same F G p q 5 → voltage_at F p ≡ voltage_at G q
   unfolding voltage_at
-  voltage_same h = ap Said (be_within F G p q 5 h 3 2 (lit≤ tt))
+  voltage_same h = ap Some (be_within F G p q 5 h 3 2 (lit≤ tt))
 
   -- and what the step under way has behind it, where the bytes of a weather or of a voltage are there
   pub due_same : Same F G p q 1 → (tag_at F p ≡ 8 → Same F G p q 19) → (tag_at F p ≡ 12 → Same F G p q 5) → (d : Due) → due_after F d p ≡ due_after G d q
@@ -299,7 +297,7 @@ module _ (F G : List ℕ) (p q : ℕ) where
       go (is_reading (tag_at F p)) (eqb (tag_at F p) 8) (eqb (tag_at F p) 12) refl refl
       ∙ ap (λ (n : ℕ). has (is_reading n) (eqb n 8) (eqb n 12) (sun_at G q) (voltage_at G q)) (tag_same F G p q t)
     where
-      has : Bool → Bool → Bool → Sun → Voltage → Due
+      has : Bool → Bool → Bool → Sun → Option ℕ → Due
       has r a b s x = cond r none_yet (cond a (due s d.voltage) (cond b (due d.sun x) d))
 
       go : (r a b : Bool) → eqb (tag_at F p) 8 ≡ a → eqb (tag_at F p) 12 ≡ b → has r a b (sun_at F p) (voltage_at F p) ≡ has r a b (sun_at G q) (voltage_at G q)

@@ -3,7 +3,8 @@ ghost use Rattle.members.specs.Ranges.{fleet_linked, links_of};
 ghost use Rattle.controller.specs.Posts.{Sound, DonePass};
 ghost use Rattle.controller.specs.Answers.{current_answer, current_leaves};
 
-use super::{Aim, PassAnswer, Passed, passes};
+use super::{Aim, Passed, passes};
+use whole::Refusal;
 
 // A pass by current over a fleet in its ranges, with a list to fill with what an ampere is in watts.
 fn pass_linked(
@@ -53,7 +54,7 @@ pub fn pass_current(
     phases: &[u8],
     volts: &[u16],
     requests: &mut [i32],
-) -> PassAnswer
+) -> Result<Passed, Refusal>
     ensures value { result ≡ current_answer aim.settings aim.measure
         (fleet_linked rated.now reserve.now stored.now rating.now weight.now (links_of phases.now volts.now))
         phases.now volts.now requests.old }
@@ -71,18 +72,18 @@ pub fn pass_current(
         n,
     );
     if !(five & (phases.len() == n) & (volts.len() == n)) {
-        return PassAnswer::PassRefused(whole::refused(10));
+        return Err(whole::refused(10));
     }
     let s = aim.settings;
     let fine = rules::settings_in(s) & (4 <= s.mode) & rules::current_in(aim.measure);
     let units = members::units_in(rated, reserve, stored, rating, weight);
     if !(fine & units & members::connections_in(phases, volts)) {
-        return PassAnswer::PassRefused(whole::refused(5));
+        return Err(whole::refused(5));
     }
     if !members::requests_in(rating, requests) {
-        return PassAnswer::PassRefused(whole::refused(10));
+        return Err(whole::refused(10));
     }
-    PassAnswer::PassDone(pass_linked(
+    Ok(pass_linked(
         aim, rated, reserve, stored, rating, weight, phases, volts, requests,
     ))
 }

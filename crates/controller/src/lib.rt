@@ -8,7 +8,6 @@ mod passes;
 pub use current::pass_current;
 pub use passes::{pass, pass_within};
 use rules::Settings;
-use whole::Refusal;
 
 // What a pass goes by: the settings, and the measure.
 #[derive(Clone, Copy)]
@@ -22,11 +21,4 @@ pub struct Aim {
 pub struct Passed {
     pub need: i64,
     pub changed: bool,
-}
-
-// A pass of any numbers: what it reports, or the refusal.
-#[derive(Clone, Copy)]
-pub enum PassAnswer {
-    PassDone(Passed),
-    PassRefused(Refusal),
 }

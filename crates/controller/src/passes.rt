@@ -4,10 +4,11 @@ ghost use Rattle.members.specs.Posts.{TotalsOf, Linked, fleet_by};
 ghost use Rattle.controller.specs.Posts.{AskedFor, Sound, DonePass, rests_by};
 ghost use Rattle.controller.specs.Answers.{pass_answer, pass_leaves};
 
-use super::{Aim, PassAnswer, Passed};
+use super::{Aim, Passed};
 use members::Totals;
 use rows::Row;
 use rules::{Asked, Settings, Wanted};
+use whole::Refusal;
 
 // What the requests ask. F is looked at in the state that is not the mode's own alone, and is 0 in others.
 fn asked_for(charging: bool, requests: &[i32]) -> Asked
@@ -137,7 +138,7 @@ pub fn pass(
     rating: &[u32],
     weight: &[u16],
     requests: &mut [i32],
-) -> PassAnswer
+) -> Result<Passed, Refusal>
     ensures value { result ≡ pass_answer s measure (fleet_of rated.now reserve.now stored.now rating.now weight.now) requests.old }
     ensures requests_after { requests.new ≡ pass_leaves s measure (fleet_of rated.now reserve.now stored.now rating.now weight.now) requests.old }
 {
@@ -150,21 +151,21 @@ pub fn pass(
         weight.len(),
         n,
     ) {
-        return PassAnswer::PassRefused(whole::refused(10));
+        return Err(whole::refused(10));
     }
     let fine = rules::settings_in(s) & (s.mode <= 3) & rules::measure_in(measure);
     if !(fine & members::units_in(rated, reserve, stored, rating, weight)) {
-        return PassAnswer::PassRefused(whole::refused(5));
+        return Err(whole::refused(5));
     }
     if !members::requests_in(rating, requests) {
-        return PassAnswer::PassRefused(whole::refused(10));
+        return Err(whole::refused(10));
     }
     let links = [0u32; 64];
     let aim = Aim {
         settings: s,
         measure,
     };
-    PassAnswer::PassDone(pass_over(
+    Ok(pass_over(
         aim,
         rated,
         reserve,

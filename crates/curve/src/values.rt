@@ -34,7 +34,7 @@ fn line(px: i32, py: i32, qx: i32, qy: i32, x: i64) -> i64
     let left = px as i64;
     let low = py as i64;
     let rise = (qy as i64 - low) * (x - left);
-    let run = whole::size64(qx as i64 - left);
+    let run = (qx as i64 - left).unsigned_abs();
     low + whole::cut(rise, run)
 }
 

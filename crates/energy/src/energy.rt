@@ -47,7 +47,7 @@ pub fn deliver(u: Unit, seconds: u32, p: u64) -> u64
     if drawn < idle {
         return 0;
     }
-    whole::least64(p, (drawn - idle) * (u.inverter as u64) / 10000)
+    p.min((drawn - idle) * (u.inverter as u64) / 10000)
 }
 
 // The largest watt count up to p whose addition the room below the rated energy allows; by
@@ -59,5 +59,5 @@ pub fn take_in(u: Unit, seconds: u32, p: u64) -> u64
     let room = u.rated - u.stored;
     let kept = ((room + 1) * 10000 - 1) / ((seconds as u64) * (u.charge as u64));
     let d = kept + (u.dc_loss as u64);
-    whole::least64(p, ((d + 1) * 10000 - 1) / (u.inverter as u64))
+    p.min(((d + 1) * 10000 - 1) / (u.inverter as u64))
 }

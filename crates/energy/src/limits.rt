@@ -7,11 +7,11 @@ use unit::Unit;
 pub fn limited(u: Unit) -> u32
     ensures { result ≡ limited_vars u }
 {
-    let size = whole::size32(u.var_request);
+    let size = u.var_request.unsigned_abs();
     if whole::below_zero32(u.var_request) {
-        return whole::least32(size, u.absorb);
+        return size.min(u.absorb);
     }
-    whole::least32(size, u.provide)
+    size.min(u.provide)
 }
 
 // The size of a request as the unit holds it: limited to S and, under var priority, to what the
@@ -19,7 +19,7 @@ pub fn limited(u: Unit) -> u32
 pub fn held(u: Unit, request: i32) -> u32
     ensures { result ≡ held_size u request }
 {
-    whole::watts_in(u.kva, u.priority, limited(u), whole::size32(request))
+    whole::watts_in(u.kva, u.priority, limited(u), request.unsigned_abs())
 }
 
 // The most that a request is held at: one of S watts.
@@ -35,5 +35,5 @@ pub fn vars(u: Unit, watts: i32) -> i32
     ensures { result ≡ vars_of u watts }
 {
     let below = whole::below_zero32(u.var_request);
-    whole::vars_in(u.kva, below, limited(u), whole::size32(watts))
+    whole::vars_in(u.kva, below, limited(u), watts.unsigned_abs())
 }

@@ -4,7 +4,6 @@ ghost use Rattle.feed.specs.Answers.{own_number, start_number, start_leaves, roo
 use super::Fed;
 use fields::{AT_END, State};
 use kept::{Mark, SITE, SIZE};
-use lead::Voltage;
 use records::{END_BYTES, RECORD_BYTES, ROOF_RECORD_BYTES};
 use site::Due;
 use solar::Sun;
@@ -113,7 +112,7 @@ pub fn start(s: &mut [u8]) -> u8
                 irradiance: 0,
                 temperature: 0,
             },
-            voltage: Voltage::Unsaid,
+            voltage: None,
         },
     };
     kept::zero(s, SITE, SIZE);

@@ -1,11 +1,10 @@
 -- Rows about a rescue (rules H2 to H6, H8 and H10), about what a file says when it is asked (rules C3, C6, C8 to C12, C18 and C31), about the state of a fed run
 -- (rules E1, E2 and E9), a curve of one point and the mode of a study (rules Q35 and S1): no figure pins them.
-use Rattle.std.specs.Prelude.{List, [], ◌∷◌, ◌++◌, map, ℕ, false, true, ℤ, pos, neg_ℤ, replicate, take, drop}
+use Rattle.std.specs.Prelude.{List, [], ◌∷◌, ◌++◌, map, ℕ, false, true, ℤ, pos, neg_ℤ, replicate, take, drop, Some}
 use Rattle.octets.specs.BigEndian.{bytes_of}
 use Rattle.unit.specs.declared.Unit.{Unit}
 use Rattle.reading.specs.Conversion.{milli_of}
 use Rattle.unit.specs.Ranges.{idle_loss_of}
-use Rattle.lead.specs.declared.Voltage.TheVariants.{Said}
 use Rattle.solar.specs.Weather.{sun}
 use Rattle.site.specs.Site.{due}
 use Rattle.fields.specs.Fields.{flags, at_voltage, state_of}
@@ -16,10 +15,9 @@ use Rattle.kept.specs.Formed.{flag_fits}
 use Rattle.rescue.specs.Answers.{rescue_of, output_of, changes_of, list_bytes, rescue_answer}
 use Rattle.feed.specs.Answers.{own_number, start_number}
 use Rattle.settling.specs.declared.Studied.{Studied}
-use Rattle.settling.specs.Answers.{study_call}
 use Rattle.site.specs.declared.Head.{Head}
 use Rattle.ask.specs.declared.Connection.{Connection}
-use Rattle.ask.specs.Says.{units_said, inverters_said, seconds_said, head_answer, head_call, unit_answer, unit_call, connection_answer, connection_call, file_study, file_study_leaves}
+use Rattle.ask.specs.Says.{units_said, inverters_said, seconds_said, head_answer, unit_answer, connection_answer, file_study, file_study_leaves}
 use Rattle.figures.specs.Rows.{Row, row, values, refused, refused_at, said, flag, answered, study, check, bytes, set}
 use Rattle.figures.specs.Further.{opening, missing, ending, nan, then, seven, six_of}
 use Rattle.figures.specs.Roofs.{roof, weather}
@@ -46,21 +44,21 @@ unfolding unit_answer
 unit_told file i =
     said (λ (u : Unit). map pos (u.rated ∷ u.reserve ∷ u.stored ∷ u.rating ∷ u.kva ∷ idle_loss_of u ∷ [])
     ++ u.var_request ∷ map pos (u.weight ∷ u.inverter ∷ u.charge ∷ u.discharge ∷ u.priority ∷ []))
-    (unit_call (unit_answer file i))
+    ((unit_answer file i))
 
 unfoldable pub connection_told : List ℕ → ℕ → List ℤ
 unfolding connection_answer
-connection_told file i = said (λ (c : Connection). pos c.phases ∷ pos c.volts ∷ []) (connection_call (connection_answer file i))
+connection_told file i = said (λ (c : Connection). pos c.phases ∷ pos c.volts ∷ []) ((connection_answer file i))
 
 -- the head's mode and target; and a study over a file: 1 where it settled, the changing passes, and then what the requests are
 unfoldable pub head_told : List ℕ → List ℤ
 unfolding head_answer
-head_told file = said (λ (h : Head). pos h.settings.mode ∷ h.settings.target ∷ []) (head_call (head_answer file))
+head_told file = said (λ (h : Head). pos h.settings.mode ∷ h.settings.target ∷ []) ((head_answer file))
 
 unfoldable pub study_told : List ℕ → ℤ → ℕ → List ℤ → List ℤ
 unfolding file_study file_study_leaves
 study_told file load budget rs =
-    said (λ (r : Studied). flag r.settled ∷ pos r.passes ∷ []) (study_call (file_study file load budget rs)) ++ file_study_leaves file load budget rs
+    said (λ (r : Studied). flag r.settled ∷ pos r.passes ∷ []) ((file_study file load budget rs)) ++ file_study_leaves file load budget rs
 
 -- a current of a quiet NaN
 unfoldable pub unknown : List ℕ
@@ -74,7 +72,7 @@ mark = record {
   state = state_of at_voltage 1 1 63 2 (flags false true);
   site = 90;
   tail = 5;
-  due = due (sun 700 (neg_ℤ (pos 5000))) (Said 9500);
+  due = due (sun 700 (neg_ℤ (pos 5000))) (Some 9500);
 }
 
 -- readings that do not convert

@@ -8,7 +8,7 @@ use Rattle.curve.specs.Curve.{Point, curve_at}
 use Rattle.curve.specs.Ranges.{points_of}
 use Rattle.solar.specs.declared.Inverter.{Inverter}
 use Rattle.solar.specs.declared.Given.{Given}
-use Rattle.solar.specs.Answers.{Lists, lists_of, lit_of, lit_call}
+use Rattle.solar.specs.Answers.{Lists, lists_of, lit_of}
 use Rattle.figures.specs.Rows.{Row, row, values, refused, refused_at, said, flag, check, run, bytes}
 use Rattle.figures.specs.Further.{opening, missing, ending}
 
@@ -38,7 +38,7 @@ unfoldable pub light_with : Lists → Inverter → ℕ → ℕ → ℕ → List 
 unfolding lit_of of_bits
 light_with l v on i t =
     said (λ (g : Given). flag g.on ∷ g.watts ∷ g.vars ∷ pos g.dc ∷ [])
-    (lit_call (lit_of v l on (record { irradiance = of_bits binary64 i; temperature = of_bits binary64 t })))
+    ((lit_of v l on (record { irradiance = of_bits binary64 i; temperature = of_bits binary64 t })))
 
 -- at 25 °C
 abbrev pub light : Inverter → ℕ → ℕ → List ℤ

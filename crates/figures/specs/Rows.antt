@@ -1,29 +1,28 @@
 -- How an answer becomes a row of numbers: the refusal's number (0 where there is none), its place and its steps, and then the values. A kW figure stands by
 -- its bit pattern.
-use Rattle.std.specs.Prelude.{List, [], ◌∷◌, ◌++◌, map, ℕ, ℤ, pos, Bool, false, cond, replicate}
+use Rattle.std.specs.Prelude.{List, [], ◌∷◌, ◌++◌, map, ℕ, ℤ, pos, Bool, false, cond, replicate, Err, Ok, Result}
 use Rattle.std.specs.Float.{binary64}
 use Rattle.std.specs.Float.Ieee.{of_bits}
-use Rattle.whole.specs.Call.{Call, Gave, Refused}
+use Rattle.whole.specs.Call.{Call}
 use Rattle.octets.specs.BigEndian.{bytes_of}
 use Rattle.unit.specs.declared.Unit.{Unit}
 use Rattle.reading.specs.Conversion.{watts_of, watts_call}
-use Rattle.reading.specs.Choice.{measure_of, measure_call}
+use Rattle.reading.specs.Choice.{measure_of}
 use Rattle.rules.specs.declared.Settings.{Settings}
 use Rattle.controller.specs.declared.Passed.{Passed}
 use Rattle.members.specs.Ranges.{Fleet, fleet_linked, links_of}
-use Rattle.controller.specs.declared.PassAnswer.{PassAnswer}
-use Rattle.controller.specs.Answers.{pass_answer, pass_leaves, current_answer, current_leaves, pass_call}
+use Rattle.controller.specs.Answers.{pass_answer, pass_leaves, current_answer, current_leaves}
 use Rattle.settling.specs.declared.Trial.{Trial}
 use Rattle.settling.specs.declared.Studied.{Studied}
-use Rattle.settling.specs.Answers.{study_answer, study_leaves, study_call}
+use Rattle.settling.specs.Answers.{study_answer, study_leaves}
 use Rattle.storage.specs.declared.Outcome.{Outcome}
 use Rattle.storage.specs.Step.{stepped_of}
-use Rattle.storage.specs.Answers.{step_call}
 use Rattle.stick.specs.declared.Answer.{Answer}
 use Rattle.fields.specs.declared.State.{State}
 use Rattle.fields.specs.Fields.{flags, at_steps, state_of}
 use Rattle.stick.specs.Check.{field_at, taken_call, check_of}
 use Rattle.season.specs.Answers.{run_answer, run_leaves}
+use Rattle.whole.specs.declared.Refusal.{Refusal}
 
 -- for each row the answer that the definitions of the crates below give, and the one that is stated
 pub record Row : Type 0 where
@@ -45,8 +44,8 @@ refused n = refused_at n 0 0
 
 -- ---- what is given: a call's answer
 abbrev pub said : {A : Type 0} → (A → List ℤ) → Call A → List ℤ
-said of (Gave a) = values (of a)
-said of (Refused r) = refused_at r.number r.place r.steps
+said of (Ok a) = values (of a)
+said of (Err r) = refused_at r.number r.place r.steps
 
 abbrev pub one : ℤ → List ℤ
 one z = z ∷ []
@@ -64,11 +63,11 @@ unfoldable pub measures : List ℕ → ℕ → ℕ → ℕ → List ℤ
 unfolding measure_of of_bits
 measures [] a b c = []
 measures (phase ∷ phases) a b c =
-    said one (measure_call (measure_of (record { first = of_bits binary64 a; second = of_bits binary64 b; third = of_bits binary64 c }) phase)) ++ measures phases a b c
+    said one ((measure_of (record { first = of_bits binary64 a; second = of_bits binary64 b; third = of_bits binary64 c }) phase)) ++ measures phases a b c
 
 -- a pass: need, 1 where a request changed, and then what the requests are; one by current, of units with these phases and volts
-abbrev pub passed : PassAnswer → List ℤ → List ℤ
-passed a rs = said (λ (p : Passed). p.need ∷ flag p.changed ∷ []) (pass_call a) ++ rs
+abbrev pub passed : Result Passed Refusal → List ℤ → List ℤ
+passed a rs = said (λ (p : Passed). p.need ∷ flag p.changed ∷ []) a ++ rs
 
 unfoldable pub pass : Settings → ℤ → Fleet → List ℤ → List ℤ
 unfolding pass_answer pass_leaves
@@ -83,12 +82,12 @@ pass_current s m f phases volts rs =
 -- a study: 1 where it settled, the changing passes, and then what the requests are
 unfoldable pub study : Trial → Fleet → List ℤ → List ℤ
 unfolding study_answer study_leaves
-study q f rs = said (λ (r : Studied). flag r.settled ∷ pos r.passes ∷ []) (study_call (study_answer q f rs)) ++ study_leaves q f rs
+study q f rs = said (λ (r : Studied). flag r.settled ∷ pos r.passes ∷ []) ((study_answer q f rs)) ++ study_leaves q f rs
 
 -- a step: watts, vars, the store after it and the loss
 unfoldable pub step : Unit → ℕ → ℤ → List ℤ
 unfolding stepped_of
-step u seconds request = said (λ (o : Outcome). o.watts ∷ o.vars ∷ pos o.stored ∷ pos o.loss ∷ []) (step_call (stepped_of u seconds request))
+step u seconds request = said (λ (o : Outcome). o.watts ∷ o.vars ∷ pos o.stored ∷ pos o.loss ∷ []) ((stepped_of u seconds request))
 
 -- the first field of these bytes, where a step is waited for and so many are accepted: the steps then
 unfoldable pub field : ℕ → List ℕ → List ℤ

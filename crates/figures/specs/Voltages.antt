@@ -1,10 +1,8 @@
 -- Rows about vars that a voltage leads (rules L1 to L6, F3, F4 and Q50 to Q53): no figure pins them.
-use Rattle.std.specs.Prelude.{List, [], ◌∷◌, ◌++◌, ℕ, ◌+◌, ◌*◌, ℤ, pos, neg_ℤ, take, drop}
+use Rattle.std.specs.Prelude.{List, [], ◌∷◌, ◌++◌, ℕ, ◌+◌, ◌*◌, ℤ, pos, neg_ℤ, take, drop, None, Option, Some}
 use Rattle.octets.specs.BigEndian.{bytes_of}
 use Rattle.curve.specs.Ranges.{points_of}
 use Rattle.unit.specs.declared.Unit.{Unit}
-use Rattle.lead.specs.declared.Voltage.{Voltage}
-use Rattle.lead.specs.declared.Voltage.TheVariants.{Unsaid, Said}
 use Rattle.lead.specs.Lead.{Leading, unled, led, lead_of}
 use Rattle.guided.specs.Units.{led_step, vars_kept}
 use Rattle.figures.specs.Rows.{Row, row, refused_at, check, run, bytes, unit, limited}
@@ -16,7 +14,7 @@ unfolding points_of
 leading base = led (record { base = base; curve = points_of (pos 9000 ∷ pos 10000 ∷ pos 11000 ∷ []) (pos 5000 ∷ pos 0 ∷ neg_ℤ (pos 5000) ∷ []) })
 
 -- a step of 60 s of a unit: watts, vars, and the vars kept as last requested
-unfoldable pub led_by : Leading → Voltage → Unit → ℤ → ℤ → List ℤ
+unfoldable pub led_by : Leading → Option ℕ → Unit → ℤ → ℤ → List ℤ
 unfolding lead_of led_step vars_kept
 led_by f v u last request = let l = lead_of f v in let o = led_step l u last 60 request in o.watts ∷ o.vars ∷ vars_kept l u last 60 request ∷ []
 
@@ -59,22 +57,22 @@ unfoldable pub voltages : List Row
 unfolding leading led_by lone function unordered volts vars_in three_steps check missing ending bytes
 voltages =
     -- L2: base S, a quarter of it; what the circle leaves after 600 W; cut toward zero; both ends of the curve, and beyond them
-    row (led_by (leading 0) (Said 9500) (plainly 0) (pos 7) (pos 600)) (pos 600 ∷ pos 250 ∷ pos 250 ∷ [])
-    ∷ row (led_by (leading 1) (Said 9500) (plainly 0) (pos 7) (pos 600)) (pos 600 ∷ pos 200 ∷ pos 200 ∷ [])
-    ∷ row (led_by (leading 0) (Said 10333) (plainly 0) (pos 7) (pos 600)) (pos 600 ∷ neg_ℤ (pos 166) ∷ neg_ℤ (pos 166) ∷ [])
-    ∷ row (led_by (leading 0) (Said 0) (plainly 0) (pos 7) (pos 600)) (pos 600 ∷ pos 500 ∷ pos 500 ∷ [])
-    ∷ row (led_by (leading 0) (Said 20000) (plainly 0) (pos 7) (pos 600)) (pos 600 ∷ neg_ℤ (pos 500) ∷ neg_ℤ (pos 500) ∷ [])
+    row (led_by (leading 0) (Some 9500) (plainly 0) (pos 7) (pos 600)) (pos 600 ∷ pos 250 ∷ pos 250 ∷ [])
+    ∷ row (led_by (leading 1) (Some 9500) (plainly 0) (pos 7) (pos 600)) (pos 600 ∷ pos 200 ∷ pos 200 ∷ [])
+    ∷ row (led_by (leading 0) (Some 10333) (plainly 0) (pos 7) (pos 600)) (pos 600 ∷ neg_ℤ (pos 166) ∷ neg_ℤ (pos 166) ∷ [])
+    ∷ row (led_by (leading 0) (Some 0) (plainly 0) (pos 7) (pos 600)) (pos 600 ∷ pos 500 ∷ pos 500 ∷ [])
+    ∷ row (led_by (leading 0) (Some 20000) (plainly 0) (pos 7) (pos 600)) (pos 600 ∷ neg_ℤ (pos 500) ∷ neg_ℤ (pos 500) ∷ [])
     -- and of the watts that the store has cut: nothing is given, and all of S is left
-    ∷ row (led_by (leading 1) (Said 9500) empty (pos 7) (pos 600)) (pos 0 ∷ pos 250 ∷ pos 250 ∷ [])
+    ∷ row (led_by (leading 1) (Some 9500) empty (pos 7) (pos 600)) (pos 0 ∷ pos 250 ∷ pos 250 ∷ [])
     -- L3: without a voltage the last ones, not 0 and not the own request
-    ∷ row (led_by (leading 0) Unsaid (plainly 0) (pos 7) (pos 600)) (pos 600 ∷ pos 7 ∷ pos 7 ∷ [])
+    ∷ row (led_by (leading 0) None (plainly 0) (pos 7) (pos 600)) (pos 600 ∷ pos 7 ∷ pos 7 ∷ [])
     -- L4: what was requested is kept, not what a limit left of it
-    ∷ row (led_by (leading 0) (Said 9000) (limited (plainly 0) 100 100) (pos 7) (pos 600)) (pos 600 ∷ pos 100 ∷ pos 500 ∷ [])
+    ∷ row (led_by (leading 0) (Some 9000) (limited (plainly 0) 100 100) (pos 7) (pos 600)) (pos 600 ∷ pos 100 ∷ pos 500 ∷ [])
     -- L5: vars first by the priority, but watts first by the second base, in a step without a voltage too
-    ∷ row (led_by (leading 0) Unsaid (plainly 1) (pos 900) (pos 600)) (pos 435 ∷ pos 900 ∷ pos 900 ∷ [])
-    ∷ row (led_by (leading 1) Unsaid (plainly 1) (pos 900) (pos 600)) (pos 600 ∷ pos 800 ∷ pos 900 ∷ [])
+    ∷ row (led_by (leading 0) None (plainly 1) (pos 900) (pos 600)) (pos 435 ∷ pos 900 ∷ pos 900 ∷ [])
+    ∷ row (led_by (leading 1) None (plainly 1) (pos 900) (pos 600)) (pos 600 ∷ pos 800 ∷ pos 900 ∷ [])
     -- L9: without a function the own request, and what is kept stands
-    ∷ row (led_by unled (Said 9500) (plainly 0) (pos 7) (pos 600)) (pos 600 ∷ neg_ℤ (pos 50) ∷ pos 7 ∷ [])
+    ∷ row (led_by unled (Some 9500) (plainly 0) (pos 7) (pos 600)) (pos 600 ∷ neg_ℤ (pos 50) ∷ pos 7 ∷ [])
     -- a run: the own request, a voltage, and behind it none
     ∷ row (check three_steps) (refused_at 0 233 3)
     ∷ row (vars_in three_steps 0) (bytes 4 0)

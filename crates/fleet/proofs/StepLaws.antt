@@ -25,9 +25,7 @@ use Rattle.rows.specs.declared.Row.{Row}
 use Rattle.reading.specs.declared.Phases.{Phases}
 use Rattle.reading.specs.declared.Reading.{Reading}
 use Rattle.reading.specs.declared.Reading.TheVariants.{Missing, Power, Current}
-use Rattle.reading.specs.declared.Measure.{Measure}
-use Rattle.reading.specs.declared.Measure.TheVariants.{Chosen, RefusedBy}
-use Rattle.reading.specs.Choice.{measure_of, current_of, measure_call}
+use Rattle.reading.specs.Choice.{measure_of, current_of}
 use Rattle.unit.specs.declared.Unit.{Unit}
 use Rattle.unit.specs.Ranges.{holding}
 use Rattle.rows.specs.Rows.{no_row, unit_by}
@@ -56,13 +54,14 @@ use Rattle.fleet.specs.declared.Moment.{Moment}
 use Rattle.fleet.specs.Step.{standing, passed_on, asked_by_watts, asked_by_current, asked_by, given, kept_vars, stored_after, vars_after, records_of, after, records_by}
 use Rattle.fleet.specs.Posts.{Stored, Held, Unled, site_by}
 use Rattle.fleet.proofs.SiteLaws.{held_ranged, rows_count, row_unit_lem, rows_below, rows_in, rows_some, rows_few}
+use Rattle.std.proofs.Common.{Err, Ok, Result}
 
 -- ---- the pass, or none
 -- what holds of the requests as they are, and after every pass, holds after a reading
 module _ (P : List ℤ → Type 0) (site : Site) (stored : List ℕ) (rs : List ℤ) (h : P rs) (after : (m : ℤ) → P (pass_of site.head.settings m (fleet_for site.units stored) rs)) where
-  passed_keeps : (m : Measure) → P (passed_on site stored rs (measure_call m))
-  passed_keeps (Chosen m) = after m
-  passed_keeps (RefusedBy n) = h
+  passed_keeps : (m : Result ℤ Refusal) → P (passed_on site stored rs m)
+  passed_keeps (Ok m) = after m
+  passed_keeps (Err n) = h
 
   watts_keep : (r : Reading) → P (asked_by_watts site stored rs r)
   unfolding asked_by_watts
@@ -85,23 +84,23 @@ asked_length site stored rs =
     asked_keeps (λ (l : List ℤ). length l ≡ length rs) site stored rs refl (λ m. pass_length site.head.settings m (fleet_for site.units stored) rs)
 
 -- by the measure of three powers or currents: none, or the pass
-module _ (site : Site) (stored : List ℕ) (rs : List ℤ) (x : Measure) where
-  pub pass_refused : (n : Refusal) → x ≡ RefusedBy n → rs ≡ passed_on site stored rs (measure_call x)
-  pass_refused n e = sym (ap (λ (y : Measure). passed_on site stored rs (measure_call y)) e)
+module _ (site : Site) (stored : List ℕ) (rs : List ℤ) (x : Result ℤ Refusal) where
+  pub pass_refused : (n : Refusal) → x ≡ Err n → rs ≡ passed_on site stored rs x
+  pass_refused n e = sym (ap (λ (y : Result ℤ Refusal). passed_on site stored rs y) e)
 
-  pub pass_chosen : (m : ℤ) → x ≡ Chosen m → mag m < 2 ^ 63 → (after : List ℤ) → after ≡ pass_of site.head.settings (to_z w64 (of_z w64 m)) (fleet_for site.units stored) rs
-      → after ≡ passed_on site stored rs (measure_call x)
+  pub pass_chosen : (m : ℤ) → x ≡ Ok m → mag m < 2 ^ 63 → (after : List ℤ) → after ≡ pass_of site.head.settings (to_z w64 (of_z w64 m)) (fleet_for site.units stored) rs
+      → after ≡ passed_on site stored rs x
   pass_chosen m e fits after d =
       d ∙ ap (λ (z : ℤ). pass_of site.head.settings z (fleet_for site.units stored) rs) (read w64 m fits)
-      ∙ sym (ap (λ (y : Measure). passed_on site stored rs (measure_call y)) e)
+      ∙ sym (ap (λ (y : Result ℤ Refusal). passed_on site stored rs y) e)
 
 -- by watts powers are passed on, and by current currents; any other reading, whose tag is not theirs, leaves the requests
 module _ (site : Site) (stored : List ℕ) (rs : List ℤ) (r : Reading) where
-  pub powers_are : (p : Phases) → r ≡ Power p → passed_on site stored rs (measure_call (measure_of p site.head.phase)) ≡ asked_by_watts site stored rs r
+  pub powers_are : (p : Phases) → r ≡ Power p → passed_on site stored rs ((measure_of p site.head.phase)) ≡ asked_by_watts site stored rs r
   unfolding asked_by_watts
   powers_are p e = sym (ap (asked_by_watts site stored rs) e)
 
-  pub currents_are : (p : Phases) → r ≡ Current p → passed_on site stored rs (measure_call (current_of p site.head.phase)) ≡ asked_by_current site stored rs r
+  pub currents_are : (p : Phases) → r ≡ Current p → passed_on site stored rs ((current_of p site.head.phase)) ≡ asked_by_current site stored rs r
   unfolding asked_by_current
   currents_are p e = sym (ap (asked_by_current site stored rs) e)
 

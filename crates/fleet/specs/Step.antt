@@ -1,11 +1,11 @@
 -- What stands between two steps, and one step of a site (rules T1 to T4): one pass on the step's reading, none if it is missing, then one step of every
 -- unit, by what leads it; and the step's records.
-use Rattle.std.specs.Prelude.{ℕ, zero, suc, ◌*◌, Bool, cond, List, [], ◌++◌, map, ℤ, pos, length, get_or, replicate}
+use Rattle.std.specs.Prelude.{ℕ, zero, suc, ◌*◌, Bool, cond, List, [], ◌++◌, map, ℤ, pos, length, get_or, replicate, Err, Ok}
 use Rattle.whole.specs.Over.{each}
-use Rattle.whole.specs.Call.{Call, Gave, Refused}
+use Rattle.whole.specs.Call.{Call}
 use Rattle.reading.specs.declared.Reading.{Reading}
 use Rattle.reading.specs.declared.Reading.TheVariants.{Missing, Power, Current}
-use Rattle.reading.specs.Choice.{measure_of, current_of, measure_call}
+use Rattle.reading.specs.Choice.{measure_of, current_of}
 use Rattle.unit.specs.declared.Unit.{Unit}
 use Rattle.unit.specs.Ranges.{holding}
 use Rattle.rules.specs.Rules.{by_current}
@@ -41,19 +41,19 @@ pub record Stands : Type 0 where
 
 -- on a measure. No reading of an accepted file is refused; where one were, the requests would stand
 abbrev pub passed_on : Site → List ℕ → List ℤ → Call ℤ → List ℤ
-passed_on site stored rs (Gave m) = pass_of site.head.settings m (fleet_for site.units stored) rs
-passed_on site stored rs (Refused r) = rs
+passed_on site stored rs (Ok m) = pass_of site.head.settings m (fleet_for site.units stored) rs
+passed_on site stored rs (Err r) = rs
 
 -- by watts one pass on the powers, by current one on the currents; none if the reading is missing. A reading of the other kind is in no accepted file (N5)
 unfoldable pub asked_by_watts : Site → List ℕ → List ℤ → Reading → List ℤ
 unfolding measure_of pass_of
-asked_by_watts site stored rs (Power p) = passed_on site stored rs (measure_call (measure_of p site.head.phase))
+asked_by_watts site stored rs (Power p) = passed_on site stored rs ((measure_of p site.head.phase))
 asked_by_watts site stored rs Missing = rs
 asked_by_watts site stored rs (Current p) = rs
 
 unfoldable pub asked_by_current : Site → List ℕ → List ℤ → Reading → List ℤ
 unfolding current_of pass_of
-asked_by_current site stored rs (Current p) = passed_on site stored rs (measure_call (current_of p site.head.phase))
+asked_by_current site stored rs (Current p) = passed_on site stored rs ((current_of p site.head.phase))
 asked_by_current site stored rs Missing = rs
 asked_by_current site stored rs (Power p) = rs
 

@@ -9,7 +9,7 @@ ghost use Rattle.lead.specs.Lead.{Modest};
 ghost use Rattle.fleet.specs.Posts.{Ready, Stored, Held, Unled, site_in};
 
 use super::{Frame, Moment};
-use reading::{Measure, Reading};
+use reading::Reading;
 use records::RECORD_BYTES;
 use rows::Row;
 use storage::{IDLES, OPEN, Outcome};
@@ -26,7 +26,7 @@ fn ask_by_watts(f: Frame, rows: &[Row], r: Reading, stored: &[u64], requests: &m
         return;
     };
     let head = f.head;
-    let Measure::Chosen(m) = reading::regulated(p, head.phase) else {
+    let Ok(m) = reading::regulated(p, head.phase) else {
         return;
     };
     let s = head.settings;
@@ -46,7 +46,7 @@ fn ask_by_current(f: Frame, rows: &[Row], r: Reading, stored: &[u64], requests: 
         return;
     };
     let head = f.head;
-    let Measure::Chosen(m) = reading::current(p, head.phase) else {
+    let Ok(m) = reading::current(p, head.phase) else {
         return;
     };
     let s = head.settings;
@@ -79,7 +79,7 @@ fn own(rows: &[Row], i: usize, held: u64, seconds: u32, request: i32) -> Outcome
     requires ranged { Ranged (row_unit rows.now i held) seconds }
     ensures { result ≡ step_of (row_unit rows.now i held) seconds request }
 {
-    let p = whole::least32(whole::size32(request), rows[i].kept.most);
+    let p = request.unsigned_abs().min(rows[i].kept.most);
     let kind = storage::kind_of(rows, i, held, seconds, request, p, rows[i].kept.clear);
     if kind == OPEN {
         return storage::step_within(rows::unit_holding(rows, i, held), seconds, request);

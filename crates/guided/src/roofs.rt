@@ -52,7 +52,7 @@ fn after_watts(
 {
     let led = led_inverter(l, v, 0);
     let g = solar::step_within(led, bytes, warm, efficiency, on, s);
-    let asked = lead::requested(l, v.var_request, last, v.kva, whole::size32(g.watts));
+    let asked = lead::requested(l, v.var_request, last, v.kva, g.watts.unsigned_abs());
     Shone {
         given: with_vars(g, asked),
         vars: lead::kept(l, last, asked),

@@ -44,7 +44,7 @@ fn open_after(u: Unit, seconds: u32, request: i32, l: Lead, last: i32) -> Led
 {
     let o = storage::step_within(led_unit(l, u, 0), seconds, request);
     let watts = carried(o.watts, u.grid_loss);
-    let asked = lead::requested(l, u.var_request, last, u.kva, whole::size32(watts));
+    let asked = lead::requested(l, u.var_request, last, u.kva, watts.unsigned_abs());
     let vars = energy::vars(led_unit(l, u, asked), watts);
     let kept = lead::kept(l, last, asked);
     Led {
@@ -85,7 +85,7 @@ fn after_watts(
     ensures vars_value { result.vars ≡ vars_kept l (row_unit units.now i held) last seconds request }
 {
     let u = rows::unit_holding(units, i, held);
-    let p = whole::least32(whole::size32(request), u.kva);
+    let p = request.unsigned_abs().min(u.kva);
     let kind = storage::kind_of(units, i, held, seconds, request, p, u32::MAX);
     if kind == OPEN {
         return open_after(u, seconds, request, l, last);

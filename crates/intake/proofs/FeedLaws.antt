@@ -11,7 +11,6 @@ use lib.Seq.{slice, length-take-le, take_all, take-take, take-append-add, drop-a
 use borrow.Author.Tests.{eqb-true, eqb-false}
 use Rattle.parts.specs.Header.{past}
 use Rattle.fields.specs.declared.State.{State}
-use Rattle.fields.specs.declared.Taken.TheVariants.{Next, Stop}
 use Rattle.fields.specs.Fields.{head_of}
 use Rattle.stick.specs.declared.Reached.{Reached}
 use Rattle.stick.specs.Check.{field_at, reached, reach_of}
@@ -33,6 +32,7 @@ use Rattle.intake.specs.Posts.{first_of, others_of, both_kept, both_results, Gon
 use Rattle.intake.proofs.OpenLaws.{open_few, open_tail, open_waits}
 use Rattle.intake.proofs.JointLaws.{no_bytes, take_most, stops_first, three, tail_first, past_within, goes_first}
 use Rattle.intake.proofs.MarkLaws.{mark_state, mark_tail}
+use Rattle.std.proofs.Common.{Err, Ok}
 
 -- ---- the bytes behind the whole fields are fewer than the largest field has
 pub gone_short : (k : Kept) → Few k.state → (chunk : List ℕ) → (gone_by k chunk).number ≤ 1 → length (k.tail ++ chunk) ≤ (gone_by k chunk).at + tail_most
@@ -81,7 +81,7 @@ module _ (k : Kept) (few : Few k.state) (chunk : List ℕ) (some : 0 < length k.
   both_long : length both ≡ length tail + length chunk
   both_long = length-append tail chunk
 
-  module _ (mid : State) (e : field_at st joint 0 ≡ Next mid) where
+  module _ (mid : State) (e : field_at st joint 0 ≡ Ok mid) where
     first_there : past joint 0 ≤ length joint
     first_there = (accepted_there st mid joint 0 (omega arith) e).all
 
@@ -186,7 +186,7 @@ module _ (k : Kept) (few : Few k.state) (chunk : List ℕ) (some : 0 < length k.
         }
 
   -- ---- or there is no whole field
-  module _ (n : ℕ) (e : field_at st joint 0 ≡ Stop n) where
+  module _ (n : ℕ) (e : field_at st joint 0 ≡ Err n) where
     stop_is : reached n 0 st ≡ gone_by k chunk
     unfolding gone_by
     stop_is = stops_first st few tail chunk some goes cut n e
@@ -229,20 +229,20 @@ module _ (s chunk : List ℕ) (m : Mark) (r : Reached) (g : Gone s m chunk r) wh
     waited = open_waits s g.is_open_is (omega (arith, tail_some, open_tail s g.is_open_is))
 
     module _ (j : List ℕ) (is : j ≡ take largest_field ((kept_in s).tail ++ chunk)) where
-      pub joint_fits : (mid : State) → field_at m.state j 0 ≡ Next mid → Fits (kept_in s) chunk j mid m.tail r.at r.state
+      pub joint_fits : (mid : State) → field_at m.state j 0 ≡ Ok mid → Fits (kept_in s) chunk j mid m.tail r.at r.state
       joint_fits mid e =
-          let f : field_at (kept_in s).state (take largest_field ((kept_in s).tail ++ chunk)) 0 ≡ Next mid =
+          let f : field_at (kept_in s).state (take largest_field ((kept_in s).tail ++ chunk)) 0 ≡ Ok mid =
           sym (ap₂ (λ (st : State) (l : List ℕ). field_at st l 0) (mark_state s m g.mark_is) is) ∙ e in
           let fit = fits_there (kept_in s) few_said chunk tail_some waited.0 waited.1 fair_is mid f in
           subst (λ (x : Reached). Fits (kept_in s) chunk j mid m.tail x.at x.state) (sym g.gone_is)
           (subst (λ (t : ℕ). Fits (kept_in s) chunk j mid t (gone_by (kept_in s) chunk).at (gone_by (kept_in s) chunk).state) (sym (mark_tail s m g.mark_is g.is_open_is))
           (subst (λ (l : List ℕ). Fits (kept_in s) chunk l mid (length (kept_in s).tail) (gone_by (kept_in s) chunk).at (gone_by (kept_in s) chunk).state) (sym is) fit))
 
-      pub joint_stays : (n : ℕ) → field_at m.state j 0 ≡ Stop n → Stays s chunk j m.state
+      pub joint_stays : (n : ℕ) → field_at m.state j 0 ≡ Err n → Stays s chunk j m.state
       unfolding kept_in
       joint_stays n e =
           let k = kept_in s in
-          let f : field_at (kept_in s).state (take largest_field ((kept_in s).tail ++ chunk)) 0 ≡ Stop n =
+          let f : field_at (kept_in s).state (take largest_field ((kept_in s).tail ++ chunk)) 0 ≡ Err n =
           sym (ap₂ (λ (st : State) (l : List ℕ). field_at st l 0) (mark_state s m g.mark_is) is) ∙ e in
           subst (Stays s chunk j) (sym (mark_state s m g.mark_is))
           (subst (λ (l : List ℕ). Stays s chunk l (kept_in s).state) (sym is)

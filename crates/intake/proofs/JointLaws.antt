@@ -12,7 +12,6 @@ use borrow.Author.Tests.{ltb-true, ltb-false, leb-true, leb-false}
 use Rattle.octets.specs.BigEndian.{laid}
 use Rattle.parts.specs.Header.{past}
 use Rattle.fields.specs.declared.State.{State}
-use Rattle.fields.specs.declared.Taken.TheVariants.{Next, Stop}
 use Rattle.fields.specs.Fields.{head_of}
 use Rattle.stick.specs.Check.{field_at, reached, reach_of}
 use Rattle.stick.proofs.WalkLaws.{field_stops}
@@ -23,6 +22,7 @@ use Rattle.chunks.proofs.ReachChunks.{reach_fuel, reach_step, apart, reach_shift
 use Rattle.chunks.proofs.PlaceChunks.{accepted_there}
 use Rattle.records.proofs.LayLaws.{behind}
 use Rattle.kept.specs.Layout.{tail_most}
+use Rattle.std.proofs.Common.{Err, Ok}
 
 -- no bytes are the empty list
 pub no_bytes : (l : List ℕ) → length l ≡ 0 → l ≡ []
@@ -83,11 +83,11 @@ module _ (st : State) (few : Few st) (tail chunk : List ℕ) (some_tail : 0 < le
   first_field : field_at st both 0 ≡ field_at st start 0
   first_field = sym (field_take st few both 0 largest_field (omega arith))
 
-  pub stops_first : (n : ℕ) → field_at st start 0 ≡ Stop n → reached n 0 st ≡ reach_of (length both) st both 0
-  stops_first n e = sym (reach_step both (length both) st 0 false (Stop n) (omega arith) some_bytes goes (first_field ∙ e))
+  pub stops_first : (n : ℕ) → field_at st start 0 ≡ Err n → reached n 0 st ≡ reach_of (length both) st both 0
+  stops_first n e = sym (reach_step both (length both) st 0 false (Err n) (omega arith) some_bytes goes (first_field ∙ e))
 
-  module _ (s : State) (e : field_at st start 0 ≡ Next s) where
-    in_both : field_at st both 0 ≡ Next s
+  module _ (s : State) (e : field_at st start 0 ≡ Ok s) where
+    in_both : field_at st both 0 ≡ Ok s
     in_both = first_field ∙ e
 
     pub three : 3 ≤ length start
@@ -120,7 +120,7 @@ module _ (st : State) (few : Few st) (tail chunk : List ℕ) (some_tail : 0 < le
     goes_first =
         let p : past both 0 ≡ length tail + (past start 0 - length tail) = omega (arith, same_past, tail_first) in
         sym
-        (reach_step both (length both) st 0 false (Next s) (omega arith) some_bytes goes in_both
+        (reach_step both (length both) st 0 false (Ok s) (omega arith) some_bytes goes in_both
         ∙ ap (reach_of (length both) s both) p
         ∙ reach_fuel both (length both) (length chunk) s (length tail + (past start 0 - length tail)) (omega (arith, length-append tail chunk)) (omega (arith, length-append tail chunk))
         ∙ reach_shift tail chunk (length chunk) s (past start 0 - length tail))

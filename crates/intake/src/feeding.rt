@@ -8,7 +8,7 @@ ghost use Rattle.taking.specs.Posts.{Leads};
 ghost use Rattle.intake.specs.Posts.{first_of, others_of, both_kept, both_results, Open, Gone};
 
 use super::{LARGEST, absorbing, joints, tails};
-use fields::{HEADER, State, Taken};
+use fields::{HEADER, State};
 use kept::Mark;
 use stick::Reached;
 
@@ -82,8 +82,8 @@ fn take_joined(s: &mut [u8], m: Mark, chunk: &[u8], r: Reached, room: &mut [u8])
     let mut joint = [0u8; LARGEST];
     let n = joints::join(&mut joint, s, chunk);
     match stick::field(st, &joint[0..n], 0) {
-        Taken::Next(mid) => take_both(s, &joint[0..n], mid, chunk, t, at, next, room),
-        Taken::Stop(_) => take_rest(s, &joint[0..n], 0, 0, st, room, 0),
+        Ok(mid) => take_both(s, &joint[0..n], mid, chunk, t, at, next, room),
+        Err(_) => take_rest(s, &joint[0..n], 0, 0, st, room, 0),
     }
 }
 

@@ -9,7 +9,7 @@ ghost use Rattle.taking.specs.Chunk.{gone_by};
 ghost use Rattle.intake.specs.Posts.{Open};
 
 use super::LARGEST;
-use fields::{HEADER, State, Taken};
+use fields::{HEADER, State};
 use kept::{Mark, TAIL};
 use stick::Reached;
 
@@ -57,12 +57,12 @@ fn gone_on(s: &[u8], m: Mark, chunk: &[u8]) -> Reached
     let mut joint = [0u8; LARGEST];
     let n = join(&mut joint, s, chunk);
     match stick::field(st, &joint[0..n], 0) {
-        Taken::Stop(number) => Reached {
+        Err(number) => Reached {
             number,
             at: 0,
             state: st,
         },
-        Taken::Next(next) => beyond(next, &joint[0..n], chunk, t),
+        Ok(next) => beyond(next, &joint[0..n], chunk, t),
     }
 }
 

@@ -19,8 +19,6 @@ use Rattle.octets.specs.BigEndian.{be, bytes_of}
 use Rattle.octets.proofs.ByteLaws.{bytes_length}
 use Rattle.records.proofs.LayLaws.{both, longer}
 use Rattle.solar.specs.declared.Sun.{Sun}
-use Rattle.lead.specs.declared.Voltage.{Voltage}
-use Rattle.lead.specs.declared.Voltage.TheVariants.{Unsaid, Said}
 use Rattle.site.specs.declared.Due.{Due}
 use Rattle.site.specs.Site.{due, count}
 use Rattle.fields.specs.declared.State.{State}
@@ -41,6 +39,7 @@ use Rattle.kept.proofs.NumberLaws.{take_drop, progress_length, numbers_length}
 use Rattle.kept.proofs.ListLaws.{site_part_length}
 use Rattle.kept.proofs.WellLaws.{small, sized_by_lem}
 use Rattle.kept.proofs.ReadLaws.{read_left, read_right, read_here, read_first, read_second, read_third, read_fourth, slice_in, clear_zero, up_to_is, held_store, held_request, flags_flag, flag_back, vars_var}
+use Rattle.std.proofs.Common.{None, Option, Some}
 
 -- ---- what is kept has room in its bytes
 pub record Room (k : Kept) : Type 0 where
@@ -59,7 +58,7 @@ pub record Keepable (k : Kept) : Type 0 where
   pub light_fits : k.due.sun.irradiance < 2 ^ 32
   pub warm_fits : SFits w32 k.due.sun.temperature
   pub volts_fit : volts_of k.due.voltage < 2 ^ 16
-  pub said : k.due.voltage ≡ cond (eqb k.state.stage at_voltage) (Said (volts_of k.due.voltage)) Unsaid
+  pub said : k.due.voltage ≡ cond (eqb k.state.stage at_voltage) (Some (volts_of k.due.voltage)) None
   pub stores_fit : (i : ℕ) → i < length k.stands.units.stored → get_or k.stands.units.stored i 0 < 2 ^ 64
   pub requests_fit : (i : ℕ) → i < length k.stands.units.requests → SFits w32 (get_or k.stands.units.requests i (pos 0))
   pub vars_fit : (i : ℕ) → i < length (all_vars k.stands) → SFits w32 (get_or (all_vars k.stands) i (pos 0))
@@ -421,7 +420,7 @@ module _ (k : Kept) where
     unfolding due_kept
     due_back =
         ap₂ due sun_back
-        (ap₂ (λ (stage x : ℕ). cond {A = Voltage} (eqb stage at_voltage) (Said x) Unsaid) stage_back volts_back ∙ sym w.said)
+        (ap₂ (λ (stage x : ℕ). cond {A = (Option ℕ)} (eqb stage at_voltage) (Some x) None) stage_back volts_back ∙ sym w.said)
 
     -- all that is kept comes back
     pub back : kept_in (bytes_for k) ≡ k

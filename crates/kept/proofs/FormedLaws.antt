@@ -13,8 +13,6 @@ use Rattle.whole.specs.Over.{all_of}
 use Rattle.whole.proofs.OverLaws.{and_parts, all_at}
 use Rattle.octets.specs.BigEndian.{be}
 use Rattle.lead.specs.Lead.{voltage_in}
-use Rattle.lead.specs.declared.Voltage.{Voltage}
-use Rattle.lead.specs.declared.Voltage.TheVariants.{Unsaid, Said}
 use Rattle.site.specs.Site.{count}
 use Rattle.fields.specs.Fields.{at_voltage}
 use Rattle.stick.specs.declared.Reached.{Reached}
@@ -29,10 +27,11 @@ use Rattle.kept.specs.Formed.{site_fits, place_fits, sun_fits, volt_fits, tail_f
 use Rattle.kept.specs.Posts.{Sized, WellKept}
 use Rattle.kept.proofs.StandLaws.{up_to_length}
 use Rattle.kept.proofs.ReadLaws.{up_to_at, up_to_both}
+use Rattle.std.proofs.Common.{None, Option, Some}
 
 -- ---- a voltage as it is kept, and what its number says of it
-abbrev voltage : Bool → ℕ → Voltage
-voltage b x = cond b (Said x) Unsaid
+abbrev voltage : Bool → ℕ → Option ℕ
+voltage b x = cond b (Some x) None
 
 kept_volts : (stage x : ℕ) → volt_fits stage x ≡ true → volt_fits stage (volts_of (voltage (eqb stage at_voltage) x)) ≡ true
 unfolding volt_fits

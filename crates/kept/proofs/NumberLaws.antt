@@ -16,8 +16,6 @@ use mir.Facts.{Fits-below}
 use Rattle.octets.specs.BigEndian.{be, bytes_of, laid}
 use Rattle.octets.proofs.LaidLaws.{laid_length}
 use Rattle.records.proofs.LayLaws.{behind, both}
-use Rattle.lead.specs.declared.Voltage.{Voltage}
-use Rattle.lead.specs.declared.Voltage.TheVariants.{Unsaid, Said}
 use Rattle.site.specs.declared.Due.{Due}
 use Rattle.fields.specs.declared.State.{State}
 use Rattle.fields.specs.Fields.{at_voltage, gone_to}
@@ -28,6 +26,7 @@ use Rattle.kept.specs.Posts.{Sized}
 use Rattle.kept.specs.Layout.{tail_most, flag_place, vars_place, site_place, site_most}
 use Rattle.kept.specs.Layout.{place_in, steps_kept, stage_in, site_bytes, tail_bytes, site_part, sun_kept, due_kept, known_by, state_in, mark_in, tail_place, held_place, state_size, filled, progress_of, parts_of, numbers_of, top_of}
 use Rattle.kept.proofs.PieceLaws.{laid_filled}
+use Rattle.std.proofs.Common.{None, Option, Some}
 
 -- so many bytes from a place on are those up to its end
 pub take_drop : (n from : ℕ) (s : List ℕ) → take n (drop from s) ≡ slice from (from + n) s
@@ -100,17 +99,17 @@ state_is s r st stage steps a b d e =
     ∙ ap (λ (n : ℕ). gone_to k (stage_in s) k.left n) d
 
 -- the voltage that is read, behind a voltage field and else; and with the sun all that the step under way has
-voltage_by : (s : List ℕ) (b : Bool) → eqb (stage_in s) at_voltage ≡ b → (due_kept s).voltage ≡ cond b (Said (be 2 s 25)) Unsaid
+voltage_by : (s : List ℕ) (b : Bool) → eqb (stage_in s) at_voltage ≡ b → (due_kept s).voltage ≡ cond b (Some (be 2 s 25)) None
 unfolding due_kept
-voltage_by s b e = ap (λ (c : Bool). cond {A = Voltage} c (Said (be 2 s 25)) Unsaid) e
+voltage_by s b e = ap (λ (c : Bool). cond {A = (Option ℕ)} c (Some (be 2 s 25)) None) e
 
-pub voltage_said : (s : List ℕ) (stage n : ℕ) → stage ≡ stage_in s → stage ≡ at_voltage → n ≡ be 2 s 25 → Said n ≡ (due_kept s).voltage
-voltage_said s stage n a b e = ap Said e ∙ sym (voltage_by s true (eq-eqb (stage_in s) at_voltage (sym a ∙ b)))
+pub voltage_said : (s : List ℕ) (stage n : ℕ) → stage ≡ stage_in s → stage ≡ at_voltage → n ≡ be 2 s 25 → Some n ≡ (due_kept s).voltage
+voltage_said s stage n a b e = ap Some e ∙ sym (voltage_by s true (eq-eqb (stage_in s) at_voltage (sym a ∙ b)))
 
-pub voltage_unsaid : (s : List ℕ) (stage : ℕ) → stage ≡ stage_in s → (stage ≡ at_voltage → ⊥) → Unsaid ≡ (due_kept s).voltage
+pub voltage_unsaid : (s : List ℕ) (stage : ℕ) → stage ≡ stage_in s → (stage ≡ at_voltage → ⊥) → None ≡ (due_kept s).voltage
 voltage_unsaid s stage a b = sym (voltage_by s false (ne_eqb (stage_in s) at_voltage (λ e. b (a ∙ e))))
 
-pub due_is : (s : List ℕ) (light : ℕ) (warm : ℤ) (v : Voltage) → light ≡ be 4 s 17 → warm ≡ to_z w32 (be 4 s 21) → v ≡ (due_kept s).voltage
+pub due_is : (s : List ℕ) (light : ℕ) (warm : ℤ) (v : Option ℕ) → light ≡ be 4 s 17 → warm ≡ to_z w32 (be 4 s 21) → v ≡ (due_kept s).voltage
     → ◌≡◌ {A = Due} (record { sun = record { irradiance = light; temperature = warm }; voltage = v }) (due_kept s)
 unfolding due_kept sun_kept
 due_is s light warm v a b d = rw (a, b, d)

@@ -1,12 +1,10 @@
 -- The bytes of a state (rule E1; docs/LAYOUTS.md): those of what is kept, and what is kept in bytes. Parts that are not in use are 0.
-use Rattle.std.specs.Prelude.{ℕ, zero, suc, ◌+◌, ◌-◌, ◌*◌, Bool, false, cond, List, [], ◌∷◌, ◌++◌, eqb, ℤ, pos, length, get_or, replicate}
+use Rattle.std.specs.Prelude.{ℕ, zero, suc, ◌+◌, ◌-◌, ◌*◌, Bool, false, cond, List, [], ◌∷◌, ◌++◌, eqb, ℤ, pos, length, get_or, replicate, None, Option, Some}
 use Rattle.std.proofs.Math.Seq.{slice}
 use Rattle.std.specs.Int.{w32}
 use Rattle.std.proofs.Common.{to_z, of_z}
 use Rattle.octets.specs.BigEndian.{be, bytes_of}
 use Rattle.solar.specs.declared.Sun.{Sun}
-use Rattle.lead.specs.declared.Voltage.{Voltage}
-use Rattle.lead.specs.declared.Voltage.TheVariants.{Unsaid, Said}
 use Rattle.site.specs.declared.Due.{Due}
 use Rattle.site.specs.Site.{due, count}
 use Rattle.fields.specs.declared.State.{State}
@@ -56,9 +54,9 @@ unfoldable pub filled : ℕ → List ℕ → List ℕ
 filled n bytes = bytes ++ replicate (n - length bytes) 0
 
 -- while the run goes on: how far it is; then how long the site part and the tail are, the sun, and the voltage, 0 where there is none
-abbrev pub volts_of : Voltage → ℕ
-volts_of Unsaid = 0
-volts_of (Said x) = x
+abbrev pub volts_of : Option ℕ → ℕ
+volts_of None = 0
+volts_of (Some x) = x
 
 unfoldable pub progress_of : Mark → List ℕ
 unfolding bytes_of
@@ -153,7 +151,7 @@ sun_kept s = record { irradiance = be 4 s 17; temperature = to_z w32 (be 4 s 21)
 -- what the step under way has: a voltage behind a voltage field alone
 unfoldable pub due_kept : List ℕ → Due
 unfolding sun_kept be
-due_kept s = due (sun_kept s) (cond (eqb (stage_in s) at_voltage) (Said (be 2 s 25)) Unsaid)
+due_kept s = due (sun_kept s) (cond (eqb (stage_in s) at_voltage) (Some (be 2 s 25)) None)
 
 -- the state between fields: what the site part's fields lead to, at the stage and with the steps that are kept
 unfoldable pub known_by : List ℕ → State

@@ -1,6 +1,5 @@
 -- Nobody has to believe this file: the parts of contracts by name.
-use Rattle.std.specs.Prelude.{ℕ, ◌≤◌, ◌<◌, true, false, cond, List, ◌≡◌, eqb, pos, nat_abs, length, get_or}
-use Rattle.lead.specs.declared.Voltage.TheVariants.{Unsaid, Said}
+use Rattle.std.specs.Prelude.{ℕ, ◌≤◌, ◌<◌, true, false, cond, List, ◌≡◌, eqb, pos, nat_abs, length, get_or, None, Some}
 use Rattle.site.specs.Site.{count}
 use Rattle.fields.specs.Fields.{at_voltage, gone_to}
 use Rattle.stick.specs.Check.{reached, reach_of, start}
@@ -29,7 +28,7 @@ pub record WellKept (k : Kept) : Type 0 where
   pub placed : place_fits k.place k.state.stage k.state.steps (length k.site) (length k.tail) ≡ true
   pub sunny : sun_fits k.state.stage k.due.sun ≡ true
   pub volted : volt_fits k.state.stage (volts_of k.due.voltage) ≡ true
-  pub said : k.due.voltage ≡ cond (eqb k.state.stage at_voltage) (Said (volts_of k.due.voltage)) Unsaid
+  pub said : k.due.voltage ≡ cond (eqb k.state.stage at_voltage) (Some (volts_of k.due.voltage)) None
   pub tailed : tail_fits k.state k.tail ≡ true
   pub tail_short : length k.tail ≤ tail_most
   -- what stands

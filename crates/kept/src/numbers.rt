@@ -7,7 +7,6 @@ ghost use Rattle.kept.specs.Posts.{Sized};
 
 use super::{HELD, Mark, SITE, SIZE, TAIL, pieces};
 use fields::AT_VOLTAGE;
-use lead::Voltage;
 use site::Due;
 use solar::Sun;
 use stick::Reached;
@@ -44,14 +43,14 @@ pub fn marked(s: &[u8]) -> Mark
 }
 
 // The voltage that is kept, behind a voltage field alone.
-fn voltage(s: &[u8]) -> Voltage
+fn voltage(s: &[u8]) -> Option<u16>
     requires { length s.now ≡ state_size }
     ensures { result ≡ (due_kept s.now).voltage }
 {
     if octets::u8_at(s, 13) == AT_VOLTAGE {
-        return Voltage::Said(octets::u16_at(s, 25));
+        return Some(octets::u16_at(s, 25));
     }
-    Voltage::Unsaid
+    None
 }
 
 // What the step under way has so far.
@@ -69,12 +68,12 @@ fn due_at(s: &[u8]) -> Due
 }
 
 // The number of a voltage, 0 where there is none.
-fn volts(v: Voltage) -> u16
+fn volts(v: Option<u16>) -> u16
     ensures { result ≡ volts_of v }
 {
     match v {
-        Voltage::Unsaid => 0,
-        Voltage::Said(x) => x,
+        None => 0,
+        Some(x) => x,
     }
 }
 

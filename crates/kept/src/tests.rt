@@ -58,7 +58,7 @@ fn place_fits(place: u64, stage: u8, steps: u32, site: usize, tail: usize) -> bo
 fn sun_fits(stage: u8, s: Sun) -> bool
     ensures { result ≡ sun_fits stage s }
 {
-    let size = whole::size32(s.temperature);
+    let size = s.temperature.unsigned_abs();
     if (stage == AT_READING) | (stage == AT_VOLTAGE) {
         (s.irradiance <= 100000000) & (size <= 100000000)
     } else {
@@ -100,7 +100,7 @@ fn within(site: &[u8], stored: &[u64], requests: &[i32]) -> bool
     let mut ok = true;
     for i in 0..stored.len() {
         let u = stick::unit(site, i);
-        let size = whole::size32(requests[i]);
+        let size = requests[i].unsigned_abs();
         ok = ok & ((stored[i] <= u.rated) & (size <= u.rating));
     }
     ok
@@ -134,7 +134,7 @@ fn vars_fit(s: &[u8], n: usize) -> bool
 {
     let mut ok = true;
     for i in 0..n {
-        ok = ok & (whole::size32(octets::i32_at(s, VARS + 4 * i)) <= 100000000);
+        ok = ok & (octets::i32_at(s, VARS + 4 * i).unsigned_abs() <= 100000000);
     }
     ok
 }

@@ -13,8 +13,6 @@ use Rattle.unit.specs.declared.Unit.{Unit}
 use Rattle.rules.specs.Rules.{by_current}
 use Rattle.solar.specs.declared.Inverter.{Inverter}
 use Rattle.solar.specs.Roof.{Roof, roof_in}
-use Rattle.lead.specs.declared.Voltage.{Voltage}
-use Rattle.lead.specs.declared.Voltage.TheVariants.{Unsaid, Said}
 use Rattle.lead.specs.Lead.{Function, Leading, unled, led}
 use Rattle.site.specs.Ranges.{Guided}
 use Rattle.layouts.specs.Written.{Connection, WeatherSaid, no_weather, weather, ReadingSaid, missing, powers, currents, StepSaid, Stick}
@@ -25,6 +23,7 @@ use Rattle.layouts.proofs.SayLaws.{ConnectionsFit}
 use Rattle.layouts.proofs.FitLaws.{FleetFits, fleet_fits, roof_fits, function_fits, voltage_fits}
 use Rattle.layouts.proofs.PassLaws.{behind_function, behind_roofs, behind_connections, behind_settings, behind_units, behind_fleet, roof_flat, function_flat, step_flat}
 use Rattle.layouts.proofs.StripLaws.{order, rank, field_rank, fleet_strip, unit_strip, settings_strip, curve_strip, inverter_strip, voltage_strip, base_strip, weather_strip, phases_strip, connections_strip}
+use Rattle.std.proofs.Common.{None, Option, Some}
 
 -- ---- units, of which both have as many
 units_strip : (e : ℕ) (us vs : List Unit) → Each (UnitFits e) us → Each (UnitFits e) vs → length us ≡ length vs → (x y : List ℕ)
@@ -115,7 +114,7 @@ reading_rank missing x = field_rank 0x05 [] x (lit< tt)
 reading_rank (powers a b c) x = field_rank 0x04 (u64 a ∷ u64 b ∷ u64 c ∷ []) x (lit< tt)
 reading_rank (currents a b c) x = field_rank 0x09 (u64 a ∷ u64 b ∷ u64 c ∷ []) x (lit< tt)
 
-said_rank : (n : ℕ) (x : List ℕ) → rank (voltage_field (Said n) ++ x) ≡ 4
+said_rank : (n : ℕ) (x : List ℕ) → rank (voltage_field (Some n) ++ x) ≡ 4
 unfolding voltage_field order
 said_rank n x = field_rank 0x0C (u16 n ∷ []) x (lit< tt)
 
@@ -123,10 +122,10 @@ sky_rank : (a b : ℕ) (x : List ℕ) → rank (weather_field (weather a b) ++ x
 unfolding weather_field order
 sky_rank a b x = field_rank 0x08 (u64 a ∷ u64 b ∷ []) x (lit< tt)
 
-voltage_rank : (v : Voltage) (x : List ℕ) → rank x ≡ 5 → (3 < rank (voltage_field v ++ x)) × (rank (voltage_field v ++ x) < 6)
+voltage_rank : (v : Option ℕ) (x : List ℕ) → rank x ≡ 5 → (3 < rank (voltage_field v ++ x)) × (rank (voltage_field v ++ x) < 6)
 unfolding voltage_field
-voltage_rank Unsaid x h = (omega arith, omega arith)
-voltage_rank (Said n) x h = (omega (arith, said_rank n x), omega (arith, said_rank n x))
+voltage_rank None x h = (omega arith, omega arith)
+voltage_rank (Some n) x h = (omega (arith, said_rank n x), omega (arith, said_rank n x))
 
 weather_rank : (w : WeatherSaid) (x : List ℕ) → (3 < rank x) × (rank x < 6) → (2 < rank (weather_field w ++ x)) × (rank (weather_field w ++ x) < 6)
 unfolding weather_field
@@ -143,15 +142,15 @@ some_weather_strip (weather a b) (weather c d) f g x y hx hy e =
     let s = weather_strip x y a b c d f.0.0 f.0.1 g.0.0 g.0.1 e in
     (λ i. weather (s.0 i) (s.1 i), s.2)
 
-some_voltage_strip : (k l : Leading) (v w : Voltage) → VoltageFits k v → VoltageFits l w → (x y : List ℕ) → 4 < rank x → 4 < rank y
+some_voltage_strip : (k l : Leading) (v w : Option ℕ) → VoltageFits k v → VoltageFits l w → (x y : List ℕ) → 4 < rank x → 4 < rank y
     → voltage_field v ++ x ≡ voltage_field w ++ y → (v ≡ w) × (x ≡ y)
 unfolding voltage_field
-some_voltage_strip k l Unsaid Unsaid f g x y hx hy e = (refl, e)
-some_voltage_strip k l Unsaid (Said n) f g x y hx hy e = absurd (omega (arith, ap rank e, said_rank n y))
-some_voltage_strip k l (Said n) Unsaid f g x y hx hy e = absurd (omega (arith, ap rank e, said_rank n x))
-some_voltage_strip k l (Said n) (Said m) f g x y hx hy e =
+some_voltage_strip k l None None f g x y hx hy e = (refl, e)
+some_voltage_strip k l None (Some n) f g x y hx hy e = absurd (omega (arith, ap rank e, said_rank n y))
+some_voltage_strip k l (Some n) None f g x y hx hy e = absurd (omega (arith, ap rank e, said_rank n x))
+some_voltage_strip k l (Some n) (Some m) f g x y hx hy e =
     let s = voltage_strip x y n m (voltage_fits k n f) (voltage_fits l m g) e in
-    (λ i. Said (s.0 i), s.1)
+    (λ i. Some (s.0 i), s.1)
 
 abbrev reading_tag : ReadingSaid → ℕ
 reading_tag missing = 5

@@ -21,13 +21,13 @@ use Rattle.curve.specs.Ranges.{points_in}
 use Rattle.curve.proofs.OrderLaws.{size_up, size_within}
 use Rattle.curve.proofs.RangeLaws.{points_some, points_bounded}
 use Rattle.solar.specs.Roof.{Roof, inverter_in, roof_in, warm_bounds, efficiency_bounds}
-use Rattle.lead.specs.declared.Voltage.TheVariants.{Said}
 use Rattle.lead.specs.Lead.{Leading, unled, led, Function, function_in, volt_var_bounds}
 use Rattle.site.specs.declared.Head.{Head}
 use Rattle.layouts.specs.Written.{Connection}
 use Rattle.layouts.specs.Layout.{Number, u8, u16, u32, u64, size, unit_numbers, connection_numbers, point_numbers, zeros}
 use Rattle.layouts.specs.Ranges.{Each, Connected, VoltageFits}
 use Rattle.layouts.proofs.SayLaws.{within, signed_fits, unit_size_lem, connections_size_lem, PointsFit, curve_size}
+use Rattle.std.proofs.Common.{Some}
 
 -- ---- of every one of a list, from that at each place, and the other way round
 each_of : {A : Type 0} (P : A → Type 0) (d : A) (l : List A) → ((i : ℕ) → i < length l → P (get_or l i d)) → Each P l
@@ -114,7 +114,7 @@ function_fits f e =
     }
 
 -- ---- a step's voltage
-pub voltage_fits : (l : Leading) (x : ℕ) → VoltageFits l (Said x) → x < 65536
+pub voltage_fits : (l : Leading) (x : ℕ) → VoltageFits l (Some x) → x < 65536
 voltage_fits unled x f = absurd f
 voltage_fits (led g) x f = let h = leb-true x 20000 f in omega arith
 

@@ -8,8 +8,6 @@ use Rattle.whole.proofs.OverLaws.{and_parts}
 use Rattle.unit.specs.declared.Unit.{Unit}
 use Rattle.curve.specs.Curve.{Point}
 use Rattle.solar.specs.Roof.{Roof, roof_in}
-use Rattle.lead.specs.declared.Voltage.{Voltage}
-use Rattle.lead.specs.declared.Voltage.TheVariants.{Unsaid, Said}
 use Rattle.lead.specs.Lead.{Function, Leading, unled, led}
 use Rattle.site.specs.declared.Head.{Head}
 use Rattle.site.specs.Ranges.{Guided}
@@ -17,6 +15,7 @@ use Rattle.layouts.specs.Written.{Connection, WeatherSaid, no_weather, weather, 
 use Rattle.layouts.specs.Layout.{Number, u8, field, joined, fleet_field, unit_numbers, unit_field, settings_field, connection_numbers, connections_field, inverter_field, curve_field, roof_fields, function_fields, weather_field, voltage_field, reading_field, step_fields, end_field}
 use Rattle.layouts.specs.Ranges.{Each, UnitFits, StepFits}
 use Rattle.layouts.proofs.FitLaws.{roof_fits, function_fits, Laid, fleet_laid, unit_laid, settings_laid, connections_laid, inverter_laid, curve_laid, base_laid, weather_laid, voltage_laid, missing_laid, powers_laid, currents_laid, end_laid}
+use Rattle.std.proofs.Common.{None, Option, Some}
 
 -- ---- the parts of a stick that are laid behind its fleet, its units, its settings, its connections, its roofs and its function
 abbrev pub behind_function : Stick → List ℕ
@@ -120,10 +119,10 @@ module _ {B : Type 0} (v : List ℕ → B) (ok : ℕ → Bool) (by : PassesField
   pass_weather o no_weather = λ b. refl
   pass_weather o (weather i t) = by 0x08 _ (weather_laid i t) o
 
-  pass_voltage : ok 0x0C ≡ true → (x : Voltage) → Passes v (voltage_field x)
+  pass_voltage : ok 0x0C ≡ true → (x : Option ℕ) → Passes v (voltage_field x)
   unfolding voltage_field
-  pass_voltage o Unsaid = λ b. refl
-  pass_voltage o (Said x) = by 0x0C _ (voltage_laid x) o
+  pass_voltage o None = λ b. refl
+  pass_voltage o (Some x) = by 0x0C _ (voltage_laid x) o
 
   pass_reading : ok 0x04 ≡ true → ok 0x05 ≡ true → ok 0x09 ≡ true → (r : ReadingSaid) → Passes v (reading_field r)
   unfolding reading_field

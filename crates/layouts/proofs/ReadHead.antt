@@ -18,7 +18,6 @@ use Rattle.rules.specs.Rules.{by_current}
 use Rattle.rules.specs.Ranges.{settings_in}
 use Rattle.curve.specs.Layout.{points_at, curve_in}
 use Rattle.solar.specs.Roof.{Roof, inverter_in, roof_in, warm_bounds, efficiency_bounds}
-use Rattle.lead.specs.declared.Voltage.TheVariants.{Unsaid}
 use Rattle.lead.specs.Lead.{Leading, unled, led, volt_var_bounds, function_in}
 use Rattle.site.specs.declared.Head.{Head}
 use Rattle.site.specs.Ranges.{Guided}
@@ -33,6 +32,7 @@ use Rattle.layouts.specs.Ranges.{Each, UnitFits, Connected}
 use Rattle.layouts.proofs.LieLaws.{unit_lies, settings_lie, connections_lie, inverter_lies, curve_lies, base_lies}
 use Rattle.layouts.proofs.ReadLaws.{Reads, Field, field_first, lies_at, value_at}
 use Rattle.layouts.proofs.ReadSteps.{opened, behind_function_lem, StepsRead, read_steps}
+use Rattle.std.proofs.Common.{None}
 
 -- a list before the others of a list
 behind : (x xs rest : List ℕ) {b c : List ℕ} → b ≡ x ++ c → c ≡ xs ++ rest → b ≡ (x ++ xs) ++ rest
@@ -160,7 +160,7 @@ module _ (c : Bool) where
     pub guided : Guided leading
     pub rest : List ℕ
     pub laid : b ≡ function_fields leading ++ rest
-    pub after : StepsRead c leading 0 no_weather Unsaid rest
+    pub after : StepsRead c leading 0 no_weather None rest
 
   -- ---- the roofs, and what follows them
   pub record RoofsRead (left : ℕ) (b : List ℕ) : Type 0 where
@@ -187,7 +187,7 @@ module _ (c : Bool) where
       guided = zero-le;
       rest = b;
       laid = refl;
-      after = read_steps c unled r no_weather Unsaid (record { current = refl; led = refl; few = zero-le; weather = zero-le; voltage = zero-le; waits = opened o refl refl });
+      after = read_steps c unled r no_weather None (record { current = refl; led = refl; few = zero-le; weather = zero-le; voltage = zero-le; waits = opened o refl refl });
     }
 
     -- a function and its curve
@@ -207,7 +207,7 @@ module _ (c : Bool) where
           rest = b₂;
           laid = behind (field 0x0B (u8 (be 1 b 3) ∷ [])) (curve_field (points_at b₁ 3)) b₂ (base_lies b (lies_at head.first 11 eleven)) curve.1;
           after =
-              read_steps c (led (record { base = be 1 b 3; curve = points_at b₁ 3 })) (f.more 7 tag) no_weather Unsaid
+              read_steps c (led (record { base = be 1 b 3; curve = points_at b₁ 3 })) (f.more 7 tag) no_weather None
               (record { current = refl; led = refl; few = zero-le; weather = zero-le; voltage = zero-le; waits = behind_function_lem refl refl refl });
         }
 

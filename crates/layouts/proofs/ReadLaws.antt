@@ -11,7 +11,6 @@ use borrow.Author.Tests.{eqb-true, ltb-false}
 use Rattle.whole.proofs.Choice.{passed_failed}
 use Rattle.parts.specs.Header.{tag_at, length_at, past}
 use Rattle.fields.specs.declared.State.{State}
-use Rattle.fields.specs.declared.Taken.TheVariants.{Next}
 use Rattle.fields.specs.Fields.{size_of, allowed, too_many, value_of, state_after}
 use Rattle.fields.proofs.TakenLaws.{not_many}
 use Rattle.stick.specs.declared.Answer.{Answer}
@@ -25,6 +24,7 @@ use Rattle.stick.proofs.ReachLaws.{walk_reach}
 use Rattle.chunks.proofs.FieldChunks.{field_shift, past_shift}
 use Rattle.chunks.proofs.ReachChunks.{Went, there, passing, apart, far_gone, far_all}
 use Rattle.layouts.proofs.LieLaws.{Lies}
+use Rattle.std.proofs.Common.{Ok}
 
 -- ---- the field at the head of bytes is taken
 pub record First (st : State) (b : List ℕ) : Type 0 where
@@ -67,7 +67,7 @@ at_end_lem (ended z n) e = n
 at_end_lem (reads f more) e = absurd (passed_failed (ap (λ (n : ℕ). eqb n 0) e) f.going)
 
 -- ---- a field that is taken
-first_taken : (st m : State) (b : List ℕ) → ((i : ℕ) → get_or b i 0 < 256) → eqb st.stage 0 ≡ false → field_at st b 0 ≡ Next m
+first_taken : (st m : State) (b : List ℕ) → ((i : ℕ) → get_or b i 0 < 256) → eqb st.stage 0 ≡ false → field_at st b 0 ≡ Ok m
     → First st b × (state_after st (tag_at b 0) b 3 ≡ m)
 first_taken st m b small going e =
     field_cases st b 0 (omega arith)
@@ -86,7 +86,7 @@ module _ (file : List ℕ) (small : (i : ℕ) → get_or file i 0 < 256) where
       let long : length a ≡ i = length-take-le i file h in
       let place : length a + 0 ≡ i = omega arith in
       let whole : a ++ b ≡ file = take-append-drop i file in
-      let here : field_at st b 0 ≡ Next m = sym (field_shift st a b 0) ∙ ap₂ (field_at st) whole place ∙ f in
+      let here : field_at st b 0 ≡ Ok m = sym (field_shift st a b 0) ∙ ap₂ (field_at st) whole place ∙ f in
       let at : past file i ≡ i + past b 0 = ap₂ past (sym whole) (sym place) ∙ past_shift a b 0 ∙ ap (λ (n : ℕ). n + past b 0) long in
       let rest : drop (past file i) file ≡ drop (past b 0) b = ap (λ (n : ℕ). drop n file) at ∙ sym (drop-drop (past b 0) i file) in
       let t = first_taken st m b (λ k. subst (λ (n : ℕ). n < 256) (sym (get_or-drop i file k 0)) (small (i + k))) g here in

@@ -9,8 +9,6 @@ use Rattle.reading.specs.declared.Reading.{Reading}
 use Rattle.reading.specs.declared.Reading.TheVariants.{Power, Current}
 use Rattle.solar.specs.declared.Sun.{Sun}
 use Rattle.solar.specs.Weather.{sky_of, sun_or}
-use Rattle.lead.specs.declared.Voltage.{Voltage}
-use Rattle.lead.specs.declared.Voltage.TheVariants.{Unsaid, Said}
 use Rattle.lead.specs.Lead.{Leading}
 use Rattle.site.specs.declared.Step.{Step}
 use Rattle.site.specs.declared.Due.{Due}
@@ -25,6 +23,7 @@ use Rattle.layouts.proofs.SayLaws.{weather_says, voltage_says, phases_say}
 use Rattle.layouts.proofs.FitLaws.{voltage_fits, weather_laid, voltage_laid, missing_laid, powers_laid, currents_laid}
 use Rattle.layouts.proofs.FirstLaws.{reading_first, steps_by_first}
 use Rattle.layouts.proofs.PassLaws.{step_flat, PassesFields}
+use Rattle.std.proofs.Common.{None, Option, Some}
 
 -- the steps of bytes, by what the step under way has
 abbrev pub steps_by : List ℕ → Due → List Step
@@ -41,7 +40,7 @@ of_none t = not (is_reading t || eqb t 0x08 || eqb t 0x0C)
 pub passes_none : PassesFields steps_by of_none
 passes_none t ns l o b = λ j d. (steps_by_first t ns l b d ∙ go d (is_reading t) (eqb t 0x08) (eqb t 0x0C) (reading_at (field t ns ++ b) 0) (sun_at (field t ns ++ b) 0) (voltage_at (field t ns ++ b) 0) o) j
   where
-    go : (d : Due) (r w v : Bool) (x : Reading) (s : Sun) (y : Voltage) → not (r || w || v) ≡ true
+    go : (d : Due) (r w v : Bool) (x : Reading) (s : Sun) (y : Option ℕ) → not (r || w || v) ≡ true
         → let e = cond r none_yet (cond w (due s d.voltage) (cond v (due d.sun y) d)) in
         cond r (step_with x d ∷ steps_from b e 0) (steps_from b e 0) ≡ steps_from b d 0
     go d true w v x s y n = absurd (passed_failed n refl)
@@ -51,16 +50,16 @@ passes_none t ns l o b = λ j d. (steps_by_first t ns l b d ∙ go d (is_reading
 
 -- ---- a step's fields
 module _ (b : List ℕ) where
-  by_weather : (w : WeatherSaid) → WeatherFits w → steps_by (weather_field w ++ b) none_yet ≡ steps_by b (due (sun_said w) Unsaid)
+  by_weather : (w : WeatherSaid) → WeatherFits w → steps_by (weather_field w ++ b) none_yet ≡ steps_by b (due (sun_said w) None)
   unfolding weather_field sun_at
   by_weather no_weather f = refl
   by_weather (weather i t) f =
-      steps_by_first 0x08 _ (weather_laid i t) b none_yet ∙ ap (λ w. steps_from b (due (sun_or (sky_of w)) Unsaid) 0) (weather_says b i t f.0.0 f.0.1)
+      steps_by_first 0x08 _ (weather_laid i t) b none_yet ∙ ap (λ w. steps_from b (due (sun_or (sky_of w)) None) 0) (weather_says b i t f.0.0 f.0.1)
 
-  by_voltage : (s : Sun) (l : Leading) (v : Voltage) → VoltageFits l v → steps_by (voltage_field v ++ b) (due s Unsaid) ≡ steps_by b (due s v)
+  by_voltage : (s : Sun) (l : Leading) (v : Option ℕ) → VoltageFits l v → steps_by (voltage_field v ++ b) (due s None) ≡ steps_by b (due s v)
   unfolding voltage_field voltage_at
-  by_voltage s l Unsaid f = refl
-  by_voltage s l (Said x) f = steps_by_first 0x0C _ (voltage_laid x) b (due s Unsaid) ∙ ap (λ (n : ℕ). steps_from b (due s (Said n)) 0) (voltage_says b x (voltage_fits l x f))
+  by_voltage s l None f = refl
+  by_voltage s l (Some x) f = steps_by_first 0x0C _ (voltage_laid x) b (due s None) ∙ ap (λ (n : ℕ). steps_from b (due s (Some n)) 0) (voltage_says b x (voltage_fits l x f))
 
   by_reading : (current : Bool) (r : ReadingSaid) → ReadingFits current r → (d : Due) → steps_by (reading_field r ++ b) d ≡ step_with (reading_said r) d ∷ steps_by b none_yet
   unfolding reading_field

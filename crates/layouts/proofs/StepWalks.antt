@@ -11,11 +11,7 @@ use Rattle.reading.specs.declared.Phases.{Phases}
 use Rattle.reading.specs.declared.Reading.TheVariants.{Power, Current}
 use Rattle.reading.specs.Choice.{refusal_of}
 use Rattle.solar.specs.declared.Weather.{Weather}
-use Rattle.solar.specs.declared.Sky.{Sky}
-use Rattle.solar.specs.declared.Sky.TheVariants.{Clear, Unknown}
 use Rattle.solar.specs.Weather.{sky_of}
-use Rattle.lead.specs.declared.Voltage.{Voltage}
-use Rattle.lead.specs.declared.Voltage.TheVariants.{Unsaid, Said}
 use Rattle.lead.specs.Lead.{Leading, unled, led, voltage_in}
 use Rattle.fields.specs.declared.State.{State}
 use Rattle.fields.specs.Fields.{at_end, at_steps, at_reading, at_voltage, begins, closes, only, kinds, size_in, size_of, stands_in, allowed, six_unless, five_unless, value_of, gone_to, roof_after, state_after}
@@ -25,14 +21,16 @@ use Rattle.layouts.specs.Ranges.{Each, WeatherFits, VoltageFits, ReadingFits, St
 use Rattle.layouts.proofs.SayLaws.{weather_says, voltage_says, phases_say, end_says}
 use Rattle.layouts.proofs.FitLaws.{voltage_fits, weather_laid, voltage_laid, missing_laid, powers_laid, currents_laid, end_laid}
 use Rattle.layouts.proofs.WalkLaws.{Walks, walks_none, walks_append, walks_field, leads, Stands, stands_as, stands_gone}
+use Rattle.std.proofs.Common.{None, Option, Some}
+use Rattle.solar.specs.declared.Sun.{Sun}
 
 -- where a voltage or a reading may stand
 abbrev ready : State → Bool
 ready st = begins st || only at_reading st
 
-clear : (k : Sky) → (k ≡ Unknown → ⊥) → six_unless k ≡ 0
-clear (Clear s) n = refl
-clear Unknown n = absurd (n refl)
+clear : (k : Option Sun) → (k ≡ None → ⊥) → six_unless k ≡ 0
+clear (Some s) n = refl
+clear None n = absurd (n refl)
 
 weather_walks : (amps guided : Bool) (n : ℕ) (w : WeatherSaid) (st : State) → Stands begins amps guided n st → WeatherFits w
     → (m : State) × (Walks st (weather_field w) m × Stands ready amps guided n m)
@@ -44,13 +42,13 @@ weather_walks amps guided n (weather i t) st s f =
     let value = ap (λ (w : Weather). six_unless (sky_of w)) (weather_says [] i t f.0.0 f.0.1) ∙ clear _ f.1 in
     (m, (walks_field st 8 _ (weather_laid i t) refl s.awake s.passes refl value m refl, stands_gone at_reading st.left refl refl s))
 
-voltage_walks : (amps : Bool) (n : ℕ) (l : Leading) (v : Voltage) (st : State) → Stands ready amps (leads l) n st → VoltageFits l v
+voltage_walks : (amps : Bool) (n : ℕ) (l : Leading) (v : Option ℕ) (st : State) → Stands ready amps (leads l) n st → VoltageFits l v
     → (m : State) × (Walks st (voltage_field v) m × Stands closes amps (leads l) n m)
 unfolding voltage_field kinds size_in size_of size stands_in allowed value_of roof_after state_after
-voltage_walks amps n l Unsaid st s f =
+voltage_walks amps n l None st s f =
     (st, (walks_none, stands_as (ap (λ (b : Bool). b || only at_voltage st) s.passes) s))
-voltage_walks amps n unled (Said x) st s f = absurd f
-voltage_walks amps n (led g) (Said x) st s f =
+voltage_walks amps n unled (Some x) st s f = absurd f
+voltage_walks amps n (led g) (Some x) st s f =
     let m = gone_to st at_voltage st.left st.steps in
     let value = ap five_unless (ap voltage_in (voltage_says [] x (voltage_fits (led g) x f)) ∙ f) in
     (m, (walks_field st 12 _ (voltage_laid x) refl s.awake (ap₂ ◌&&◌ s.passes s.led) refl value m refl, stands_gone at_voltage st.left refl refl s))

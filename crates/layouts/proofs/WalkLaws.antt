@@ -10,7 +10,6 @@ use Rattle.octets.specs.BigEndian.{be}
 use Rattle.parts.specs.Header.{past}
 use Rattle.lead.specs.Lead.{Leading, unled, led}
 use Rattle.fields.specs.declared.State.{State}
-use Rattle.fields.specs.declared.Taken.TheVariants.{Next}
 use Rattle.fields.specs.Fields.{size_of, head_of, allowed, too_many, value_of, refused_by, state_after, taken_by, gone_to}
 use Rattle.fields.proofs.FieldLaws.{head_held}
 use Rattle.fields.proofs.TakenLaws.{by_value, goes_on}
@@ -22,6 +21,7 @@ use Rattle.chunks.proofs.CutProved.{cut_law}
 use Rattle.layouts.specs.Layout.{Number, size, field}
 use Rattle.layouts.proofs.NumberLaws.{field_length, field_tag, field_size_lem, field_past}
 use Rattle.layouts.proofs.FitLaws.{Laid}
+use Rattle.std.proofs.Common.{Ok}
 
 -- bytes that are whole fields and lead from a state to another
 pub record Walks (st : State) (bytes : List ℕ) (m : State) : Type 0 where
@@ -42,7 +42,7 @@ module _ (st : State) (tag : ℕ) (ns : List Number) (can : Laid tag ns) where
   abbrev laid : List ℕ
   laid = field tag ns ++ []
 
-  taken : size_of st tag ≡ size ns → allowed st tag ≡ true → too_many st tag ≡ false → value_of st tag laid 3 ≡ 0 → field_at st laid 0 ≡ Next (state_after st tag laid 3)
+  taken : size_of st tag ≡ size ns → allowed st tag ≡ true → too_many st tag ≡ false → value_of st tag laid 3 ≡ 0 → field_at st laid 0 ≡ Ok (state_after st tag laid 3)
   taken long stands few value =
       let t : tag ≡ be 1 laid 0 = sym (field_tag tag ns [] can.tagged) in
       let l : size ns ≡ be 2 laid 1 = sym (field_size_lem tag ns [] can.few) in
@@ -61,7 +61,7 @@ module _ (st : State) (tag : ℕ) (ns : List Number) (can : Laid tag ns) where
       let over : past laid 0 ≡ length (field tag ns) = field_past tag ns [] can.few in
       let end : past laid 0 ≡ length laid = over ∙ ap length (sym same) in
       let far : reach_of (length laid) st laid 0 ≡ reached 0 (length laid) m =
-      reach_step laid (length laid) st 0 false (Next m) (omega arith) (omega arith) awake (taken long stands few value ∙ ap Next next)
+      reach_step laid (length laid) st 0 false (Ok m) (omega arith) (omega arith) awake (taken long stands few value ∙ ap Ok next)
       ∙ ap (reach_of (length laid) m laid) end
       ∙ reach_over laid (length laid) m (length laid) (omega arith) in
       subst (λ (bytes : List ℕ). Walks st bytes m) same (record { reach = far })

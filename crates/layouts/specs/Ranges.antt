@@ -1,5 +1,5 @@
 -- What a run file may say: each value in its range, as docs/LAYOUTS.md has it.
-use Rattle.std.specs.Prelude.{ℕ, ◌≤◌, ◌<◌, ◌^◌, Bool, true, false, List, [], ◌∷◌, ◌⊎◌, ◌≡◌, length}
+use Rattle.std.specs.Prelude.{ℕ, ◌≤◌, ◌<◌, ◌^◌, Bool, true, false, List, [], ◌∷◌, ◌⊎◌, ◌≡◌, length, None, Option, Some}
 use Rattle.std.specs.Float.{binary64}
 use Rattle.std.specs.Float.Ieee.{of_bits}
 use Rattle.whole.specs.Interval.{between}
@@ -11,11 +11,8 @@ use Rattle.reading.specs.declared.Phases.{Phases}
 use Rattle.reading.specs.declared.Reading.TheVariants.{Power, Current}
 use Rattle.reading.specs.Choice.{refusal_of}
 use Rattle.solar.specs.declared.Weather.{Weather}
-use Rattle.solar.specs.declared.Sky.TheVariants.{Unknown}
 use Rattle.solar.specs.Roof.{Roof, roof_in}
 use Rattle.solar.specs.Weather.{sky_of}
-use Rattle.lead.specs.declared.Voltage.{Voltage}
-use Rattle.lead.specs.declared.Voltage.TheVariants.{Unsaid, Said}
 use Rattle.lead.specs.Lead.{Leading, unled, led, voltage_in}
 use Rattle.site.specs.Ranges.{Guided}
 use Rattle.layouts.specs.Written.{Connection, WeatherSaid, no_weather, weather, ReadingSaid, missing, powers, currents, StepSaid, Stick}
@@ -53,12 +50,12 @@ Bits n = n < 2 ^ 64
 -- a step: what converts, a voltage only under a function, powers by watts and currents by current
 abbrev pub WeatherFits : WeatherSaid → Type 0
 WeatherFits no_weather = 0 ≤ 0
-WeatherFits (weather i t) = (Bits i × Bits t) × (sky_of (sky_bits i t) ≡ Unknown → ⊥)
+WeatherFits (weather i t) = (Bits i × Bits t) × (sky_of (sky_bits i t) ≡ None → ⊥)
 
-abbrev pub VoltageFits : Leading → Voltage → Type 0
-VoltageFits l Unsaid = 0 ≤ 0
-VoltageFits unled (Said x) = ⊥
-VoltageFits (led f) (Said x) = voltage_in x ≡ true
+abbrev pub VoltageFits : Leading → Option ℕ → Type 0
+VoltageFits l None = 0 ≤ 0
+VoltageFits unled (Some x) = ⊥
+VoltageFits (led f) (Some x) = voltage_in x ≡ true
 
 abbrev pub ReadingFits : Bool → ReadingSaid → Type 0
 ReadingFits current missing = 0 ≤ 0

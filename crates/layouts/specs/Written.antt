@@ -1,8 +1,7 @@
 -- What a run file says, in the order in which it says it: its values as people would write them down. A double stands by its 64 bits, as it lies in the file.
-use Rattle.std.specs.Prelude.{ℕ, ◌*◌, List, []}
+use Rattle.std.specs.Prelude.{ℕ, ◌*◌, List, [], Option}
 use Rattle.unit.specs.declared.Unit.{Unit}
 use Rattle.solar.specs.Roof.{Roof}
-use Rattle.lead.specs.declared.Voltage.{Voltage}
 use Rattle.lead.specs.Lead.{Leading}
 use Rattle.site.specs.declared.Head.{Head}
 
@@ -24,7 +23,7 @@ pub data ReadingSaid : Type 0 where
 
 pub record StepSaid : Type 0 where
   pub weather : WeatherSaid
-  pub voltage : Voltage
+  pub voltage : Option ℕ
   pub reading : ReadingSaid
 
 -- the whole of it. A unit's idle loss stands as its DC loss, wherever its edition puts it; the connections are none, or one for each unit

@@ -23,10 +23,9 @@ use Rattle.curve.specs.Posts.{Usable}
 use Rattle.curve.proofs.OrderLaws.{size_up, size_within}
 use Rattle.curve.proofs.PointLaws.{points_count, points_point}
 use Rattle.curve.proofs.RangeLaws.{points_some, points_bounded, curve_bounded}
-use Rattle.lead.specs.declared.Voltage.{Voltage}
-use Rattle.lead.specs.declared.Voltage.TheVariants.{Unsaid, Said}
 use Rattle.lead.specs.Lead.{Function, volt_var_bounds, function_in, lead, lead_of}
 use Rattle.lead.specs.Posts.{function_here, leading_here, LeadingThere}
+use Rattle.std.proofs.Common.{None, Option, Some}
 
 -- ---- the curve of a function in its ranges has no value above 1 either way
 pub curve_small : (f : Function) → function_in f ≡ true → (x : ℤ) → nat_abs (curve_at f.curve x) ≤ 10000
@@ -84,7 +83,7 @@ module _ (bytes : List ℕ) (at : ℕ) (h : LeadingThere bytes true at) where
     value_most = subst⁻¹ (λ (z : ℤ). nat_abs z ≤ 10000) value_is (value_small (pos x))
 
 -- ---- what leads a step, by the tests that the code makes
-module _ (bytes : List ℕ) (there : Bool) (at : ℕ) (v : Voltage) where
+module _ (bytes : List ℕ) (there : Bool) (at : ℕ) (v : Option ℕ) where
   pub unled_is : not there ≡ true → lead false false false (pos 0) ≡ lead_of (leading_here bytes there at) v
   unfolding lead_of
   unled_is t = sym (ap (λ (d : Bool). lead_of (leading_here bytes d at) v) (not-true there t))
@@ -95,15 +94,15 @@ module _ (bytes : List ℕ) (there : Bool) (at : ℕ) (v : Voltage) where
 
     -- the base as it was read
     module _ (b : ℕ) (e : b ≡ be 1 bytes (at + 3)) where
-      pub unsaid_is : v ≡ Unsaid → lead true (eqb b 1) false (pos 0) ≡ lead_of (leading_here bytes there at) v
+      pub unsaid_is : v ≡ None → lead true (eqb b 1) false (pos 0) ≡ lead_of (leading_here bytes there at) v
       unfolding lead_of function_here
       unsaid_is u =
           ap (λ (n : ℕ). lead true (eqb n 1) false (pos 0)) e
-          ∙ sym (ap₂ (λ (d : Bool) (w : Voltage). lead_of (leading_here bytes d at) w) (not-false there t) u)
+          ∙ sym (ap₂ (λ (d : Bool) (w : Option ℕ). lead_of (leading_here bytes d at) w) (not-false there t) u)
 
-      pub said_is : (x : ℕ) → v ≡ Said x → (y : ℤ) → mag y < 2 ^ 31 → y ≡ curve_at (points_at bytes (at + 7)) (pos x)
+      pub said_is : (x : ℕ) → v ≡ Some x → (y : ℤ) → mag y < 2 ^ 31 → y ≡ curve_at (points_at bytes (at + 7)) (pos x)
           → lead true (eqb b 1) true (to_z w32 (of_z w32 y)) ≡ lead_of (leading_here bytes there at) v
       unfolding lead_of function_here
       said_is x u y h ey =
           ap₂ (λ (n : ℕ) (z : ℤ). lead true (eqb n 1) true z) e (read w32 y h ∙ ey)
-          ∙ sym (ap₂ (λ (d : Bool) (w : Voltage). lead_of (leading_here bytes d at) w) (not-false there t) u)
+          ∙ sym (ap₂ (λ (d : Bool) (w : Option ℕ). lead_of (leading_here bytes d at) w) (not-false there t) u)

@@ -1,12 +1,10 @@
 -- Voltage-led vars (rules L1 to L5): what leads a step of a site, and the vars that are requested of a unit or an inverter in it.
-use Rattle.std.specs.Prelude.{ℕ, ◌≤◌, Bool, true, false, cond, ◌&&◌, List, leb, eqb, ℤ, pos, neg_ℤ, nat_abs, ◌*ℤ◌}
+use Rattle.std.specs.Prelude.{ℕ, ◌≤◌, Bool, true, false, cond, ◌&&◌, List, leb, eqb, ℤ, pos, neg_ℤ, nat_abs, ◌*ℤ◌, None, Option, Some}
 use Rattle.whole.specs.Largest.{leg_of}
 use Rattle.whole.specs.Quotient.{cut}
 use Rattle.curve.specs.declared.Bounds.{Bounds}
 use Rattle.curve.specs.Curve.{Point, curve_at}
 use Rattle.curve.specs.Ranges.{points_in}
-use Rattle.lead.specs.declared.Voltage.{Voltage}
-use Rattle.lead.specs.declared.Voltage.TheVariants.{Unsaid, Said}
 use Rattle.lead.specs.declared.Lead.{Lead}
 
 -- L1: a function is a base, 0 for S and 1 for what the circle leaves after the watts, and a volt-var curve; a site has one or none
@@ -36,11 +34,11 @@ after_watts f = eqb f.base 1
 abbrev pub lead : Bool → Bool → Bool → ℤ → Lead
 lead leads after fresh y = record { leads = leads; after = after; fresh = fresh; y = y }
 
-unfoldable pub lead_of : Leading → Voltage → Lead
+unfoldable pub lead_of : Leading → Option ℕ → Lead
 unfolding curve_at
 lead_of unled v = lead false false false (pos 0)
-lead_of (led f) Unsaid = lead true (after_watts f) false (pos 0)
-lead_of (led f) (Said x) = lead true (after_watts f) true (curve_at f.curve (pos x))
+lead_of (led f) None = lead true (after_watts f) false (pos 0)
+lead_of (led f) (Some x) = lead true (after_watts f) true (curve_at f.curve (pos x))
 
 -- L5: the priority that counts: watts first where the base is what they leave
 abbrev pub first_by : Lead → ℕ → ℕ

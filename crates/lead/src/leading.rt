@@ -6,7 +6,7 @@ ghost use Rattle.lead.specs.Lead.{lead_of, first_by, base_of, requested_by, kept
 ghost use Rattle.lead.specs.Lead.{Modest};
 ghost use Rattle.lead.specs.Posts.{leading_here, LeadingThere};
 
-use super::{Lead, Voltage};
+use super::Lead;
 
 // The priority that counts: watts first where the base is what they leave of the circle.
 pub fn first(l: Lead, priority: u8) -> u8
@@ -28,7 +28,7 @@ pub fn part(l: Lead, base: u32) -> i32
     requires base_bound { base ≤ 100000000 }
     ensures { result ≡ cut (pos base *ℤ l.y) 10000 }
 {
-    let size = whole::size32(l.y) as u64;
+    let size = l.y.unsigned_abs() as u64;
     let parts = (base as u64) * size / 10000;
     whole::signed32(whole::below_zero32(l.y), parts as u32)
 }
@@ -64,7 +64,7 @@ fn value_at(bytes: &[u8], at: usize, x: u16) -> i32
 
 // What leads a step with a voltage or none, by the function whose field stands at a place of bytes,
 // its curve's field behind it, if there is one.
-pub fn lead_at(bytes: &[u8], there: bool, at: usize, v: Voltage) -> Lead
+pub fn lead_at(bytes: &[u8], there: bool, at: usize, v: Option<u16>) -> Lead
     requires { LeadingThere bytes.now there at }
     ensures value { result ≡ lead_of (leading_here bytes.now there at) v }
     ensures modest { Modest result }
@@ -78,7 +78,7 @@ pub fn lead_at(bytes: &[u8], there: bool, at: usize, v: Voltage) -> Lead
         };
     }
     let after = octets::u8_at(bytes, at + 3) == 1;
-    let Voltage::Said(x) = v else {
+    let Some(x) = v else {
         return Lead {
             leads: true,
             after,

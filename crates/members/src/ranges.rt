@@ -61,7 +61,7 @@ pub fn within_ratings(rating: &[u32], requests: &[i32]) -> bool
 {
     let mut ok = true;
     for i in 0..requests.len() {
-        let size = whole::size32(requests[i]);
+        let size = requests[i].unsigned_abs();
         ok = ok & (size <= rating[i]);
     }
     ok

@@ -51,7 +51,7 @@ pub fn share_sized(
     ensures value { result ≡ changed_of requests.old requests.new }
 {
     let below = whole::below_zero64(w.plain);
-    let size = whole::size64(w.plain);
+    let size = w.plain.unsigned_abs();
     let mut changed = false;
     for i in 0..requests.len() {
         let old = requests[i];

@@ -1,7 +1,7 @@
 -- The verdict on a partner's result (rules J1 to J7): right, or the first field of ours that does not stand there. Shown are the bytes that stand in its place or, where
 -- there are none, the field of the run file that asks for it.
-use Rattle.std.specs.Prelude.{ℕ, ◌+◌, Bool, true, false, cond, ◌&&◌, List, [], ◌∷◌, ◌++◌, map, eqb, length, take, drop, replicate}
-use Rattle.whole.specs.Call.{Call, Gave, Refused}
+use Rattle.std.specs.Prelude.{ℕ, ◌+◌, Bool, true, false, cond, ◌&&◌, List, [], ◌∷◌, ◌++◌, map, eqb, length, take, drop, replicate, Err, Ok}
+use Rattle.whole.specs.Call.{Call}
 use Rattle.octets.specs.BigEndian.{be}
 use Rattle.parts.specs.Header.{header, tag_at, length_at}
 use Rattle.fields.specs.Fields.{is_reading}
@@ -86,5 +86,5 @@ unfolding check_of verdict_of
 partner_answer run result = cond (eqb (check_of run).number 0) (Judged (verdict_of run result)) (Unjudged (check_of run))
 
 abbrev pub partner_call : PartnerAnswer → Call Verdict
-partner_call (Judged v) = Gave v
-partner_call (Unjudged a) = Refused (refusal_by a)
+partner_call (Judged v) = Ok v
+partner_call (Unjudged a) = Err (refusal_by a)

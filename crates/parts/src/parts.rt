@@ -19,7 +19,7 @@ pub fn part_start(file: &[u8], place: u64) -> u64
     if head_there(size, place) {
         return place + 3;
     }
-    whole::least64(place, size)
+    place.min(size)
 }
 
 // How many of them are there.
@@ -31,7 +31,7 @@ pub fn part_size(file: &[u8], place: u64) -> u64
         return 0;
     }
     let wanted = octets::u16_at(file, (place as usize) + 1) as u64;
-    whole::least64(wanted, size - (place + 3))
+    wanted.min(size - (place + 3))
 }
 
 // The value bytes of the field at a place, as they lie in the file.

@@ -12,11 +12,7 @@ use borrow.Author.Tests.{leb-true, leb-false, lt-ltb, le-ltb}
 use Rattle.whole.proofs.SignLaws.{read}
 use Rattle.reading.specs.declared.Reading.{Reading}
 use Rattle.reading.specs.declared.Reading.TheVariants.{Missing, Power, Current}
-use Rattle.reading.specs.declared.Measure.{Measure}
-use Rattle.reading.specs.declared.Measure.TheVariants.{Chosen, RefusedBy}
-use Rattle.reading.specs.declared.Meter.{Meter}
-use Rattle.reading.specs.declared.Meter.TheVariants.{Silent, Shows}
-use Rattle.reading.specs.Choice.{measure_of, current_of, measure_call, shown_by, meter_of}
+use Rattle.reading.specs.Choice.{measure_of, current_of, shown_by, meter_of}
 use Rattle.rules.specs.Rules.{by_current}
 use Rattle.members.specs.Ranges.{fleet_for}
 use Rattle.controller.specs.Pass.{pass_of}
@@ -27,6 +23,8 @@ use Rattle.fleet.specs.Step.{standing, passed_on, asked_by_watts, asked_by_curre
 use Rattle.tally.specs.declared.Sums.{Sums}
 use Rattle.peaks.specs.Figures.{sums_of, sums_by}
 use Rattle.peaks.specs.Posts.{of_kind}
+use Rattle.std.proofs.Common.{Err, None, Ok, Option, Result, Some}
+use Rattle.whole.specs.declared.Refusal.{Refusal}
 
 -- a mode that does not go by current goes by watts
 pub by_watts_lem : (mode : ℕ) → ltb mode 4 ≡ not (by_current mode)
@@ -41,9 +39,9 @@ module _ (site : Site) (stored : List ℕ) (rs : List ℤ) where
   abbrev passed : ℤ → List ℤ
   passed z = pass_of site.head.settings z (fleet_for site.units stored) rs
 
-  abbrev asked_on : Meter → Bool → List ℤ
-  asked_on (Shows z) kind = cond kind (passed z) rs
-  asked_on Silent kind = rs
+  abbrev asked_on : Option ℤ → Bool → List ℤ
+  asked_on (Some z) kind = cond kind (passed z) rs
+  asked_on None kind = rs
 
   by_shown : (r : Reading) → asked_by site stored rs r ≡ asked_on (meter_of r site.head.phase) (of_kind r site.head.settings.mode)
   unfolding asked_by asked_by_watts asked_by_current meter_of of_kind
@@ -54,30 +52,30 @@ module _ (site : Site) (stored : List ℕ) (rs : List ℤ) where
       none false = refl
   by_shown (Power p) = powers (by_current site.head.settings.mode) (measure_of p site.head.phase)
     where
-      powers : (b : Bool) (x : Measure) → cond b rs (passed_on site stored rs (measure_call x)) ≡ asked_on (shown_by x) (not b)
-      powers true (Chosen z) = refl
-      powers true (RefusedBy n) = refl
-      powers false (Chosen z) = refl
-      powers false (RefusedBy n) = refl
+      powers : (b : Bool) (x : Result ℤ Refusal) → cond b rs (passed_on site stored rs x) ≡ asked_on (shown_by x) (not b)
+      powers true (Ok z) = refl
+      powers true (Err n) = refl
+      powers false (Ok z) = refl
+      powers false (Err n) = refl
   by_shown (Current p) = currents (by_current site.head.settings.mode) (current_of p site.head.phase)
     where
-      currents : (b : Bool) (x : Measure) → cond b (passed_on site stored rs (measure_call x)) rs ≡ asked_on (shown_by x) b
-      currents true (Chosen z) = refl
-      currents true (RefusedBy n) = refl
-      currents false (Chosen z) = refl
-      currents false (RefusedBy n) = refl
+      currents : (b : Bool) (x : Result ℤ Refusal) → cond b (passed_on site stored rs x) rs ≡ asked_on (shown_by x) b
+      currents true (Ok z) = refl
+      currents true (Err n) = refl
+      currents false (Ok z) = refl
+      currents false (Err n) = refl
 
   -- by the meter's value and the test's, as the code has them
-  module _ (r : Reading) (m : Meter) (em : m ≡ meter_of r site.head.phase) where
+  module _ (r : Reading) (m : Option ℤ) (em : m ≡ meter_of r site.head.phase) where
     asked_on_lem : (kind : Bool) → kind ≡ of_kind r site.head.settings.mode → asked_on m kind ≡ asked_by site stored rs r
     asked_on_lem kind ek = ap₂ asked_on em ek ∙ sym (by_shown r)
 
-    pub silent_asks : m ≡ Silent → rs ≡ asked_by site stored rs r
-    silent_asks e = sym (ap (λ (x : Meter). asked_on x (of_kind r site.head.settings.mode)) e) ∙ asked_on_lem (of_kind r site.head.settings.mode) refl
+    pub silent_asks : m ≡ None → rs ≡ asked_by site stored rs r
+    silent_asks e = sym (ap (λ (x : Option ℤ). asked_on x (of_kind r site.head.settings.mode)) e) ∙ asked_on_lem (of_kind r site.head.settings.mode) refl
 
-    module _ (z : ℤ) (e : m ≡ Shows z) where
+    module _ (z : ℤ) (e : m ≡ Some z) where
       shown_asks : (kind : Bool) → kind ≡ of_kind r site.head.settings.mode → cond kind (passed z) rs ≡ asked_by site stored rs r
-      shown_asks kind ek = sym (ap (λ (x : Meter). asked_on x kind) e) ∙ asked_on_lem kind ek
+      shown_asks kind ek = sym (ap (λ (x : Option ℤ). asked_on x kind) e) ∙ asked_on_lem kind ek
 
       pub other_asks : false ≡ of_kind r site.head.settings.mode → rs ≡ asked_by site stored rs r
       other_asks ek = shown_asks false ek

@@ -10,7 +10,7 @@ ghost use Rattle.peaks.specs.Posts.{with_unit, of_kind};
 
 use fleet::Frame;
 use lead::Lead;
-use reading::{Meter, Reading};
+use reading::Reading;
 use rows::Row;
 use storage::Outcome;
 use tally::Sums;
@@ -91,7 +91,7 @@ fn fits(r: Reading, mode: u8) -> bool
 
 // The requests after a reading, by what the meter shows of it: one pass on that measure, none where
 // it is silent or the reading is of the other kind.
-fn ask(f: Frame, rows: &[Row], r: Reading, m: Meter, stored: &[u64], requests: &mut [i32])
+fn ask(f: Frame, rows: &[Row], r: Reading, m: Option<i64>, stored: &[u64], requests: &mut [i32])
     requires ready { Ready f rows.now }
     requires stored_len { length stored.now ≡ count (site_in f rows.now) }
     requires requests_len { length requests.old ≡ count (site_in f rows.now) }
@@ -99,7 +99,7 @@ fn ask(f: Frame, rows: &[Row], r: Reading, m: Meter, stored: &[u64], requests: &
     requires m_value { m ≡ meter_of r f.head.phase }
     ensures { requests.new ≡ asked_by (site_in f rows.now) stored.now requests.old r }
 {
-    let Meter::Shows(z) = m else {
+    let Some(z) = m else {
         return;
     };
     let head = f.head;
@@ -116,7 +116,7 @@ pub fn step(
     f: Frame,
     rows: &[Row],
     r: Reading,
-    m: Meter,
+    m: Option<i64>,
     l: Lead,
     stored: &mut [u64],
     requests: &mut [i32],

@@ -12,14 +12,6 @@ use fleet::Frame;
 pub use seasons::peaks;
 use site::Due;
 use tally::Figures;
-use whole::Refusal;
-
-// The figures, or the refusal.
-#[derive(Clone, Copy)]
-pub enum PeaksAnswer {
-    Told(Figures),
-    Untold(Refusal),
-}
 
 // What no step changes: the frame, and whether there is a function and where.
 #[derive(Clone, Copy)]

@@ -16,12 +16,9 @@ use Rattle.whole.specs.Call.{refusal}
 use Rattle.whole.proofs.Choice.{passed_failed}
 use Rattle.whole.proofs.SignLaws.{read, sign_is, size_sum, size_fits, wide_is, wide_size}
 use Rattle.reading.specs.declared.Phases.{Phases}
-use Rattle.reading.specs.declared.Watts.{Watts}
-use Rattle.reading.specs.declared.Watts.TheVariants.{Whole, Refused}
-use Rattle.reading.specs.declared.Measure.{Measure}
-use Rattle.reading.specs.declared.Measure.TheVariants.{Chosen, RefusedBy}
 use Rattle.reading.specs.Conversion.{not_below}
 use Rattle.reading.specs.Choice.{larger_of, smaller_of, choice_of, chosen_of, measure_by}
+use Rattle.std.proofs.Common.{Err, None, Ok, Option, Result, Some}
 
 -- ---- the larger and the smaller, by the machine's test on what is read back
 module _ (w : Width) (a b : ℤ) (f : SFits w a) (g : SFits w b) where
@@ -105,27 +102,27 @@ module _ (a b c : ℤ) (fa : SFits w64 a) (fb : SFits w64 b) (fc : SFits w64 c) 
   read_two f r q hr hq e g = cc (read w64 a fa.sfits, read w64 b fb.sfits, read w64 c fc.sfits, read w64 r hr, read w64 q hq)
 
 -- ---- a current: below 0 is refused, any other stays
-pub below_refused : (w : ℤ) → SFits w32 w → lt_z (to_z w32 (of_z w32 w)) (pos 0) ≡ true → Refused ≡ not_below (Whole w)
+pub below_refused : (w : ℤ) → SFits w32 w → lt_z (to_z w32 (of_z w32 w)) (pos 0) ≡ true → None ≡ not_below (Some w)
 below_refused (pos n) f t = absurd (passed_failed t (sign_is w32 (pos n) f))
 below_refused (negsuc n) f t = refl
 
-pub not_below_lem : (w : ℤ) → SFits w32 w → lt_z (to_z w32 (of_z w32 w)) (pos 0) ≡ false → to_z w32 (of_z w32 w) ≡ w → Whole (to_z w32 (of_z w32 w)) ≡ not_below (Whole w)
-not_below_lem (pos n) f t e = ap Whole e ∙ sym (ap (λ (b : Bool). cond b (Whole (pos n)) Refused) (le-leb 0 n (omega arith)))
+pub not_below_lem : (w : ℤ) → SFits w32 w → lt_z (to_z w32 (of_z w32 w)) (pos 0) ≡ false → to_z w32 (of_z w32 w) ≡ w → Some (to_z w32 (of_z w32 w)) ≡ not_below (Some w)
+not_below_lem (pos n) f t e = ap Some e ∙ sym (ap (λ (b : Bool). cond b (Some (pos n)) None) (le-leb 0 n (omega arith)))
 not_below_lem (negsuc n) f t e = absurd (passed_failed (sign_is w32 (negsuc n) f) t)
 
 -- ---- three converted numbers that are whole, and the measure by either conversion
-pub all_taken : (phase : ℕ) (x y z : Watts) (a b c : ℤ) → x ≡ Whole a → y ≡ Whole b → z ≡ Whole c → Chosen (choice_of phase a b c) ≡ chosen_of phase x y z
-all_taken phase x y z a b c ex ey ez = sym (ap₂ (λ (v w : Watts). chosen_of phase v w z) ex ey ∙ ap (chosen_of phase (Whole a) (Whole b)) ez)
+pub all_taken : (phase : ℕ) (x y z : Option ℤ) (a b c : ℤ) → x ≡ Some a → y ≡ Some b → z ≡ Some c → Ok (choice_of phase a b c) ≡ chosen_of phase x y z
+all_taken phase x y z a b c ex ey ez = sym (ap₂ (λ (v w : Option ℤ). chosen_of phase v w z) ex ey ∙ ap (chosen_of phase (Some a) (Some b)) ez)
 
-module _ (whole : Float → Watts) (p : Phases) (phase : ℕ) where
-  abbrev pub all_three : Measure
+module _ (whole : Float → Option ℤ) (p : Phases) (phase : ℕ) where
+  abbrev pub all_three : Result ℤ Refusal
   all_three = chosen_of phase (whole p.first) (whole p.second) (whole p.third)
 
-  pub no_phase : 5 < phase → (r : Refusal) → r ≡ refusal 5 → RefusedBy r ≡ measure_by whole p phase
-  no_phase h r er = ap RefusedBy er ∙ sym (ap (λ (t : Bool). cond t all_three (RefusedBy (refusal 5))) (lt-leb phase 5 h))
+  pub no_phase : 5 < phase → (r : Refusal) → r ≡ refusal 5 → Err r ≡ measure_by whole p phase
+  no_phase h r er = ap Err er ∙ sym (ap (λ (t : Bool). cond t all_three (Err (refusal 5))) (lt-leb phase 5 h))
 
   pub measured : phase ≤ 5 → all_three ≡ measure_by whole p phase
-  measured h = sym (ap (λ (t : Bool). cond t all_three (RefusedBy (refusal 5))) (le-leb phase 5 h))
+  measured h = sym (ap (λ (t : Bool). cond t all_three (Err (refusal 5))) (le-leb phase 5 h))
 
 -- the sizes that the choice asks for, of numbers widened from 32 bits
 pub widened_size : (a : ℤ) → mag a < 2 ^ 31 → nat_abs (back (to_z w32 (of_z w32 a))) ≤ 2147483648

@@ -13,9 +13,9 @@ use lib.Ieee.Exact.{HasValue, odd_sign}
 use lib.Pow.{pow_pos, field}
 use Rattle.whole.specs.Signed.{signed}
 use Rattle.whole.proofs.Choice.{by_test}
-use Rattle.reading.specs.declared.Watts.TheVariants.{Whole, Refused}
 use Rattle.reading.specs.Conversion.{nearest, within, watts_of, most_watts}
 use Rattle.reading.proofs.NearestLaws.{nearest_same, nearest_high, nearest_middle, nearest_low}
+use Rattle.std.proofs.Common.{None, Some}
 
 down_pos : (e : ℤ) → 0 < down e
 down_pos (pos k) = pow_pos 0
@@ -46,26 +46,26 @@ unfolding of_fields
 normal_watts s k t h = ap (λ (b : Bool). watts_of (cond b (cond (eqb t 0) (inf s) nan) (odd 53 s (2 ^ 52 + t) k 1074))) (ne_eqb (suc k) 2047 (λ e. lt_irrefl 2047 (subst (λ (x : ℕ). x < 2047) e h))) ∙ odd_watts s (2 ^ 52 + t) k 1074
 
 -- a field of all ones: no number
-none_watts : (s : Bool) (t : ℕ) → watts_of (of_fields binary64 s 2047 t) ≡ Refused
+none_watts : (s : Bool) (t : ℕ) → watts_of (of_fields binary64 s 2047 t) ≡ None
 unfolding of_fields watts_of
-none_watts s t = by_test (λ (v : Float). watts_of v ≡ Refused) (eqb t 0) (inf s) nan (λ p. refl) (λ p. refl)
+none_watts s t = by_test (λ (v : Float). watts_of v ≡ None) (eqb t 0) (inf s) nan (λ p. refl) (λ p. refl)
 
-pub too_much : (s : Bool) (size : ℕ) → most_watts < size → within s size ≡ Refused
+pub too_much : (s : Bool) (size : ℕ) → most_watts < size → within s size ≡ None
 unfolding within
-too_much s size h = ap (λ (b : Bool). cond b (Whole (signed s size)) Refused) (lt-leb size most_watts h)
+too_much s size h = ap (λ (b : Bool). cond b (Some (signed s size)) None) (lt-leb size most_watts h)
 
-in_range : (s : Bool) (size : ℕ) → size ≤ most_watts → within s size ≡ Whole (signed s size)
+in_range : (s : Bool) (size : ℕ) → size ≤ most_watts → within s size ≡ Some (signed s size)
 unfolding within
-in_range s size h = ap (λ (b : Bool). cond b (Whole (signed s size)) Refused) (le-leb size most_watts h)
+in_range s size h = ap (λ (b : Bool). cond b (Some (signed s size)) None) (le-leb size most_watts h)
 
-pub no_watts : (s : Bool) (size : ℕ) → size ≡ 0 → within s size ≡ Whole (pos 0)
+pub no_watts : (s : Bool) (size : ℕ) → size ≡ 0 → within s size ≡ Some (pos 0)
 no_watts s size e = ap (within s) e ∙ in_range s 0 zero-le ∙ zero_of s
   where
-    zero_of : (b : Bool) → Whole (signed b 0) ≡ Whole (pos 0)
+    zero_of : (b : Bool) → Some (signed b 0) ≡ Some (pos 0)
     zero_of true = refl
     zero_of false = refl
 
-high_field : (s : Bool) (x t : ℕ) → 1074 < x → x < 2048 → watts_of (of_fields binary64 s x t) ≡ Refused
+high_field : (s : Bool) (x t : ℕ) → 1074 < x → x < 2048 → watts_of (of_fields binary64 s x t) ≡ None
 high_field s zero t h m = absurd (not-suc-le-zero h)
 high_field s (suc k) t h m = go (eq-or-lt_of_le (le_of_lt_suc m))
   where
@@ -75,14 +75,14 @@ high_field s (suc k) t h m = go (eq-or-lt_of_le (le_of_lt_suc m))
     large : most_watts < 1000 * (2 ^ 52 + t)
     large = omega arith
 
-    go : (suc k ≡ 2047) ⊎ (suc k < 2047) → watts_of (of_fields binary64 s (suc k) t) ≡ Refused
+    go : (suc k ≡ 2047) ⊎ (suc k < 2047) → watts_of (of_fields binary64 s (suc k) t) ≡ None
     go (inl e) = ap (λ (x : ℕ). watts_of (of_fields binary64 s x t)) e ∙ none_watts s t
     go (inr l) =
         normal_watts s k t l
         ∙ too_much s (nearest (1000 * (2 ^ 52 + t) * 2 ^ k) (2 ^ 1074))
         (lt_of_lt_of_le large (nearest_high (1000 * (2 ^ 52 + t)) k 1074 (le_of_suc-le-suc h)))
 
-low_field : (s : Bool) (x t : ℕ) → x < 1011 → t < 2 ^ 52 → watts_of (of_fields binary64 s x t) ≡ Whole (pos 0)
+low_field : (s : Bool) (x t : ℕ) → x < 1011 → t < 2 ^ 52 → watts_of (of_fields binary64 s x t) ≡ Some (pos 0)
 unfolding of_fields
 low_field s zero t h m = odd_watts s t 0 1074 ∙ no_watts s (nearest (1000 * t * 2 ^ 0) (2 ^ 1074)) (nearest_low (1000 * t) 0 63 1074 (omega arith) (lit≤ tt))
 low_field s (suc k) t h m =
@@ -109,18 +109,18 @@ parts : (b : ℕ) → of_bits binary64 b ≡ of_fields binary64 (minus_of b) (fi
 unfolding of_bits
 parts b = ap (λ (x : ℕ). of_fields binary64 (minus_of b) x (digits_of b)) (field b 11 52)
 
-pub high_bits : (b : ℕ) → 1074 < field_of b → Refused ≡ watts_of (of_bits binary64 b)
+pub high_bits : (b : ℕ) → 1074 < field_of b → None ≡ watts_of (of_bits binary64 b)
 high_bits b h = sym (ap watts_of (parts b) ∙ high_field (minus_of b) (field_of b) (digits_of b) h (mod-lt (b / 4503599627370496) (lit< tt)))
 
-pub low_bits : (b : ℕ) → field_of b < 1011 → Whole (pos 0) ≡ watts_of (of_bits binary64 b)
+pub low_bits : (b : ℕ) → field_of b < 1011 → Some (pos 0) ≡ watts_of (of_bits binary64 b)
 low_bits b h = sym (ap watts_of (parts b) ∙ low_field (minus_of b) (field_of b) (digits_of b) h (mod-lt b (lit< tt)))
 
 module _ (b size : ℕ) (low : 1011 ≤ field_of b) (high : field_of b ≤ 1074) (is : size ≡ nearest (1000 * (4503599627370496 + digits_of b)) (2 ^ (1074 - field_of b + 1))) where
   pub middle : watts_of (of_bits binary64 b) ≡ within (minus_of b) size
   middle = ap watts_of (parts b) ∙ middle_field (minus_of b) (field_of b) (digits_of b) low high ∙ ap (within (minus_of b)) (sym is)
 
-  pub over_bits : most_watts < size → Refused ≡ watts_of (of_bits binary64 b)
+  pub over_bits : most_watts < size → None ≡ watts_of (of_bits binary64 b)
   over_bits h = sym (middle ∙ too_much (minus_of b) size h)
 
-  pub whole_bits : size ≤ most_watts → Whole (signed (minus_of b) size) ≡ watts_of (of_bits binary64 b)
+  pub whole_bits : size ≤ most_watts → Some (signed (minus_of b) size) ≡ watts_of (of_bits binary64 b)
   whole_bits h = sym (middle ∙ in_range (minus_of b) size h)

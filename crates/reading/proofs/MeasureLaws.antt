@@ -15,22 +15,20 @@ use Rattle.whole.proofs.Choice.{by_test}
 use Rattle.whole.proofs.SignLaws.{size_signed, size_sum}
 use Rattle.whole.specs.Signed.{signed}
 use Rattle.reading.specs.declared.Phases.{Phases}
-use Rattle.reading.specs.declared.Watts.{Watts}
-use Rattle.reading.specs.declared.Watts.TheVariants.{Whole, Refused}
-use Rattle.reading.specs.declared.Measure.{Measure}
-use Rattle.reading.specs.declared.Measure.TheVariants.{Chosen, RefusedBy}
 use Rattle.reading.specs.Conversion.{nearest, most_watts, within, watts_of, not_below, milli_of}
 use Rattle.reading.specs.Choice.{larger_of, smaller_of, choice_of, chosen_of, measure_by, measure_of, current_of}
+use Rattle.std.proofs.Common.{Err, None, Ok, Option, Result, Some}
+use Rattle.whole.specs.declared.Refusal.{Refusal}
 
 -- ---- a converted power, or current
-abbrev pub Small : Watts → Type 0
-Small Refused = 0 ≤ 0
-Small (Whole w) = nat_abs w ≤ most_watts
+abbrev pub Small : Option ℤ → Type 0
+Small None = 0 ≤ 0
+Small (Some w) = nat_abs w ≤ most_watts
 
 within_small : (s : Bool) (size : ℕ) → Small (within s size)
 unfolding within
 within_small s size =
-    by_test Small (leb size most_watts) (Whole (signed s size)) Refused
+    by_test Small (leb size most_watts) (Some (signed s size)) None
     (λ t. le_trans (le_of_eq (size_signed s size)) (leb-true size most_watts t))
     (λ t. omega arith)
 
@@ -40,9 +38,9 @@ watts_small nan = omega arith
 watts_small (inf s) = omega arith
 watts_small (fin s m e) = within_small s (nearest (1000 * (m * up e)) (down e))
 
-not_below_small : (w : Watts) → Small w → Small (not_below w)
-not_below_small Refused h = h
-not_below_small (Whole w) h = by_test Small (le_z (pos 0) w) (Whole w) Refused (λ t. h) (λ t. omega arith)
+not_below_small : (w : Option ℤ) → Small w → Small (not_below w)
+not_below_small None h = h
+not_below_small (Some w) h = by_test Small (le_z (pos 0) w) (Some w) None (λ t. h) (λ t. omega arith)
 
 milli_small : (x : Float) → Small (milli_of x)
 unfolding milli_of
@@ -75,26 +73,26 @@ module _ (n : ℕ) where
       go false false false false false = omega (arith, smaller_upto a (smaller_of b c) ha (smaller_upto b c hb hc))
 
 -- ---- the measure
-abbrev Bounded : Measure → Type 0
-Bounded (Chosen m) = nat_abs m ≤ 300000000
-Bounded (RefusedBy n) = 0 ≤ 0
+abbrev Bounded : Result ℤ Refusal → Type 0
+Bounded (Ok m) = nat_abs m ≤ 300000000
+Bounded (Err n) = 0 ≤ 0
 
-chosen_small : (phase : ℕ) (x y z : Watts) → Small x → Small y → Small z → Bounded (chosen_of phase x y z)
-chosen_small phase Refused y z hx hy hz = omega arith
-chosen_small phase (Whole a) Refused z hx hy hz = omega arith
-chosen_small phase (Whole a) (Whole b) Refused hx hy hz = omega arith
-chosen_small phase (Whole a) (Whole b) (Whole c) hx hy hz = choice_upto most_watts phase a b c hx hy hz
+chosen_small : (phase : ℕ) (x y z : Option ℤ) → Small x → Small y → Small z → Bounded (chosen_of phase x y z)
+chosen_small phase None y z hx hy hz = omega arith
+chosen_small phase (Some a) None z hx hy hz = omega arith
+chosen_small phase (Some a) (Some b) None hx hy hz = omega arith
+chosen_small phase (Some a) (Some b) (Some c) hx hy hz = choice_upto most_watts phase a b c hx hy hz
 
-by_small : (whole : Float → Watts) → ((x : Float) → Small (whole x)) → (p : Phases) (phase : ℕ) → Bounded (measure_by whole p phase)
+by_small : (whole : Float → Option ℤ) → ((x : Float) → Small (whole x)) → (p : Phases) (phase : ℕ) → Bounded (measure_by whole p phase)
 by_small whole small p phase =
-    by_test Bounded (leb phase 5) (chosen_of phase (whole p.first) (whole p.second) (whole p.third)) (RefusedBy (refusal 5))
+    by_test Bounded (leb phase 5) (chosen_of phase (whole p.first) (whole p.second) (whole p.third)) (Err (refusal 5))
     (λ t. chosen_small phase (whole p.first) (whole p.second) (whole p.third) (small p.first) (small p.second) (small p.third))
     (λ t. omega arith)
 
-pub measure_small : (p : Phases) (phase : ℕ) (m : ℤ) → measure_of p phase ≡ Chosen m → nat_abs m ≤ 300000000
+pub measure_small : (p : Phases) (phase : ℕ) (m : ℤ) → measure_of p phase ≡ Ok m → nat_abs m ≤ 300000000
 unfolding measure_of
 measure_small p phase m e = subst Bounded e (by_small watts_of watts_small p phase)
 
-pub current_small : (p : Phases) (phase : ℕ) (m : ℤ) → current_of p phase ≡ Chosen m → nat_abs m ≤ 300000000
+pub current_small : (p : Phases) (phase : ℕ) (m : ℤ) → current_of p phase ≡ Ok m → nat_abs m ≤ 300000000
 unfolding current_of
 current_small p phase m e = subst Bounded e (by_small milli_of milli_small p phase)

@@ -14,14 +14,13 @@ use lib.Pow.{pow_pos, pow_mono}
 use borrow.Author.Tests.{le-leb, lt-leb}
 use Rattle.whole.specs.Signed.{signed}
 use Rattle.whole.proofs.LargestLaws.{leb_same}
-use Rattle.reading.specs.declared.Watts.{Watts}
-use Rattle.reading.specs.declared.Watts.TheVariants.{Whole, Refused}
 use Rattle.reading.specs.Conversion.{nearest, most_watts, within, watts_of, not_below, milli_of}
 use Rattle.reading.specs.Choice.{usable_of}
 use Rattle.reading.specs.Laws.{away}
 use Rattle.reading.specs.Posts.{is_whole}
 use Rattle.reading.proofs.NearestProved.{nearest_proved, order}
 use Rattle.reading.proofs.DoubleLaws.{field_of, digits_of, minus_of, high_bits, low_bits, middle, too_much, no_watts}
+use Rattle.std.proofs.Common.{None, Option, Some}
 
 -- ---- an even w is the nearest number, or above it, up to the half between it and the next
 module _ (n d w : ℕ) (some : 0 < d) where
@@ -136,7 +135,7 @@ sized b = elim (order 1011 (field_of b)) [
 ]
 
 -- ---- what is whole: a size up to the most, and of a current below 0 none but 0
-whole_cond : (b : Bool) (z : ℤ) → is_whole (cond b (Whole z) Refused) ≡ b
+whole_cond : (b : Bool) (z : ℤ) → is_whole (cond b (Some z) None) ≡ b
 whole_cond true z = refl
 whole_cond false z = refl
 
@@ -148,8 +147,8 @@ plus_within : (size : ℕ) → is_whole (not_below (within false size)) ≡ leb 
 unfolding within
 plus_within size = go (leb size most_watts)
   where
-    go : (b : Bool) → is_whole (not_below (cond b (Whole (pos size)) Refused)) ≡ b
-    go true = ap (λ (t : Bool). is_whole (cond t (Whole (pos size)) Refused)) (le-leb 0 size zero-le)
+    go : (b : Bool) → is_whole (not_below (cond b (Some (pos size)) None)) ≡ b
+    go true = ap (λ (t : Bool). is_whole (cond t (Some (pos size)) None)) (le-leb 0 size zero-le)
     go false = refl
 
 minus_within : (size : ℕ) → is_whole (not_below (within true size)) ≡ leb size 0
@@ -157,7 +156,7 @@ unfolding within
 minus_within zero = refl
 minus_within (suc n) = go (leb (suc n) most_watts) ∙ sym (lt-leb (suc n) 0 (omega arith))
   where
-    go : (b : Bool) → is_whole (not_below (cond b (Whole (negsuc n)) Refused)) ≡ false
+    go : (b : Bool) → is_whole (not_below (cond b (Some (negsuc n)) None)) ≡ false
     go true = refl
     go false = refl
 
@@ -168,7 +167,7 @@ power_pattern b = let s = sized b in sym (ap is_whole s.is ∙ whole_within (min
 module _ (b : ℕ) where
   milli_by : (s : Bool) → minus_of b ≡ s → is_whole (milli_of (of_bits binary64 b)) ≡ is_whole (not_below (within s (sized b).size))
   unfolding milli_of
-  milli_by s e = ap (λ (w : Watts). is_whole (not_below w)) ((sized b).is ∙ ap (λ (t : Bool). within t (sized b).size) e)
+  milli_by s e = ap (λ (w : Option ℤ). is_whole (not_below w)) ((sized b).is ∙ ap (λ (t : Bool). within t (sized b).size) e)
 
   pub plus_pattern : b < 9223372036854775808 → leb b 4681608360918534586 ≡ is_whole (milli_of (of_bits binary64 b))
   plus_pattern h =
@@ -181,11 +180,11 @@ module _ (b : ℕ) where
       ∙ sym (milli_by true (le-leb 9223372036854775808 b h) ∙ minus_within (sized b).size ∙ (sized b).none)
 
 -- three that are whole can be used, by the test of all three
-pub usable_by : (a b c : Watts) (t : Bool) → (is_whole a && is_whole b && is_whole c) ≡ t → cond t 0 6 ≡ usable_of a b c
+pub usable_by : (a b c : Option ℤ) (t : Bool) → (is_whole a && is_whole b && is_whole c) ≡ t → cond t 0 6 ≡ usable_of a b c
 usable_by a b c t e = ap (λ (s : Bool). cond s 0 6) (sym e) ∙ go a b c
   where
-    go : (a b c : Watts) → cond (is_whole a && is_whole b && is_whole c) 0 6 ≡ usable_of a b c
-    go Refused b c = refl
-    go (Whole x) Refused c = refl
-    go (Whole x) (Whole y) Refused = refl
-    go (Whole x) (Whole y) (Whole z) = refl
+    go : (a b c : Option ℤ) → cond (is_whole a && is_whole b && is_whole c) 0 6 ≡ usable_of a b c
+    go None b c = refl
+    go (Some x) None c = refl
+    go (Some x) (Some y) None = refl
+    go (Some x) (Some y) (Some z) = refl

@@ -5,7 +5,8 @@ ghost use Rattle.reading.specs.Conversion.{watts_of, milli_of};
 ghost use Rattle.reading.specs.Choice.{larger_of, smaller_of, choice_of, chosen_of, measure_of, current_of, meter_of, usable_of};
 ghost use Rattle.reading.specs.Posts.{is_whole, shown_of};
 
-use super::{Measure, Meter, Phases, Reading, Watts};
+use super::{Phases, Reading};
+use whole::Refusal;
 
 fn larger(a: i64, b: i64) -> i64
     ensures { result ≡ larger_of a b }
@@ -45,28 +46,28 @@ fn choice(phase: u8, a: i64, b: i64, c: i64) -> i64
 }
 
 // The choice among three converted powers or currents, 6 where one was refused.
-fn chosen(phase: u8, a: Watts, b: Watts, c: Watts) -> Measure
+fn chosen(phase: u8, a: Option<i32>, b: Option<i32>, c: Option<i32>) -> Result<i64, Refusal>
     ensures { result ≡ chosen_of phase a b c }
 {
-    let Watts::Whole(x) = a else {
-        return Measure::RefusedBy(whole::refused(6));
+    let Some(x) = a else {
+        return Err(whole::refused(6));
     };
-    let Watts::Whole(y) = b else {
-        return Measure::RefusedBy(whole::refused(6));
+    let Some(y) = b else {
+        return Err(whole::refused(6));
     };
-    let Watts::Whole(z) = c else {
-        return Measure::RefusedBy(whole::refused(6));
+    let Some(z) = c else {
+        return Err(whole::refused(6));
     };
-    Measure::Chosen(choice(phase, x as i64, y as i64, z as i64))
+    Ok(choice(phase, x as i64, y as i64, z as i64))
 }
 
 // The regulated measure of three powers: each is converted, then one is chosen. Refused are a phase
 // above 5 (5) and, whichever phase is asked for, a power that the conversion refuses (6).
-pub fn regulated(p: Phases, phase: u8) -> Measure
+pub fn regulated(p: Phases, phase: u8) -> Result<i64, Refusal>
     ensures { result ≡ measure_of p phase }
 {
     if 5 < phase {
-        return Measure::RefusedBy(whole::refused(5));
+        return Err(whole::refused(5));
     }
     chosen(
         phase,
@@ -77,11 +78,11 @@ pub fn regulated(p: Phases, phase: u8) -> Measure
 }
 
 // The same of three currents.
-pub fn current(p: Phases, phase: u8) -> Measure
+pub fn current(p: Phases, phase: u8) -> Result<i64, Refusal>
     ensures { result ≡ current_of p phase }
 {
     if 5 < phase {
-        return Measure::RefusedBy(whole::refused(5));
+        return Err(whole::refused(5));
     }
     chosen(
         phase,
@@ -92,24 +93,24 @@ pub fn current(p: Phases, phase: u8) -> Measure
 }
 
 // What the meter shows by three converted powers or currents.
-fn shown(phase: u8, a: Watts, b: Watts, c: Watts) -> Meter
+fn shown(phase: u8, a: Option<i32>, b: Option<i32>, c: Option<i32>) -> Option<i64>
     ensures { result ≡ shown_of phase a b c }
 {
     if 5 < phase {
-        return Meter::Silent;
+        return None;
     }
-    let Measure::Chosen(z) = chosen(phase, a, b, c) else {
-        return Meter::Silent;
+    let Ok(z) = chosen(phase, a, b, c) else {
+        return None;
     };
-    Meter::Shows(z)
+    Some(z)
 }
 
 // What the meter shows by a reading.
-pub fn metered(r: Reading, phase: u8) -> Meter
+pub fn metered(r: Reading, phase: u8) -> Option<i64>
     ensures { result ≡ meter_of r phase }
 {
     match r {
-        Reading::Missing => Meter::Silent,
+        Reading::Missing => None,
         Reading::Power(p) => shown(
             phase,
             super::converted(p.first),

@@ -12,15 +12,6 @@ pub use choosing::{
 };
 pub use convert::{converted, milli_of_bits, milliamperes, watts_of_bits};
 pub use kilowatts::{kw, kw_bits};
-use whole::Refusal;
-
-// What a kW double becomes: whole watts, at most 10^8 in size, or nothing that can be used. An A
-// double becomes whole milliamperes so, none below 0.
-#[derive(Clone, Copy)]
-pub enum Watts {
-    Whole(i32),
-    Refused,
-}
 
 // The powers of the three phases in kW, or their currents in A, as the meter wrote them.
 #[derive(Clone, Copy)]
@@ -36,18 +27,4 @@ pub enum Reading {
     Missing,
     Power(Phases),
     Current(Phases),
-}
-
-// What the meter shows in a step: nothing, where its reading is missing, or the measure.
-#[derive(Clone, Copy)]
-pub enum Meter {
-    Silent,
-    Shows(i64),
-}
-
-// The regulated measure in watts or milliamperes, or the refusal.
-#[derive(Clone, Copy)]
-pub enum Measure {
-    Chosen(i64),
-    RefusedBy(Refusal),
 }

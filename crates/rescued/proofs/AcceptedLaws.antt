@@ -14,7 +14,6 @@ use Rattle.octets.specs.BigEndian.{be, bytes_of}
 use Rattle.octets.proofs.ByteLaws.{be_bytes}
 use Rattle.parts.specs.Header.{tag_at, past}
 use Rattle.fields.specs.declared.State.{State}
-use Rattle.fields.specs.declared.Taken.TheVariants.{Next, Stop}
 use Rattle.fields.specs.Fields.{at_end, at_reading, at_voltage, at_led, only, opens, begins, gone_to}
 use Rattle.fields.specs.Fields.{kinds, size_in, size_of, stands_in, allowed, head_of, value_of, refused_by, roof_after, state_after, taken_by}
 use Rattle.stick.specs.declared.Answer.{Answer}
@@ -28,6 +27,7 @@ use Rattle.taking.proofs.LedLaws.{leads_so, leads_append}
 use Rattle.rescue.specs.Saved.{Saved, waits, saved_of, before_steps, due}
 use Rattle.rescue.specs.Answers.{end_field, output_by, output_of, saved_answer, rescue_of}
 use Rattle.rescued.proofs.KeptLaws.{kept_leads, no_reading_waited, kept_few}
+use Rattle.std.proofs.Common.{Err, Ok}
 
 -- ---- whole fields up to an end field are an accepted file
 pub leads_accepted : (bytes : List ℕ) (m : State) → Leads start bytes m → eqb m.stage 0 ≡ true → length bytes ≤ 2097152 → (check_of bytes).number ≡ 0
@@ -52,15 +52,15 @@ module _ (st : State) (b : begins st ≡ true) (few : st.steps ≤ 65535) where
       let back : be 4 (bytes_of 4 steps) 0 ≡ steps = be_bytes 4 steps ∙ mod-eq_of_lt (omega arith) in
       eq-eqb (be 4 (end_field steps) 3) steps back
 
-  end_field_lem : field_at st (end_field steps) 0 ≡ Next closed
+  end_field_lem : field_at st (end_field steps) 0 ≡ Ok closed
   unfolding field_at head_of size_of kinds size_in be taken_by refused_by allowed stands_in value_of state_after roof_after end_field bytes_of
   end_field_lem = go (begins st) (eqb (be 4 (end_field steps) 3) steps) b counted
     where
       by : Bool → Bool → ℕ
       by b c = cond (not b) 4 (cond c 0 7)
 
-      go : (b c : Bool) → b ≡ true → c ≡ true → cond (eqb (by b c) 0) (Next closed) (Stop (by b c)) ≡ Next closed
-      go b c eb ec = ap₂ (λ (b c : Bool). cond (eqb (by b c) 0) (Next closed) (Stop (by b c))) eb ec
+      go : (b c : Bool) → b ≡ true → c ≡ true → cond (eqb (by b c) 0) (Ok closed) (Err (by b c)) ≡ Ok closed
+      go b c eb ec = ap₂ (λ (b c : Bool). cond (eqb (by b c) 0) (Ok closed) (Err (by b c))) eb ec
 
   end_past : past (end_field steps) 0 ≡ 7
   unfolding end_field be bytes_of

@@ -12,7 +12,6 @@ use lib.Seq.{slice, length-take-le, length-slice}
 use Rattle.octets.specs.BigEndian.{be}
 use Rattle.parts.specs.Header.{past}
 use Rattle.fields.specs.declared.State.{State}
-use Rattle.fields.specs.declared.Taken.TheVariants.{Next, Stop}
 use Rattle.fields.specs.Fields.{closes, kinds, size_in, size_of, stands_in, allowed, head_of, value_of, refused_by, state_after, taken_by}
 use Rattle.stick.specs.declared.Reached.{Reached}
 use Rattle.stick.specs.Check.{field_at, reached, reach_of, start}
@@ -24,6 +23,7 @@ use Rattle.taking.proofs.LedLaws.{leads_so, leads_none, leads_append}
 use Rattle.rescue.specs.Saved.{Saved, missing_field, closed_step, bytes_at, waits, saved_of}
 use Rattle.rescue.proofs.SaveLaws.{Saving, over, ended, refused, lost, passed, waiting, saves}
 use Rattle.rescue.proofs.GroupLaws.{never_waits}
+use Rattle.std.proofs.Common.{Err, Ok}
 
 -- ---- the fields of a part, by themselves
 unmoved : (r : Reached) (i j : ℕ) (m : State) → moved i r ≡ reached 0 j m → r ≡ reached 0 (j - i) m
@@ -57,15 +57,15 @@ leads_part file {st} {m} {i} {j} w h =
     }
 
 -- ---- a missing reading, where a reading may stand
-missing_field_lem : (st : State) → closes st ≡ true → leb 65535 st.steps ≡ false → field_at st missing_field 0 ≡ Next (closed_step st)
+missing_field_lem : (st : State) → closes st ≡ true → leb 65535 st.steps ≡ false → field_at st missing_field 0 ≡ Ok (closed_step st)
 unfolding field_at head_of size_of kinds size_in be taken_by refused_by allowed stands_in value_of state_after
 missing_field_lem st c f = go (closes st) (leb 65535 st.steps) c f
   where
     by : Bool → Bool → ℕ
     by c f = cond (not c) 4 (cond f 12 0)
 
-    go : (c f : Bool) → c ≡ true → f ≡ false → cond (eqb (by c f) 0) (Next (closed_step st)) (Stop (by c f)) ≡ Next (closed_step st)
-    go c f ec ef = ap₂ (λ (c f : Bool). cond (eqb (by c f) 0) (Next (closed_step st)) (Stop (by c f))) ec ef
+    go : (c f : Bool) → c ≡ true → f ≡ false → cond (eqb (by c f) 0) (Ok (closed_step st)) (Err (by c f)) ≡ Ok (closed_step st)
+    go c f ec ef = ap₂ (λ (c f : Bool). cond (eqb (by c f) 0) (Ok (closed_step st)) (Err (by c f))) ec ef
 
 missing_past : past missing_field 0 ≡ 3
 unfolding be

@@ -12,7 +12,6 @@ use Rattle.reading.specs.declared.Reading.{Reading}
 use Rattle.reading.specs.declared.Reading.TheVariants.{Missing, Power, Current}
 use Rattle.reading.specs.Choice.{refusal_of}
 use Rattle.fields.specs.declared.State.{State}
-use Rattle.fields.specs.declared.Taken.TheVariants.{Next, Stop}
 use Rattle.fields.specs.Fields.{closes, kinds, size_in, size_of, stands_in, allowed, head_of, phases_at, value_of, refused_by, state_after, taken_by}
 use Rattle.fields.proofs.FieldLaws.{head_held}
 use Rattle.fields.proofs.TakenLaws.{stops, goes_on}
@@ -21,6 +20,7 @@ use Rattle.stick.specs.Site.{reading_at}
 use Rattle.stick.proofs.WalkLaws.{field_goes}
 use Rattle.chunks.proofs.ReachChunks.{apart}
 use Rattle.rescue.proofs.SaveLaws.{Measured, by_measure, Unread}
+use Rattle.std.proofs.Common.{Err}
 
 -- ---- the number of a value whose field may stand and is no step too many
 value_six : (late many : Bool) (v : ℕ) → cond late 4 (cond many 12 v) ≡ 6 → v ≡ 6
@@ -53,7 +53,7 @@ module _ (st : State) (file : List ℕ) (at : ℕ) where
       (λ e. current_six st.current (refusal_of (read_by file at 9)) (value_six (not (closes st)) (leb 65535 st.steps) _ e))
 
   -- ---- a field whose bytes are there is refused by what its value is
-  module _ (f : field_at st file at ≡ Stop 6) (u : Unread st file at) where
+  module _ (f : field_at st file at ≡ Err 6) (u : Unread st file at) where
     abbrev N : ℕ
     N = refused_by st (tag_at file at) file (at + header)
 
@@ -68,13 +68,13 @@ module _ (st : State) (file : List ℕ) (at : ℕ) where
         let s = sized in
         head_held st file at (omega arith) (tag_at file at) (size_of st (tag_at file at)) refl refl (λ z. omega arith) (length_at file at) refl (omega arith) (omega arith)
 
-    taken : taken_by st (tag_at file at) file (at + header) ≡ Stop 6
+    taken : taken_by st (tag_at file at) file (at + header) ≡ Err 6
     taken = field_goes st file at 0 good_head refl ∙ f
 
     six : (b : Bool) → eqb N 0 ≡ b → N ≡ 6
     six true z =
         absurd (apart (sym (goes_on st (tag_at file at) file (at + header) N refl (eqb-true N 0 z) (state_after st (tag_at file at) file (at + header)) refl)) taken)
-    six false z = let e : Stop N ≡ Stop 6 = stops st (tag_at file at) file (at + header) N refl (eqb-false N 0 z) ∙ taken in cc
+    six false z = let e : Err N ≡ Err 6 = stops st (tag_at file at) file (at + header) N refl (eqb-false N 0 z) ∙ taken in cc
 
     pub lost_six : refusal_of (reading_at file at) ≡ 6
     unfolding reading_at

@@ -12,7 +12,6 @@ use borrow.Author.Tests.{ltb-true, lt-ltb, le-ltb, eqb-true, eqb-false}
 use Rattle.whole.proofs.Choice.{passed_failed}
 use Rattle.parts.specs.Header.{tag_at, past}
 use Rattle.fields.specs.declared.State.{State}
-use Rattle.fields.specs.declared.Taken.TheVariants.{Next, Stop}
 use Rattle.fields.specs.Fields.{at_led, only, opens, closes}
 use Rattle.stick.specs.declared.Answer.{Answer}
 use Rattle.stick.specs.declared.Reached.{Reached}
@@ -29,6 +28,7 @@ use Rattle.rescue.proofs.SaveLaws.{by_measure, Saving, over, ended, refused as f
 use Rattle.rescue.proofs.GroupLaws.{never_waits}
 use Rattle.rescued.specs.Holds.{due_first}
 use Rattle.rescued.proofs.BytesLaws.{saved_file}
+use Rattle.std.proofs.Common.{Err, Ok}
 
 -- ---- nothing is due once the steps have begun, nor where a field of a step may stand and does
 abbrev opens_by : ℕ → Bool → Bool
@@ -159,21 +159,21 @@ module _ (file : List ℕ) where
   pub met : {st : State} {at : ℕ} {s : Saved} → Saving file st at s → Met s (far st at)
   met {st} {at} (over e) = ends_so (reach_over file (length file) st at (omega arith)) refl refl refl
   met {st} {at} (ended l e) = ends_so (reach_step file (length file) st at true (field_at st file at) (omega arith) l e refl) refl refl refl
-  met {st} {at} (fault n l e f u) = ends_so (reach_step file (length file) st at false (Stop n) (omega arith) l e f) refl refl refl
+  met {st} {at} (fault n l e f u) = ends_so (reach_step file (length file) st at false (Err n) (omega arith) l e f) refl refl refl
   met {st} {at} (lost {s = s} l e f u more) =
-      let r : far st at ≡ reached 6 at st = reach_step file (length file) st at false (Stop 6) (omega arith) l e f in
+      let r : far st at ≡ reached 6 at st = reach_step file (length file) st at false (Err 6) (omega arith) l e f in
       free (begun_free s.state (tag_at file s.at) (begun_stays more refl))
       (ap (λ (r : Reached). due r.state (tag_at file r.at)) r ∙ step_free st (tag_at file at) u.closes_here (by_measure (λ (t : ℕ). of_steps t ≡ true) u.tag refl refl))
   met {st} {at} (passed {s = s} m l e f w g more) = go (met more)
     where
       on : far st at ≡ far m (past file at)
-      on = reach_step file (length file) st at false (Next m) (omega arith) l e f
+      on = reach_step file (length file) st at false (Ok m) (omega arith) l e f
 
       go : Met s (far m (past file at)) → Met (keeping (bytes_at file at) [] s) (far st at)
       go (alike a b c) = alike (a ∙ sym (ap (λ (r : Reached). r.number) on)) (b ∙ sym (ap (λ (r : Reached). r.at) on)) (c ∙ sym (ap (λ (r : Reached). r.state) on))
       go (free a b) = free a (ap (λ (r : Reached). due r.state (tag_at file r.at)) on ∙ b)
   met {st} {at} (waiting m l e f w g more) =
-      let on : far st at ≡ far m (past file at) = reach_step file (length file) st at false (Next m) (omega arith) l e f in
+      let on : far st at ≡ far m (past file at) = reach_step file (length file) st at false (Ok m) (omega arith) l e f in
       let k = waiting_took {st = st} (waits_still more g) (sort file st at m (omega arith) f) in
       free (step_free st (tag_at file at) k.may k.tagged)
       (ap (λ (r : Reached). due r.state (tag_at file r.at)) on ∙ far_free m (past file at) w k.behind)

@@ -11,7 +11,6 @@ use lib.Seq.{slice, length-take-le, drop-append-le}
 use borrow.Author.Tests.{ltb-false, le-ltb, le-leb, eq-eqb, eqb-true, eqb-false}
 use Rattle.parts.specs.Header.{tag_at, past}
 use Rattle.fields.specs.declared.State.{State}
-use Rattle.fields.specs.declared.Taken.TheVariants.{Next}
 use Rattle.stick.specs.declared.Answer.{Answer}
 use Rattle.stick.specs.declared.Reached.{Reached}
 use Rattle.stick.specs.Check.{answer, ends, start, check_of}
@@ -23,6 +22,7 @@ use Rattle.rescue.specs.Saved.{Saved, saved, ends_at, keeping, bytes_at, kept, b
 use Rattle.rescue.specs.Answers.{change, end_field, output_by, output_of, last_by, changes_by, changes_of, saved_answer, rescue_of}
 use Rattle.rescue.proofs.SaveLaws.{save_over, save_step}
 use Rattle.rescued.proofs.AcceptedLaws.{output_accepted}
+use Rattle.std.proofs.Common.{Ok}
 
 -- a field's bytes and all behind it are all from there on
 with_rest : (file : List ℕ) (i n : ℕ) → i ≤ n → n ≤ length file → slice i n file ++ drop n file ≡ drop i file
@@ -42,7 +42,7 @@ module _ (file : List ℕ) (m : State) (ended : m.stage ≡ 0) where
       ∙ ap₂ (λ (n : ℕ) (s : State). ends_at 0 n s) at e
       ∙ ap (λ (l : List ℕ). saved 0 (length file) m l []) (sym none)
   whole_kept {j} {st} {i} (passing s l e f w more) a h k enough =
-      save_step file k st i false (Next s) enough l e f
+      save_step file k st i false (Ok s) enough l e f
       ∙ ap (kept st i (bytes_at file i)) (whole_kept more a w (length file) (omega arith))
       ∙ ap (λ (n : ℕ). cond (eqb n 8 || eqb n 11) (ends_at 0 i st) (keeping (bytes_at file i) [] (saved 0 (length file) m (drop (past file i) file) []))) ended
       ∙ ap (λ (l : List ℕ). saved 0 (length file) m l []) (with_rest file i (past file i) (omega arith) w)

@@ -18,7 +18,6 @@ use Rattle.site.specs.declared.Step.{Step}
 use Rattle.site.specs.declared.Due.{Due}
 use Rattle.site.specs.Site.{due, none_yet, step_with}
 use Rattle.fields.specs.declared.State.{State}
-use Rattle.fields.specs.declared.Taken.TheVariants.{Next, Stop}
 use Rattle.fields.specs.Fields.{is_reading, kinds, size_in, size_of}
 use Rattle.fields.proofs.FieldLaws.{after_reading}
 use Rattle.stick.specs.declared.Answer.{Answer}
@@ -36,6 +35,7 @@ use Rattle.rescue.proofs.SaveLaws.{by_measure, Unread, Saving, over, ended, refu
 use Rattle.rescued.specs.Holds.{Likes, none, next}
 use Rattle.rescued.proofs.BytesLaws.{saved_file}
 use Rattle.rescued.proofs.LostLaws.{lost_six}
+use Rattle.std.proofs.Common.{Err, Ok}
 
 -- ---- the steps from a field on, by whether it is a reading, with what the step under way has
 abbrev steps_by : List ℕ → ℕ → Bool → Due → List Step
@@ -176,7 +176,7 @@ module _ (file : List ℕ) where
 
   module _ {st : State} {at : ℕ} {s : Saved} (l : at < length file) where
     -- a reading made missing
-    held_lost : field_at st file at ≡ Stop 6 → Unread st file at → Held file (closed_step st) (past file at) s → Held file st at (keeping missing_field (at ∷ []) s)
+    held_lost : field_at st file at ≡ Err 6 → Unread st file at → Held file (closed_step st) (past file at) s → Held file st at (keeping missing_field (at ∷ []) s)
     held_lost f u h = record {
       whole = whole_append missing_field s.kept missing_whole h.whole;
       likes = λ d. likes_so (missing_steps s.kept d) (here d) (next (record { sun = refl; voltage = refl; reading = inr (refl, lost_six st file at f u) }) (h.likes none_yet));
@@ -192,7 +192,7 @@ module _ (file : List ℕ) where
             ∙ ap (λ (u : Due). step_with (reading_at file at) d ∷ steps_from file u (past file at)) (closed_due file at d closes_it)
 
     -- a field that is kept
-    held_passed : (m : State) → field_at st file at ≡ Next m → Held file m (past file at) s → Held file st at (keeping (bytes_at file at) [] s)
+    held_passed : (m : State) → field_at st file at ≡ Ok m → Held file m (past file at) s → Held file st at (keeping (bytes_at file at) [] s)
     held_passed m f h = record {
       whole = whole_append (bytes_at file at) s.kept (cut_whole file at there) h.whole;
       likes = λ d. likes_so (cut_steps file at there s.kept d) (steps_first file at l d) (alike (is_reading (tag_at file at)) d);

@@ -27,8 +27,6 @@ use Rattle.rules.specs.Rules.{charges, limited, with_mode, unit_after, share_of}
 use Rattle.members.specs.Ranges.{Fleet}
 use Rattle.members.specs.Sums.{total, unable_at}
 use Rattle.controller.specs.Pass.{own_need, own_band, rests, spent, all_in_band, request_after, pass_by, pass_of}
-use Rattle.lead.specs.declared.Voltage.{Voltage}
-use Rattle.lead.specs.declared.Voltage.TheVariants.{Unsaid, Said}
 use Rattle.lead.specs.declared.Lead.{Lead}
 use Rattle.lead.specs.Lead.{Leading, unled, led, lead_of}
 use Rattle.lead.specs.Lead.{Modest}
@@ -52,17 +50,18 @@ use Rattle.guided.specs.Roofs.{led_roof, lit_step}
 use Rattle.guided.specs.Roofs.{requested_of as roofRequested}
 use Rattle.guided.proofs.LitProved.{lit_law}
 use Rattle.site.specs.Ranges.{Guided}
+use Rattle.std.proofs.Common.{None, Option, Some}
 
 -- ---- a size of at most 10^8 fits 32 bits
 pub small_mag : (z : ℤ) → nat_abs z ≤ 100000000 → mag z < 2 ^ 31
 small_mag z h = (size_fits w32 z (lt_of_le_of_lt h (lit< tt))).sfits
 
 -- ---- what leads is modest
-pub lead_modest : (l : Leading) → Guided l → (v : Voltage) → Modest (lead_of l v)
+pub lead_modest : (l : Leading) → Guided l → (v : Option ℕ) → Modest (lead_of l v)
 unfolding lead_of
 lead_modest unled g v = record { y_small = zero-le }
-lead_modest (led f) g Unsaid = record { y_small = zero-le }
-lead_modest (led f) g (Said x) = record { y_small = curve_small f g (pos x) }
+lead_modest (led f) g None = record { y_small = zero-le }
+lead_modest (led f) g (Some x) = record { y_small = curve_small f g (pos x) }
 
 -- ---- requests
 abbrev pub SmallAsked : List ℤ → Type 0

@@ -7,7 +7,7 @@ use super::Settings;
 pub fn settings_in(s: Settings) -> bool
     ensures { result ≡ settings_in s }
 {
-    let size = whole::size32(s.target);
+    let size = s.target.unsigned_abs();
     ((1 <= s.mode) & (s.mode <= 5))
         & (size <= 100000000)
         & (s.band <= 200000000)
@@ -18,7 +18,7 @@ pub fn settings_in(s: Settings) -> bool
 pub fn measure_in(measure: i64) -> bool
     ensures { result ≡ measure_in measure }
 {
-    whole::size64(measure) <= 300000000
+    measure.unsigned_abs() <= 300000000
 }
 
 // A measure by current handed straight to a pass is in its range.

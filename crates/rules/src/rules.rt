@@ -124,7 +124,7 @@ pub fn in_band(band: u64, need: i64) -> bool
     requires { nat_abs need ≤ 10000000000000 }
     ensures { result ≡ in_band band need }
 {
-    2 * whole::size64(need) <= band
+    2 * need.unsigned_abs() <= band
 }
 
 // P6: the size of a unit's share, from the size of its own need.
@@ -150,7 +150,7 @@ pub fn share(factor: u16, need: i64, weight: u16, weights: u64) -> i64
     if weights == 0 {
         return 0;
     }
-    let size = share_size(factor, whole::size64(need), weight, weights);
+    let size = share_size(factor, need.unsigned_abs(), weight, weights);
     whole::signed64(whole::below_zero64(need), size)
 }
 
@@ -163,7 +163,7 @@ fn directed(charging: bool, rating: u32, z: i64) -> i32
     if charging != negative {
         return 0;
     }
-    let size = whole::size64(z);
+    let size = z.unsigned_abs();
     if size <= rating as u64 {
         return whole::signed32(charging, size as u32);
     }

@@ -9,7 +9,6 @@ use lib.ListN.{length, get_or}
 use Rattle.parts.specs.Header.{tag_at}
 use Rattle.reading.specs.declared.Phases.{Phases}
 use Rattle.reading.specs.declared.Reading.TheVariants.{Missing, Power, Current}
-use Rattle.reading.specs.declared.Measure.TheVariants.{Chosen}
 use Rattle.reading.specs.Choice.{measure_of, current_of, refusal_of}
 use Rattle.site.specs.declared.Due.{Due}
 use Rattle.site.specs.declared.Step.{Step}
@@ -22,6 +21,7 @@ use Rattle.stick.proofs.SiteProved.{sited, steps_from_lem}
 use Rattle.fleet.proofs.UsedLaws.{chosen, chosen_current}
 use Rattle.stretch.specs.Posts.{FieldsAt, StepsThere}
 use Rattle.stretch.proofs.AcceptedLaws.{steps_there}
+use Rattle.std.proofs.Common.{Ok}
 
 -- each reading of these fields
 usable : (file : List ℕ) (d : Due) (ats : List ℕ) → FieldsAt file ats → (k : ℕ) → k < length (steps_in file d ats) → refusal_of (get_or (steps_in file d ats) k (step_with Missing none_yet)).reading ≡ 0
@@ -53,9 +53,9 @@ all_usable file a k h =
 
 -- every power that an accepted file has gives a measure, and every current
 pub none_refused_lem : (file : List ℕ) → Accepted file → (k : ℕ) → k < length (steps_of file) → (p : Phases) → (get_or (steps_of file) k (step_with Missing none_yet)).reading ≡ Power p
-    → (m : ℤ) × (measure_of p (site_of file).head.phase ≡ Chosen m)
+    → (m : ℤ) × (measure_of p (site_of file).head.phase ≡ Ok m)
 none_refused_lem file a k h p e = chosen p (site_of file).head.phase (sited file a).phase (ap refusal_of (sym e) ∙ all_usable file a k h)
 
 pub no_current_refused_lem : (file : List ℕ) → Accepted file → (k : ℕ) → k < length (steps_of file) → (p : Phases) → (get_or (steps_of file) k (step_with Missing none_yet)).reading ≡ Current p
-    → (m : ℤ) × (current_of p (site_of file).head.phase ≡ Chosen m)
+    → (m : ℤ) × (current_of p (site_of file).head.phase ≡ Ok m)
 no_current_refused_lem file a k h p e = chosen_current p (site_of file).head.phase (sited file a).phase (ap refusal_of (sym e) ∙ all_usable file a k h)

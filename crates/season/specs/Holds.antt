@@ -1,8 +1,7 @@
 -- What holds of every run of an accepted file (rules O5, T5, M6 and P9). `run-law` proves it.
-use Rattle.std.specs.Prelude.{ℕ, ◌<◌, List, ◌≡◌, ℤ, length, get_or, take}
+use Rattle.std.specs.Prelude.{ℕ, ◌<◌, List, ◌≡◌, ℤ, length, get_or, take, Ok}
 use Rattle.reading.specs.declared.Phases.{Phases}
 use Rattle.reading.specs.declared.Reading.TheVariants.{Missing, Power, Current}
-use Rattle.reading.specs.declared.Measure.TheVariants.{Chosen}
 use Rattle.reading.specs.Choice.{measure_of, current_of}
 use Rattle.controller.specs.OneSign.{OneSign}
 use Rattle.site.specs.Site.{none_yet, step_with}
@@ -17,9 +16,9 @@ pub record RunLaw (file : List ℕ) : Type 0 where
   pub result_length : length (result_of file) ≡ needed file
   -- every power that the file has gives a measure, and every current
   pub none_refused : (k : ℕ) → k < length (steps_of file) → (p : Phases) → (get_or (steps_of file) k (step_with Missing none_yet)).reading ≡ Power p
-      → (m : ℤ) × (measure_of p (site_of file).head.phase ≡ Chosen m)
+      → (m : ℤ) × (measure_of p (site_of file).head.phase ≡ Ok m)
   pub no_current_refused : (k : ℕ) → k < length (steps_of file) → (p : Phases) → (get_or (steps_of file) k (step_with Missing none_yet)).reading ≡ Current p
-      → (m : ℤ) × (current_of p (site_of file).head.phase ≡ Chosen m)
+      → (m : ℤ) × (current_of p (site_of file).head.phase ≡ Ok m)
   -- after any number of steps the requests are not of both signs
   pub one_sign : (k : ℕ) → OneSign (stands_after (plant_of file) (stands_first (plant_of file)) (take k (steps_of file))).units.requests
 

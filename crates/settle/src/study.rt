@@ -3,7 +3,7 @@ ghost use Rattle.stick.specs.Check.{Accepted};
 
 use super::arguments::Asked;
 use super::{lines, sums};
-use settling::{Studied, StudyAnswer};
+use settling::Studied;
 use std::io;
 
 // The lines of a study of an accepted file.
@@ -33,7 +33,7 @@ pub fn made(out: &impl Print, err: &impl Print, file: &[u8], asked: Asked) -> io
     let requests = &mut room[0..n];
     let load = i64::from(asked.load.number);
     match ask::study(file, load, asked.budget.number, requests) {
-        StudyAnswer::StudyDone(r) => told(out, file, asked, r, requests),
-        StudyAnswer::StudyRefused(_) => lines::refused(out, err, asked),
+        Ok(r) => told(out, file, asked, r, requests),
+        Err(_) => lines::refused(out, err, asked),
     }
 }

@@ -6,7 +6,6 @@ mod study;
 
 use rules::Settings;
 pub use study::{settle, settle_within, trial_in};
-use whole::Refusal;
 
 // What a study is asked: the settings, of which the mode has no say, the load in watts and the most
 // passes.
@@ -22,11 +21,4 @@ pub struct Trial {
 pub struct Studied {
     pub settled: bool,
     pub passes: u32,
-}
-
-// A study of any numbers: what it reports, or the refusal.
-#[derive(Clone, Copy)]
-pub enum StudyAnswer {
-    StudyDone(Studied),
-    StudyRefused(Refusal),
 }

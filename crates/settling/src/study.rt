@@ -6,10 +6,11 @@ ghost use Rattle.settling.specs.Study.{shaving, trial_in};
 ghost use Rattle.settling.specs.Posts.{DoneTrial, Measured, Trying};
 ghost use Rattle.settling.specs.Answers.{study_answer, study_leaves};
 
-use super::{Studied, StudyAnswer, Trial};
+use super::{Studied, Trial};
 use members::Totals;
 use rows::Row;
 use rules::Settings;
+use whole::Refusal;
 
 // The settings of a study: mode 1, whatever the mode was.
 fn shaved(s: Settings) -> Settings
@@ -133,7 +134,7 @@ pub fn settle(
     rating: &[u32],
     weight: &[u16],
     requests: &mut [i32],
-) -> StudyAnswer
+) -> Result<Studied, Refusal>
     ensures value { result ≡ study_answer q (fleet_of rated.now reserve.now stored.now rating.now weight.now) requests.old }
     ensures requests_after { requests.new ≡ study_leaves q (fleet_of rated.now reserve.now stored.now rating.now weight.now) requests.old }
 {
@@ -146,11 +147,11 @@ pub fn settle(
         weight.len(),
         n,
     ) {
-        return StudyAnswer::StudyRefused(whole::refused(10));
+        return Err(whole::refused(10));
     }
     let fine = trial_in(q);
     if !(fine & members::units_in(rated, reserve, stored, rating, weight)) {
-        return StudyAnswer::StudyRefused(whole::refused(5));
+        return Err(whole::refused(5));
     }
-    StudyAnswer::StudyDone(settle_over(q, rated, reserve, stored, rating, weight, requests))
+    Ok(settle_over(q, rated, reserve, stored, rating, weight, requests))
 }

@@ -1,10 +1,8 @@
 -- What a run file says of the fleet, once its bytes are read: the definitions of the run take a site and its steps, and never see bytes or places.
-use Rattle.std.specs.Prelude.{ℕ, List, [], map, pos, length, get_or}
+use Rattle.std.specs.Prelude.{ℕ, List, [], map, pos, length, get_or, None, Option}
 use Rattle.reading.specs.declared.Reading.{Reading}
 use Rattle.unit.specs.declared.Unit.{Unit}
-use Rattle.lead.specs.declared.Voltage.{Voltage}
 use Rattle.lead.specs.Lead.{Leading}
-use Rattle.lead.specs.declared.Voltage.TheVariants.{Unsaid}
 use Rattle.solar.specs.declared.Sun.{Sun}
 use Rattle.solar.specs.Weather.{dark}
 use Rattle.solar.specs.Roof.{Roof}
@@ -66,11 +64,11 @@ pub record Plant : Type 0 where
   pub leading : Leading
 
 -- what a step under way has before its reading: a sun and a voltage, at first neither
-abbrev pub due : Sun → Voltage → Due
+abbrev pub due : Sun → Option ℕ → Due
 due s v = record { sun = s; voltage = v }
 
 abbrev pub none_yet : Due
-none_yet = due dark Unsaid
+none_yet = due dark None
 
 -- a step with its reading
 abbrev pub step_with : Reading → Due → Step

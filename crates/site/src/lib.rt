@@ -3,7 +3,6 @@
 
 #![tactic(auto)]
 
-use lead::Voltage;
 use reading::Reading;
 use rules::Settings;
 use solar::Sun;
@@ -24,12 +23,12 @@ pub struct Head {
 pub struct Step {
     pub reading: Reading,
     pub sun: Sun,
-    pub voltage: Voltage,
+    pub voltage: Option<u16>,
 }
 
 // What a step under way has before its reading.
 #[derive(Clone, Copy)]
 pub struct Due {
     pub sun: Sun,
-    pub voltage: Voltage,
+    pub voltage: Option<u16>,
 }

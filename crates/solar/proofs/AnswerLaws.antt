@@ -14,25 +14,22 @@ use Rattle.solar.specs.declared.Inverter.{Inverter}
 use Rattle.solar.specs.declared.Sun.{Sun}
 use Rattle.solar.specs.declared.Weather.{Weather}
 use Rattle.solar.specs.declared.Given.{Given}
-use Rattle.solar.specs.declared.Sky.{Sky}
-use Rattle.solar.specs.declared.Sky.TheVariants.{Clear, Unknown}
-use Rattle.solar.specs.declared.Lit.{Lit}
-use Rattle.solar.specs.declared.Lit.TheVariants.{Done, RefusedBy}
 use Rattle.solar.specs.Roof.{Roof, roof_in}
 use Rattle.solar.specs.Weather.{sky_of}
 use Rattle.solar.specs.Step.{step_of}
 use Rattle.solar.specs.Answers.{Lists, lengths_in, roof_of, lit_refusal, lit_by, lit_of}
+use Rattle.std.proofs.Common.{Err, None, Ok, Option, Result, Some}
 
 -- ---- the answer of a roof: 5, 6, or the step
 module _ (r : Roof) (on : ℕ) (w : Weather) where
-  abbrev pub answer : Lit
-  answer = cond (roof_in r && leb on 1) (lit_by r (eqb on 1) (sky_of w)) (RefusedBy (refusal 5))
+  abbrev pub answer : Result Given Refusal
+  answer = cond (roof_in r && leb on 1) (lit_by r (eqb on 1) (sky_of w)) (Err (refusal 5))
 
   module _ (passed : Bool) (ep : passed ≡ roof_in r) where
-    pub out_of_range : not (passed && leb on 1) ≡ true → (q : Refusal) → q ≡ refusal 5 → RefusedBy q ≡ answer
+    pub out_of_range : not (passed && leb on 1) ≡ true → (q : Refusal) → q ≡ refusal 5 → Err q ≡ answer
     out_of_range t q eq =
-        ap RefusedBy eq
-        ∙ sym (ap (λ (b : Bool). cond b (lit_by r (eqb on 1) (sky_of w)) (RefusedBy (refusal 5)))
+        ap Err eq
+        ∙ sym (ap (λ (b : Bool). cond b (lit_by r (eqb on 1) (sky_of w)) (Err (refusal 5)))
         (ap (λ (b : Bool). b && leb on 1) (sym ep) ∙ not-true (passed && leb on 1) t))
 
     module _ (t : not (passed && leb on 1) ≡ false) where
@@ -41,19 +38,19 @@ module _ (r : Roof) (on : ℕ) (w : Weather) where
 
       in_range : lit_by r (eqb on 1) (sky_of w) ≡ answer
       in_range =
-          sym (ap (λ (b : Bool). cond b (lit_by r (eqb on 1) (sky_of w)) (RefusedBy (refusal 5)))
+          sym (ap (λ (b : Bool). cond b (lit_by r (eqb on 1) (sky_of w)) (Err (refusal 5)))
           (ap (λ (b : Bool). b && leb on 1) (sym ep) ∙ not-false (passed && leb on 1) t))
 
-      module _ (sky : Sky) (es : sky ≡ sky_of w) where
-        pub no_sky : sky ≡ Unknown → (q : Refusal) → q ≡ refusal 6 → RefusedBy q ≡ answer
-        no_sky e q eq = ap RefusedBy eq ∙ ap (lit_by r (eqb on 1)) (sym e ∙ es) ∙ in_range
+      module _ (sky : Option Sun) (es : sky ≡ sky_of w) where
+        pub no_sky : sky ≡ None → (q : Refusal) → q ≡ refusal 6 → Err q ≡ answer
+        no_sky e q eq = ap Err eq ∙ ap (lit_by r (eqb on 1)) (sym e ∙ es) ∙ in_range
 
-        pub clear_sky : (s : Sun) → sky ≡ Clear s → (g : Given) → g ≡ step_of r (eqb on 1) s → Done g ≡ answer
-        clear_sky s e g eg = ap Done eg ∙ ap (lit_by r (eqb on 1)) (sym e ∙ es) ∙ in_range
+        pub clear_sky : (s : Sun) → sky ≡ Some s → (g : Given) → g ≡ step_of r (eqb on 1) s → Ok g ≡ answer
+        clear_sky s e g eg = ap Ok eg ∙ ap (lit_by r (eqb on 1)) (sym e ∙ es) ∙ in_range
 
 -- the same curves, the same answer
 pub answer_same : (v : Inverter) (on : ℕ) (w : Weather) (p q p' q' : List Point) → p ≡ p' → q ≡ q'
-    → (g : Lit) → g ≡ answer (record { inverter = v; warm = p; efficiency = q }) on w → g ≡ answer (record { inverter = v; warm = p'; efficiency = q' }) on w
+    → (g : Result Given Refusal) → g ≡ answer (record { inverter = v; warm = p; efficiency = q }) on w → g ≡ answer (record { inverter = v; warm = p'; efficiency = q' }) on w
 answer_same v on w p q p' q' ep eq g e = e ∙ ap₂ (λ (a b : List Point). answer (record { inverter = v; warm = a; efficiency = b }) on w) ep eq
 
 -- ---- the lists of a curve
@@ -65,8 +62,8 @@ lengths_few xs ys e =
 -- ---- the whole answer
 module _ (v : Inverter) (l : Lists) (on : ℕ) (w : Weather) (warm eff : Bool) (ew : warm ≡ lengths_in l.warm_x l.warm_y)
     (ee : eff ≡ lengths_in l.eff_x l.eff_y) where
-  abbrev by : ℕ → Lit
-  by n = cond (eqb n 0) (lit_by (roof_of v l) (eqb on 1) (sky_of w)) (RefusedBy (refusal n))
+  abbrev by : ℕ → Result Given Refusal
+  by n = cond (eqb n 0) (lit_by (roof_of v l) (eqb on 1) (sky_of w)) (Err (refusal n))
 
   abbrev late : ℕ
   late = cond (not (roof_in (roof_of v l) && leb on 1)) 5 0
@@ -75,14 +72,14 @@ module _ (v : Inverter) (l : Lists) (on : ℕ) (w : Weather) (warm eff : Bool) (
   unfolding lit_refusal
   tested = sym (ap₂ (λ (a b : Bool). cond (not (a && b)) 10 late) ew ee)
 
-  pub lit_lengths : not (warm && eff) ≡ true → (q : Refusal) → q ≡ refusal 10 → RefusedBy q ≡ lit_of v l on w
+  pub lit_lengths : not (warm && eff) ≡ true → (q : Refusal) → q ≡ refusal 10 → Err q ≡ lit_of v l on w
   unfolding lit_of
-  lit_lengths t q eq = ap RefusedBy eq ∙ sym (ap by (tested ∙ ap (λ (b : Bool). cond b 10 late) t))
+  lit_lengths t q eq = ap Err eq ∙ sym (ap by (tested ∙ ap (λ (b : Bool). cond b 10 late) t))
 
-  late_is : (b : Bool) → by (cond (not b) 5 0) ≡ cond b (lit_by (roof_of v l) (eqb on 1) (sky_of w)) (RefusedBy (refusal 5))
+  late_is : (b : Bool) → by (cond (not b) 5 0) ≡ cond b (lit_by (roof_of v l) (eqb on 1) (sky_of w)) (Err (refusal 5))
   late_is true = refl
   late_is false = refl
 
-  pub lit_answer : not (warm && eff) ≡ false → (g : Lit) → g ≡ answer (roof_of v l) on w → g ≡ lit_of v l on w
+  pub lit_answer : not (warm && eff) ≡ false → (g : Result Given Refusal) → g ≡ answer (roof_of v l) on w → g ≡ lit_of v l on w
   unfolding lit_of
   lit_answer t g e = e ∙ sym (ap by (tested ∙ ap (λ (b : Bool). cond b 10 late) t) ∙ late_is (roof_in (roof_of v l) && leb on 1))

@@ -1,19 +1,17 @@
 -- What one step without a file answers, for any numbers and lists (rules C19 and N15): 10 where a curve's lists differ in length or have not 2 to 16
 -- points, then 5, then 6, with place and steps 0 (rule N16); else what the step gives. The number 0 stands for no refusal.
-use Rattle.std.specs.Prelude.{ℕ, Bool, not, cond, ◌&&◌, List, leb, eqb, ℤ, length}
-use Rattle.whole.specs.Call.{Call, Gave, Refused, refusal}
+use Rattle.std.specs.Prelude.{ℕ, Bool, not, cond, ◌&&◌, List, leb, eqb, ℤ, length, Err, None, Ok, Option, Result, Some}
+use Rattle.whole.specs.Call.{Call, refusal}
 use Rattle.whole.specs.Interval.{between}
 use Rattle.curve.specs.Ranges.{points_of}
 use Rattle.solar.specs.declared.Inverter.{Inverter}
 use Rattle.solar.specs.declared.Weather.{Weather}
-use Rattle.solar.specs.declared.Sky.{Sky}
-use Rattle.solar.specs.declared.Sky.TheVariants.{Clear, Unknown}
 use Rattle.solar.specs.declared.Given.{Given}
-use Rattle.solar.specs.declared.Lit.{Lit}
-use Rattle.solar.specs.declared.Lit.TheVariants.{Done, RefusedBy}
 use Rattle.solar.specs.Roof.{Roof, roof_in}
 use Rattle.solar.specs.Weather.{sky_of}
 use Rattle.solar.specs.Step.{step_of}
+use Rattle.solar.specs.declared.Sun.{Sun}
+use Rattle.whole.specs.declared.Refusal.{Refusal}
 
 -- the lent lists of two curves
 pub record Lists : Type 0 where
@@ -40,18 +38,13 @@ lit_refusal v l on =
     (cond (not (roof_in (roof_of v l) && leb on 1)) 5 0)
 
 -- then 6
-abbrev pub lit_by : Roof → Bool → Sky → Lit
-lit_by r on (Clear s) = Done (step_of r on s)
-lit_by r on Unknown = RefusedBy (refusal 6)
+abbrev pub lit_by : Roof → Bool → Option Sun → Result Given Refusal
+lit_by r on (Some s) = Ok (step_of r on s)
+lit_by r on None = Err (refusal 6)
 
-unfoldable pub lit_of : Inverter → Lists → ℕ → Weather → Lit
+unfoldable pub lit_of : Inverter → Lists → ℕ → Weather → Result Given Refusal
 unfolding lit_refusal step_of sky_of
 lit_of v l on w =
     let n = lit_refusal v l on in
     let answer = lit_by (roof_of v l) (eqb on 1) (sky_of w) in
-    cond (eqb n 0) answer (RefusedBy (refusal n))
-
--- the answer as a call's
-abbrev pub lit_call : Lit → Call Given
-lit_call (Done g) = Gave g
-lit_call (RefusedBy r) = Refused r
+    cond (eqb n 0) answer (Err (refusal n))

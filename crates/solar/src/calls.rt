@@ -5,7 +5,8 @@ ghost use Rattle.curve.specs.Layout.{points_at};
 ghost use Rattle.solar.specs.Posts.{roof_by, lit_in};
 ghost use Rattle.solar.specs.Answers.{lists_of, lit_of, roof_of};
 
-use super::{Inverter, Lit, Sky, Weather, ranges, skies, steps};
+use super::{Given, Inverter, Weather, ranges, skies, steps};
+use whole::Refusal;
 
 // The lists of a curve have one length, 2 to 16.
 fn lengths_in(xs: usize, ys: usize) -> bool
@@ -31,17 +32,17 @@ fn lay_both(warm_x: &[i32], warm_y: &[i32], eff_x: &[i32], eff_y: &[i32], room: 
 
 // One step by the two curves that lie in bytes: refused are values out of range (5), and a weather
 // that cannot be used (6).
-fn step_in(v: Inverter, bytes: &[u8], on: u8, w: Weather) -> Lit
+fn step_in(v: Inverter, bytes: &[u8], on: u8, w: Weather) -> Result<Given, Refusal>
     requires { length bytes.now ≡ 258 }
     ensures { result ≡ lit_in (roof_by v bytes.now 0 129) on w }
 {
     if !(ranges::roof_in(v, bytes, 0, 129) & (on <= 1)) {
-        return Lit::RefusedBy(whole::refused(5));
+        return Err(whole::refused(5));
     }
-    let Sky::Clear(s) = skies::sky_of(w) else {
-        return Lit::RefusedBy(whole::refused(6));
+    let Some(s) = skies::sky_of(w) else {
+        return Err(whole::refused(6));
     };
-    Lit::Done(steps::step_within(v, bytes, 0, 129, on == 1, s))
+    Ok(steps::step_within(v, bytes, 0, 129, on == 1, s))
 }
 
 // The same by two curves of lists.
@@ -53,7 +54,7 @@ fn step_over(
     eff_y: &[i32],
     on: u8,
     w: Weather,
-) -> Lit
+) -> Result<Given, Refusal>
     requires warm_x_len_bound { length warm_x.now ≤ 16 }
     requires warm_y_len { length warm_y.now ≡ length warm_x.now }
     requires eff_x_len_bound { length eff_x.now ≤ 16 }
@@ -75,13 +76,13 @@ pub fn step(
     eff_y: &[i32],
     on: u8,
     w: Weather,
-) -> Lit
+) -> Result<Given, Refusal>
     ensures { result ≡ lit_of v (lists_of warm_x.now warm_y.now eff_x.now eff_y.now) on w }
 {
     let warm = lengths_in(warm_x.len(), warm_y.len());
     let eff = lengths_in(eff_x.len(), eff_y.len());
     if !(warm & eff) {
-        return Lit::RefusedBy(whole::refused(10));
+        return Err(whole::refused(10));
     }
     step_over(v, warm_x, warm_y, eff_x, eff_y, on, w)
 }

@@ -13,7 +13,6 @@ pub use calls::step;
 pub use ranges::{inverter_in, roof_in};
 pub use skies::sky_of;
 pub use steps::step_within;
-use whole::Refusal;
 
 // An inverter: array power in W, S in VA, cut-in and cut-out in parts in 10,000 of S, the limit in
 // parts in 10,000 of array power, the vars wanted, and what comes first, watts (0) or vars (1).
@@ -42,13 +41,6 @@ pub struct Sun {
     pub temperature: i32,
 }
 
-// What a weather becomes: a sun, or nothing that can be used.
-#[derive(Clone, Copy)]
-pub enum Sky {
-    Clear(Sun),
-    Unknown,
-}
-
 // What a step gives: whether the inverter is on, watts at the grid, vars, and DC power in W.
 #[derive(Clone, Copy)]
 pub struct Given {
@@ -56,11 +48,4 @@ pub struct Given {
     pub watts: i32,
     pub vars: i32,
     pub dc: u64,
-}
-
-// A step of any numbers: what it gives, or the refusal.
-#[derive(Clone, Copy)]
-pub enum Lit {
-    Done(Given),
-    RefusedBy(Refusal),
 }

@@ -12,7 +12,7 @@ pub fn share(bytes: &[u8], place: usize, x: i64) -> u64
     requires { Usable bytes.now place }
     ensures { result ≡ nat_abs (curve_at (points_at bytes.now place) x) }
 {
-    whole::size64(curve::value(bytes, place, x))
+    curve::value(bytes, place, x).unsigned_abs()
 }
 
 // DC power of an array, at an irradiance and by the factor of its temperature.
@@ -59,14 +59,14 @@ pub fn ac(v: Inverter, efficiency: u64, dc: u64) -> u32
     ensures { result ≡ min (dc * efficiency / 10000) (limit_of v) }
 {
     let most = (v.array as u64) * (v.limit as u64) / 10000;
-    whole::least64(dc * efficiency / 10000, most) as u32
+    (dc * efficiency / 10000).min(most) as u32
 }
 
 // The size of the var request, at most S.
 fn limited(v: Inverter) -> u32
     ensures { result ≡ limited_vars v }
 {
-    whole::least32(whole::size32(v.var_request), v.kva)
+    v.var_request.unsigned_abs().min(v.kva)
 }
 
 // The watts of an AC power: at most S and, under var priority, what the vars leave of the circle.

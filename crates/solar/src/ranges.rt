@@ -10,7 +10,7 @@ use curve::Bounds;
 pub fn inverter_in(v: Inverter) -> bool
     ensures { result ≡ inverter_in v }
 {
-    let vars = whole::size32(v.var_request);
+    let vars = v.var_request.unsigned_abs();
     ((1 <= v.array) & (v.array <= 100000000))
         & ((1 <= v.kva) & (v.kva <= 100000000))
         & (v.cut_in <= 10000)

@@ -1,23 +1,22 @@
 ghost use Rattle.std.specs.Prelude.{◌≡◌};
 ghost use Rattle.solar.specs.Weather.{sky_of};
 
-use super::{Sky, Sun, Weather};
-use reading::Watts;
+use super::{Sun, Weather};
 
 // The sun of a weather, any two doubles.
-pub fn sky_of(w: Weather) -> Sky
+pub fn sky_of(w: Weather) -> Option<Sun>
     ensures { result ≡ sky_of w }
 {
-    let Watts::Whole(i) = reading::converted(w.irradiance) else {
-        return Sky::Unknown;
+    let Some(i) = reading::converted(w.irradiance) else {
+        return None;
     };
-    let Watts::Whole(t) = reading::converted(w.temperature) else {
-        return Sky::Unknown;
+    let Some(t) = reading::converted(w.temperature) else {
+        return None;
     };
     if i < 0 {
-        return Sky::Unknown;
+        return None;
     }
-    Sky::Clear(Sun {
+    Some(Sun {
         irradiance: i as u32,
         temperature: t,
     })

@@ -15,8 +15,6 @@ use Rattle.site.specs.Site.{none_yet}
 use Rattle.unit.specs.Ranges.{link_of, connection_in}
 use Rattle.parts.specs.Header.{header, tag_at, past}
 use Rattle.fields.specs.declared.State.{State}
-use Rattle.fields.specs.declared.Taken.{Taken}
-use Rattle.fields.specs.declared.Taken.TheVariants.{Stop}
 use Rattle.fields.specs.Fields.{at_inverters, at_connections, kinds, size_in, size_of, head_of, stands_in, allowed, value_of, refused_by, flags, state_of, roof_after, state_after, taken_by, connections_in}
 use Rattle.fields.proofs.FieldLaws.{connections_alone}
 use Rattle.stick.specs.Check.{field_at}
@@ -24,6 +22,7 @@ use Rattle.stick.specs.Site.{having, steps_in}
 use Rattle.stick.proofs.WalkLaws.{whole, OnTheWay, way_alike}
 use Rattle.stick.proofs.PlaceLaws.{from, picked, left_out, closes_none}
 use Rattle.stick.proofs.SaidLaws.{accepted_test, one, Waited, waited}
+use Rattle.std.proofs.Common.{Err, Result}
 
 -- ---- by watts, where no connections stand, the stage of the connections is that of the inverters
 module _ (edition units left steps : ℕ) (led : Bool) (file : List ℕ) where
@@ -39,7 +38,7 @@ module _ (edition units left steps : ℕ) (led : Bool) (file : List ℕ) where
 
   pub field_alike : (at : ℕ) → (tag_at file at ≡ 10 → ⊥) → field_at linking file at ≡ field_at roofing file at
   unfolding field_at head_of size_of kinds size_in
-  field_alike at n = ap (λ (t : Taken). cond (eqb (head_of roofing file at) 0) t (Stop (head_of roofing file at))) (taken_alike (tag_at file at) n (at + header))
+  field_alike at n = ap (λ (t : Result State ℕ). cond (eqb (head_of roofing file at) 0) t (Err (head_of roofing file at))) (taken_alike (tag_at file at) n (at + header))
 
 -- ---- what stands at the place of the connections
 module _ (file : List ℕ) (ok : (whole file).number ≡ 0) (edition units : ℕ) where

@@ -15,8 +15,6 @@ use Rattle.lead.specs.Lead.{volt_var_bounds}
 use Rattle.site.specs.Site.{none_yet}
 use Rattle.parts.specs.Header.{header, tag_at, past}
 use Rattle.fields.specs.declared.State.{State}
-use Rattle.fields.specs.declared.Taken.{Taken}
-use Rattle.fields.specs.declared.Taken.TheVariants.{Stop}
 use Rattle.fields.specs.Fields.{Flags, flags, at_steps, at_inverters, at_volt_var, at_led, kinds, size_in, size_of, head_of, stands_in, allowed, base_in, value_of, refused_by, state_of, roof_after, state_after, taken_by}
 use Rattle.stick.specs.Check.{field_at}
 use Rattle.stick.specs.Site.{having, steps_in}
@@ -25,6 +23,7 @@ use Rattle.fields.proofs.FieldLaws.{volt_var_alone}
 use Rattle.stick.proofs.WalkLaws.{whole, OnTheWay, way_alike}
 use Rattle.stick.proofs.PlaceLaws.{from, Passed, picked, left_out, closes_none}
 use Rattle.stick.proofs.SaidLaws.{accepted_test, Waited, waited}
+use Rattle.std.proofs.Common.{Err, Result}
 
 -- ---- a stage where a step may begin is that of the steps: where neither inverter nor function stands, and behind the function
 module _ (edition units left steps : ℕ) (known : Flags) (file : List ℕ) where
@@ -56,11 +55,11 @@ module _ (edition units left steps : ℕ) (known : Flags) (file : List ℕ) wher
 
   pub field_alike : (at : ℕ) → (tag_at file at ≡ 6 → ⊥) → (tag_at file at ≡ 11 → ⊥) → field_at roofing file at ≡ field_at stepping file at
   unfolding field_at head_of size_of kinds size_in
-  field_alike at n m = ap (λ (t : Taken). cond (eqb (head_of stepping file at) 0) t (Stop (head_of stepping file at))) (taken_alike (tag_at file at) n m (at + header))
+  field_alike at n m = ap (λ (t : Result State ℕ). cond (eqb (head_of stepping file at) 0) t (Err (head_of stepping file at))) (taken_alike (tag_at file at) n m (at + header))
 
   pub led_alike : (at : ℕ) → field_at leading file at ≡ field_at stepping file at
   unfolding field_at head_of size_of kinds size_in
-  led_alike at = ap (λ (t : Taken). cond (eqb (head_of stepping file at) 0) t (Stop (head_of stepping file at))) (led_taken_alike (tag_at file at) (at + header))
+  led_alike at = ap (λ (t : Result State ℕ). cond (eqb (head_of stepping file at) 0) t (Err (head_of stepping file at))) (led_taken_alike (tag_at file at) (at + header))
 
 -- ---- a function that stands at a place: its two fields, and their values in their ranges
 pub record FunctionThere (file : List ℕ) (at : ℕ) : Type 0 where

@@ -14,8 +14,6 @@ use Rattle.solar.specs.Roof.{inverter_in, warm_bounds, efficiency_bounds}
 use Rattle.site.specs.Site.{none_yet}
 use Rattle.parts.specs.Header.{header, tag_at, past}
 use Rattle.fields.specs.declared.State.{State}
-use Rattle.fields.specs.declared.Taken.{Taken}
-use Rattle.fields.specs.declared.Taken.TheVariants.{Next, Stop}
 use Rattle.fields.specs.Fields.{Flags, at_inverters, at_temperature, at_efficiency, only, another, kinds, size_in, size_of, head_of, stands_in, allowed, inverter_at, five_unless, value_of, too_many, refused_by, state_of, roof_after, state_after, taken_by}
 use Rattle.stick.specs.Check.{field_at}
 use Rattle.stick.specs.Site.{having, steps_in}

@@ -27,10 +27,10 @@ use Rattle.flows.specs.Posts.{Carried, Moving, move_by}
 use Rattle.flows.proofs.FlowLaws.{discharged_nothing, flow_out, flow_carried, flow_small, loss_small}
 use Rattle.storage.proofs.GridLaws.{draw_more}
 use Rattle.storage.specs.declared.Outcome.{Outcome}
-use Rattle.storage.specs.declared.Stepped.TheVariants.{Done, RefusedBy}
 use Rattle.storage.specs.Ranges.{step_refusal}
 use Rattle.storage.specs.Posts.{idle_vars, rest_draw, rest_of, outcome_with}
 use Rattle.storage.specs.Step.{grid_watts, outcome_of, step_of, stepped_of, stepped_as}
+use Rattle.std.proofs.Common.{Err, Ok}
 
 -- ---- a step from what flows
 pub grid_fits : (u : Unit) (s : ℕ) → Ranged u s → grid_loss u * s < 2 ^ 64
@@ -140,25 +140,25 @@ rest_fits draw s hd hs =
 
 -- ---- a step of any numbers
 module _ (u : Unit) (s : ℕ) (request : ℤ) where
-  refused : (n : ℕ) → eqb n 0 ≡ false → step_refusal u s request ≡ n → (r : Refusal) → r ≡ refusal n → RefusedBy r ≡ stepped_of u s request
+  refused : (n : ℕ) → eqb n 0 ≡ false → step_refusal u s request ≡ n → (r : Refusal) → r ≡ refusal n → Err r ≡ stepped_of u s request
   unfolding stepped_of
   refused n z e r er =
-      ap RefusedBy er
-      ∙ sym (ap (λ (k : ℕ). cond (eqb k 0) (Done (step_of u s request)) (RefusedBy (refusal k))) e
-      ∙ ap (λ (t : Bool). cond t (Done (step_of u s request)) (RefusedBy (refusal n))) z)
+      ap Err er
+      ∙ sym (ap (λ (k : ℕ). cond (eqb k 0) (Ok (step_of u s request)) (Err (refusal k))) e
+      ∙ ap (λ (t : Bool). cond t (Ok (step_of u s request)) (Err (refusal n))) z)
 
-  pub refused_values : not (seconds_in s && unit_in u) ≡ true → (r : Refusal) → r ≡ refusal 5 → RefusedBy r ≡ stepped_of u s request
+  pub refused_values : not (seconds_in s && unit_in u) ≡ true → (r : Refusal) → r ≡ refusal 5 → Err r ≡ stepped_of u s request
   unfolding step_refusal
   refused_values e = refused 5 refl (simp e)
 
   module _ (ranges : not (seconds_in s && unit_in u) ≡ false) where
-    pub refused_rating : u.rating < nat_abs request → (r : Refusal) → r ≡ refusal 10 → RefusedBy r ≡ stepped_of u s request
+    pub refused_rating : u.rating < nat_abs request → (r : Refusal) → r ≡ refusal 10 → Err r ≡ stepped_of u s request
     unfolding step_refusal
     refused_rating h = refused 10 refl (simp (ranges, lt-leb (nat_abs request) u.rating h))
 
-    pub done : nat_abs request ≤ u.rating → Done (step_of u s request) ≡ stepped_of u s request
+    pub done : nat_abs request ≤ u.rating → Ok (step_of u s request) ≡ stepped_of u s request
     unfolding stepped_of step_refusal
-    done h = sym (ap (λ (k : ℕ). cond (eqb k 0) (Done (step_of u s request)) (RefusedBy (refusal k))) none)
+    done h = sym (ap (λ (k : ℕ). cond (eqb k 0) (Ok (step_of u s request)) (Err (refusal k))) none)
       where
         none : step_refusal u s request ≡ 0
         none = simp (ranges, le-leb (nat_abs request) u.rating h)
@@ -170,18 +170,18 @@ ranged u s e =
 
 -- ---- a step of a unit of an edition, by the test that the code has made
 module _ (edition : ℕ) (u : Unit) (s : ℕ) (request : ℤ) (known : Bool) (ek : known ≡ edition_in edition) where
-  by_edition : (b : Bool) → not known ≡ b → stepped_as edition u s request ≡ cond b (RefusedBy (refusal 5)) (stepped_of (in_edition edition u) s request)
+  by_edition : (b : Bool) → not known ≡ b → stepped_as edition u s request ≡ cond b (Err (refusal 5)) (stepped_of (in_edition edition u) s request)
   unfolding stepped_as
   by_edition b e =
-      ap (λ (t : Bool). cond t (stepped_of (in_edition edition u) s request) (RefusedBy (refusal 5))) (sym ek) ∙ turned known
-      ∙ ap (λ (t : Bool). cond t (RefusedBy (refusal 5)) (stepped_of (in_edition edition u) s request)) e
+      ap (λ (t : Bool). cond t (stepped_of (in_edition edition u) s request) (Err (refusal 5))) (sym ek) ∙ turned known
+      ∙ ap (λ (t : Bool). cond t (Err (refusal 5)) (stepped_of (in_edition edition u) s request)) e
     where
-      turned : (t : Bool) → cond t (stepped_of (in_edition edition u) s request) (RefusedBy (refusal 5)) ≡ cond (not t) (RefusedBy (refusal 5)) (stepped_of (in_edition edition u) s request)
+      turned : (t : Bool) → cond t (stepped_of (in_edition edition u) s request) (Err (refusal 5)) ≡ cond (not t) (Err (refusal 5)) (stepped_of (in_edition edition u) s request)
       turned true = refl
       turned false = refl
 
-  pub no_edition : not known ≡ true → (r : Refusal) → r ≡ refusal 5 → RefusedBy r ≡ stepped_as edition u s request
-  no_edition e r er = ap RefusedBy er ∙ sym (by_edition true e)
+  pub no_edition : not known ≡ true → (r : Refusal) → r ≡ refusal 5 → Err r ≡ stepped_as edition u s request
+  no_edition e r er = ap Err er ∙ sym (by_edition true e)
 
   pub as_edition : not known ≡ false → stepped_of (in_edition edition u) s request ≡ stepped_as edition u s request
   as_edition e = sym (by_edition false e)

@@ -1,9 +1,5 @@
 -- What a step without a file answers, as a call's.
-use Rattle.whole.specs.Call.{Call, Gave, Refused}
+use Rattle.whole.specs.Call.{Call}
 use Rattle.storage.specs.declared.Outcome.{Outcome}
-use Rattle.storage.specs.declared.Stepped.{Stepped}
-use Rattle.storage.specs.declared.Stepped.TheVariants.{Done, RefusedBy}
-
-abbrev pub step_call : Stepped → Call Outcome
-step_call (Done o) = Gave o
-step_call (RefusedBy r) = Refused r
+use Rattle.std.specs.Prelude.{Err, Ok, Result}
+use Rattle.whole.specs.declared.Refusal.{Refusal}

@@ -135,7 +135,7 @@ pub fn step_of(units: &[Row], i: usize, held: u64, seconds: u32, request: i32) -
     requires ranged { Ranged (row_unit units.now i held) seconds }
     ensures { result ≡ step_of (row_unit units.now i held) seconds request }
 {
-    let p = whole::least32(whole::size32(request), units[i].kept.most);
+    let p = request.unsigned_abs().min(units[i].kept.most);
     let kind = kind_of(units, i, held, seconds, request, p, units[i].kept.clear);
     if kind == OPEN {
         return steps::step_within(rows::unit_holding(units, i, held), seconds, request);

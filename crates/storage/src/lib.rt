@@ -11,7 +11,6 @@ pub use giving::{done, kind_of, step_of};
 pub use resting::row_of;
 pub use steps::{idle_vars, step, step_as, step_within};
 pub use unit::{idle_draw, unit_in};
-use whole::Refusal;
 
 // What becomes of a request, as far as a row tells: the unit idles, gives all of it, takes all of it,
 // or the row alone does not tell.
@@ -30,11 +29,4 @@ pub struct Outcome {
     pub vars: i32,
     pub stored: u64,
     pub loss: u64,
-}
-
-// A step of any numbers: its outcome, or the refusal.
-#[derive(Clone, Copy)]
-pub enum Stepped {
-    Done(Outcome),
-    RefusedBy(Refusal),
 }

@@ -3,8 +3,9 @@ ghost use Rattle.storage.specs.Step.{step_of, stepped_of, stepped_as};
 ghost use Rattle.unit.specs.Ranges.{unit_in, Ranged};
 ghost use Rattle.storage.specs.Posts.{idle_vars, rest_of};
 
-use super::{Outcome, Stepped};
+use super::Outcome;
 use unit::Unit;
+use whole::Refusal;
 
 // One step of a unit that is in its ranges.
 pub fn step_within(u: Unit, seconds: u32, request: i32) -> Outcome
@@ -47,24 +48,24 @@ pub fn rest(draw: u32, vars: i32, held: u64, seconds: u32) -> Outcome
 }
 
 // One step of any numbers: refused are values out of range (5) and a request beyond the rating (10).
-pub fn step(u: Unit, seconds: u32, request: i32) -> Stepped
+pub fn step(u: Unit, seconds: u32, request: i32) -> Result<Outcome, Refusal>
     ensures { result ≡ stepped_of u seconds request }
 {
     if !(unit::seconds_in(seconds) & unit::unit_in(u)) {
-        return Stepped::RefusedBy(whole::refused(5));
+        return Err(whole::refused(5));
     }
-    if u.rating < whole::size32(request) {
-        return Stepped::RefusedBy(whole::refused(10));
+    if u.rating < request.unsigned_abs() {
+        return Err(whole::refused(10));
     }
-    Stepped::Done(step_within(u, seconds, request))
+    Ok(step_within(u, seconds, request))
 }
 
 // One step of a unit of an edition: refused is also an edition that there is not (5).
-pub fn step_as(edition: u8, u: Unit, seconds: u32, request: i32) -> Stepped
+pub fn step_as(edition: u8, u: Unit, seconds: u32, request: i32) -> Result<Outcome, Refusal>
     ensures { result ≡ stepped_as edition u seconds request }
 {
     if !unit::edition_in(edition) {
-        return Stepped::RefusedBy(whole::refused(5));
+        return Err(whole::refused(5));
     }
     step(unit::in_edition(edition, u), seconds, request)
 }

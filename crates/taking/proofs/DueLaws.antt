@@ -13,8 +13,6 @@ use Rattle.octets.specs.BigEndian.{be}
 use Rattle.parts.specs.Header.{header, past}
 use Rattle.solar.specs.declared.Sun.{Sun}
 use Rattle.solar.specs.Posts.{Shining}
-use Rattle.lead.specs.declared.Voltage.{Voltage}
-use Rattle.lead.specs.declared.Voltage.TheVariants.{Unsaid, Said}
 use Rattle.lead.specs.Lead.{voltage_in}
 use Rattle.site.specs.declared.Due.{Due}
 use Rattle.site.specs.Site.{due, none_yet}
@@ -33,12 +31,13 @@ use Rattle.taking.specs.Posts.{Leads}
 use Rattle.taking.proofs.TookLaws.{by_begins}
 use Rattle.taking.proofs.LeadLaws.{parts}
 use Rattle.taking.proofs.ChainLaws.{Chain, done, read, lit, said, ended, chained}
+use Rattle.std.proofs.Common.{None, Option, Some}
 
 -- ---- what fits a stage
 pub record DueWell (stage : ℕ) (d : Due) : Type 0 where
   pub sunny : sun_fits stage d.sun ≡ true
   pub volted : volt_fits stage (volts_of d.voltage) ≡ true
-  pub said : d.voltage ≡ cond (eqb stage at_voltage) (Said (volts_of d.voltage)) Unsaid
+  pub said : d.voltage ≡ cond (eqb stage at_voltage) (Some (volts_of d.voltage)) None
 
 -- a sun in its ranges fits where a reading is waited for
 shining_tests : (s : Sun) → Shining s → (leb s.irradiance 100000000 && leb (nat_abs s.temperature) 100000000) ≡ true
@@ -68,16 +67,16 @@ no_voltage n = go (eqb n at_reading)
 
 -- ---- no voltage is said but behind a voltage field
 module _ (n : ℕ) (d : Due) (e : waits n ≡ false) (w : DueWell n d) where
-  unsaid : d.voltage ≡ Unsaid
-  unsaid = w.said ∙ ap (λ (b : Bool). cond b (Said (volts_of d.voltage)) Unsaid) (no_voltage n e)
+  unsaid : d.voltage ≡ None
+  unsaid = w.said ∙ ap (λ (b : Bool). cond b (Some (volts_of d.voltage)) None) (no_voltage n e)
 
   -- so with it a sun fits another such stage, and a weather's that of its reading
   other_sun : (m : ℕ) (s : Sun) → eqb m at_voltage ≡ false → sun_fits m s ≡ true → DueWell m (due s d.voltage)
   unfolding volt_fits
   other_sun m s f t = record {
     sunny = t;
-    volted = ap (λ (b : Bool). cond b (voltage_in (volts_of d.voltage)) (eqb (volts_of d.voltage) 0)) f ∙ ap (λ (v : Voltage). eqb (volts_of v) 0) unsaid;
-    said = unsaid ∙ sym (ap (λ (b : Bool). cond b (Said (volts_of d.voltage)) Unsaid) f);
+    volted = ap (λ (b : Bool). cond b (voltage_in (volts_of d.voltage)) (eqb (volts_of d.voltage) 0)) f ∙ ap (λ (v : Option ℕ). eqb (volts_of v) 0) unsaid;
+    said = unsaid ∙ sym (ap (λ (b : Bool). cond b (Some (volts_of d.voltage)) None) f);
   }
 
   quiet_alike : (m : ℕ) → waits m ≡ false → DueWell m d

@@ -10,22 +10,16 @@ use lib.ListN.{length}
 use borrow.Author.Tests.{eqb-true, eqb-false}
 use Rattle.whole.proofs.Choice.{by_test}
 use Rattle.octets.specs.BigEndian.{be}
-use Rattle.reading.specs.declared.Watts.{Watts}
-use Rattle.reading.specs.declared.Watts.TheVariants.{Whole, Refused}
 use Rattle.reading.specs.Choice.{usable_of, refusal_of}
 use Rattle.reading.specs.Conversion.{watts_of, milli_of}
 use Rattle.curve.specs.Layout.{curve_in}
 use Rattle.lead.specs.Lead.{voltage_in}
 use Rattle.rules.specs.Ranges.{settings_in}
 use Rattle.unit.specs.Ranges.{unit_in}
-use Rattle.solar.specs.declared.Sky.{Sky}
-use Rattle.solar.specs.declared.Sky.TheVariants.{Clear, Unknown}
 use Rattle.solar.specs.Roof.{inverter_in}
 use Rattle.solar.specs.Weather.{sky_of}
 use Rattle.parts.specs.Header.{header, tag_at, length_at}
 use Rattle.fields.specs.declared.State.{State}
-use Rattle.fields.specs.declared.Taken.{Taken}
-use Rattle.fields.specs.declared.Taken.TheVariants.{Stop}
 use Rattle.fields.specs.Fields.{size_of, head_of, allowed, fleet_in, unit_at, settings_at, phase_at, phases_at, inverter_at, bounds_at, weather_at, six_unless, five_unless, connections_in, base_in, value_of, too_many, refused_by, state_after, taken_by}
 use Rattle.fields.proofs.TakenLaws.{stops, goes_on}
 use Rattle.stick.specs.declared.Reached.{Reached}
@@ -34,6 +28,8 @@ use Rattle.stick.proofs.WalkLaws.{field_stops, field_goes}
 use Rattle.chunks.proofs.ReachChunks.{Ending, all_gone, after_end, refused, far_gone}
 use Rattle.kept.specs.Kept.{Kept}
 use Rattle.taking.specs.Chunk.{gone_by}
+use Rattle.std.proofs.Common.{Err, None, Option, Result, Some, ℤ}
+use Rattle.solar.specs.declared.Sun.{Sun}
 
 -- ---- the number of a refusal, or none
 abbrev pub Numbered : ℕ → Type 0
@@ -46,15 +42,15 @@ five_few : (b : Bool) → Few (five_unless b)
 five_few true = omega arith
 five_few false = omega arith
 
-six_few : (s : Sky) → Few (six_unless s)
-six_few (Clear s) = omega arith
-six_few Unknown = omega arith
+six_few : (s : Option Sun) → Few (six_unless s)
+six_few (Some s) = omega arith
+six_few None = omega arith
 
-usable_few : (a b c : Watts) → Few (usable_of a b c)
-usable_few Refused b c = omega arith
-usable_few (Whole a) Refused c = omega arith
-usable_few (Whole a) (Whole b) Refused = omega arith
-usable_few (Whole a) (Whole b) (Whole c) = omega arith
+usable_few : (a b c : Option ℤ) → Few (usable_of a b c)
+usable_few None b c = omega arith
+usable_few (Some a) None c = omega arith
+usable_few (Some a) (Some b) None = omega arith
+usable_few (Some a) (Some b) (Some c) = omega arith
 
 module _ (st : State) (tag : ℕ) (file : List ℕ) (at : ℕ) where
   value_few : Few (value_of st tag file at)
@@ -92,16 +88,16 @@ head_few st file at =
     (λ t. by_test P (ltb (length file - at - header) (length_at file at)) 1 0 (λ t. omega arith) (λ t. omega arith))))
 
 -- ---- a field that stops
-same_number : {t : Taken} {m n : ℕ} → t ≡ Stop m → t ≡ Stop n → m ≡ n
+same_number : {t : Result State ℕ} {m n : ℕ} → t ≡ Err m → t ≡ Err n → m ≡ n
 same_number {t} {m} {n} a b = cc
 
-stop_numbered : (st : State) (file : List ℕ) (at n : ℕ) → field_at st file at ≡ Stop n → Numbered n
+stop_numbered : (st : State) (file : List ℕ) (at n : ℕ) → field_at st file at ≡ Err n → Numbered n
 stop_numbered st file at n e = go (eqb (head_of st file at) 0) refl
   where
     N : ℕ
     N = refused_by st (tag_at file at) file (at + header)
 
-    value : (b : Bool) → eqb N 0 ≡ b → taken_by st (tag_at file at) file (at + header) ≡ Stop n → Numbered n
+    value : (b : Bool) → eqb N 0 ≡ b → taken_by st (tag_at file at) file (at + header) ≡ Err n → Numbered n
     value true z f =
         let g = goes_on st (tag_at file at) file (at + header) N refl (eqb-true N 0 z) (state_after st (tag_at file at) file (at + header)) refl in
         let q : ◌≡◌ {A = ℕ} 0 1 = cc in

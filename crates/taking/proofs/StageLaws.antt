@@ -11,7 +11,6 @@ use lib.ListN.{length}
 use Rattle.whole.proofs.Choice.{by_test, passed_failed}
 use Rattle.parts.specs.Header.{tag_at, past}
 use Rattle.fields.specs.declared.State.{State}
-use Rattle.fields.specs.declared.Taken.TheVariants.{Next}
 use Rattle.fields.specs.Fields.{begins, closes, gone_to}
 use Rattle.fields.proofs.FieldLaws.{fewer}
 use Rattle.stick.specs.Check.{field_at}
@@ -20,6 +19,7 @@ use Rattle.chunks.proofs.ReachChunks.{Went, there, passing}
 use Rattle.chunks.proofs.HeadChunks.{head_from_over, head_end, head_from_field}
 use Rattle.kept.specs.Kept.{begun_at, begun}
 use Rattle.taking.proofs.TookLaws.{by_opens, charged_closes, Took, fleet, unit, settings, connections, inverter, warm, efficiency, function, volt_var, reading, weather, voltage, end, took}
+use Rattle.std.proofs.Common.{Ok}
 
 -- ---- a field before the steps, and one of the steps
 pub record HeadTook (file : List ℕ) (st : State) (i : ℕ) (m : State) : Type 0 where
@@ -83,7 +83,7 @@ module _ (file : List ℕ) (st : State) (i : ℕ) (m : State) where
   sorted (voltage t c p v is) = inr (step_of 11 st.steps (ap of_steps t) (charged_closes st c) refl (omega arith) (λ h. h) is)
   sorted (end t b p is) = inr (step_of 0 st.steps (ap of_steps t) (may_close b) refl (omega arith) (λ h. h) is)
 
-  pub sort : i ≤ length file → field_at st file i ≡ Next m → HeadTook file st i m ⊎ StepTook file st i m
+  pub sort : i ≤ length file → field_at st file i ≡ Ok m → HeadTook file st i m ⊎ StepTook file st i m
   sort h f = sorted (took file st i m h f)
 
 -- ---- where the fields before the steps end, and the state there

@@ -21,8 +21,6 @@ use Rattle.reading.specs.declared.Reading.{Reading}
 use Rattle.unit.specs.declared.Unit.{Unit}
 use Rattle.unit.proofs.RangeLaws.{Bounds, bounds}
 use Rattle.rows.proofs.RowLaws.{length_map}
-use Rattle.lead.specs.declared.Voltage.{Voltage}
-use Rattle.lead.specs.declared.Voltage.TheVariants.{Unsaid, Said}
 use Rattle.lead.specs.Lead.{Leading, unled, led, lead_of}
 use Rattle.lead.specs.Lead.{Modest}
 use Rattle.lead.proofs.FunctionLaws.{curve_small}
@@ -52,6 +50,7 @@ use Rattle.kept.specs.Kept.{Kept, begun}
 use Rattle.kept.specs.Layout.{all_vars}
 use Rattle.kept.specs.Formed.{unit_fits, held_fits}
 use Rattle.kept.specs.Posts.{WellKept}
+use Rattle.std.proofs.Common.{None, Option, Some}
 
 -- ---- small laws: a test that passes for each, and no request of any unit
 all_of_lem : (n : ℕ) (ok : ℕ → Bool) → ((i : ℕ) → i < n → ok i ≡ true) → all_of n ok ≡ true
@@ -85,11 +84,11 @@ module _ (a b : List ℤ) (h : Small (a ++ b)) where
       subst (λ (z : ℤ). nat_abs z ≤ 100000000) (get_or-append-add a b i (pos 0)) (h (length a + i) (omega arith))
 
 -- ---- what leads a step has a curve's value of at most one either way
-pub lead_modest : (l : Leading) (v : Voltage) → Guided l → Modest (lead_of l v)
+pub lead_modest : (l : Leading) (v : Option ℕ) → Guided l → Modest (lead_of l v)
 unfolding lead_of
 lead_modest unled v g = record { y_small = omega arith }
-lead_modest (led f) Unsaid g = record { y_small = omega arith }
-lead_modest (led f) (Said x) g = record { y_small = curve_small f g (pos x) }
+lead_modest (led f) None g = record { y_small = omega arith }
+lead_modest (led f) (Some x) g = record { y_small = curve_small f g (pos x) }
 
 -- ---- requests within their ratings
 abbrev pub Rated : Site → List ℤ → Type 0

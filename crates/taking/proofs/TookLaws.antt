@@ -14,7 +14,6 @@ use Rattle.rules.specs.Rules.{by_current}
 use Rattle.lead.specs.Lead.{voltage_in}
 use Rattle.parts.specs.Header.{header, tag_at, length_at, past}
 use Rattle.fields.specs.declared.State.{State}
-use Rattle.fields.specs.declared.Taken.TheVariants.{Next}
 use Rattle.fields.specs.Fields.{at_end, at_fleet, at_units, at_settings, at_steps, at_inverters, at_temperature, at_efficiency, at_reading, at_connections, at_volt_var, at_voltage, at_led}
 use Rattle.fields.specs.Fields.{opens, begins, charged, closes, kinds, size_in, size_of, stands_in, allowed, fleet_in, is_reading, too_many, value_of, flags, flags_of, state_of, gone_to, led_from, roof_after, state_after}
 use Rattle.fields.proofs.FieldLaws.{NoTag, by_tag, fewer, step_counts, stands_nowhere}
@@ -22,6 +21,7 @@ use Rattle.fields.proofs.TakenLaws.{not_many}
 use Rattle.stick.specs.Check.{field_at}
 use Rattle.stick.proofs.WalkLaws.{field_cases}
 use Rattle.stick.proofs.SaidLaws.{free_parts, accepted_test}
+use Rattle.std.proofs.Common.{Ok}
 
 -- ---- the stages where an inverter may stand, where a step may begin, where a voltage may stand, and where a step may be closed
 module _ (P : ℕ → Bool → Type 0) (st : State) where
@@ -131,7 +131,7 @@ module _ (file : List ℕ) (st : State) (i : ℕ) (m : State) where
       last false e none t a l is =
           absurd (passed_failed a (sym (stands_nowhere st tag none (eqb-false tag 127 e))))
 
-  pub took : i ≤ length file → field_at st file i ≡ Next m → Took file st i m
+  pub took : i ≤ length file → field_at st file i ≡ Ok m → Took file st i m
   took h f =
       field_cases st file i h
       (λ n z e. let q : ◌≡◌ {A = ℕ} 0 1 = cc in absurd (omega arith))

@@ -33,7 +33,7 @@ pub fn unit_in(u: Unit) -> bool
     ensures { result ≡ unit_in u }
 {
     let member = member_in(u.rated, u.reserve, u.stored, u.rating, u.weight);
-    let vars = whole::size32(u.var_request);
+    let vars = u.var_request.unsigned_abs();
     let draw = idle_draw(u);
     member
         & ((1 <= u.kva) & (u.kva <= 100000000))

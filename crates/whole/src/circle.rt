@@ -2,7 +2,7 @@ ghost use Rattle.std.specs.Prelude.{◌≡◌, min, ◌≤◌};
 ghost use Rattle.whole.specs.Largest.{leg_of};
 ghost use Rattle.whole.specs.Circle.{watts_in, vars_in};
 
-use super::{order, sign};
+use super::sign;
 
 // The largest whole x with x * x + y * y <= s * s, bit by bit from the top; 0 where y is above s.
 // In the loop low is what is found, raised by the k bits to come, and left what its square leaves.
@@ -51,7 +51,7 @@ pub fn beside(s: u32, y: u32, x: u32) -> u32
 pub fn watts_in(s: u32, priority: u8, v: u32, asked: u32) -> u32
     ensures { result ≡ watts_in s priority v asked }
 {
-    let p = order::least32(asked, s);
+    let p = asked.min(s);
     if priority == 1 {
         return beside(s, v, p);
     }

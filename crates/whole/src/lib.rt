@@ -1,20 +1,18 @@
-// Whole numbers: the smaller of two, quotients rounded up and cut toward zero, sign and size of a
-// signed number, and the largest leg in the kVA circle; and what a refusal is. Nothing here knows of
+// Whole numbers: quotients rounded up and cut toward zero, the sign of a signed number, and the
+// largest leg in the kVA circle; and what a refusal is. Nothing here knows of
 // batteries.
 
 #![tactic(auto)]
 
 mod calls;
 mod circle;
-mod order;
 mod quotients;
 mod sign;
 
 pub use calls::refused;
 pub use circle::{beside, leg, vars_in, watts_in};
-pub use order::{least32, least64};
 pub use quotients::{ceil, cut};
-pub use sign::{below_zero32, below_zero64, signed32, signed64, size32, size64};
+pub use sign::{below_zero32, below_zero64, signed32, signed64};
 
 // A whole refusal: its number, its place and the steps accepted before it.
 #[derive(Clone, Copy)]

@@ -19,6 +19,6 @@ pub fn cut(z: i64, b: u64) -> i64
     if b == 0 {
         return 0;
     }
-    let size = super::size64(z) / b;
+    let size = z.unsigned_abs() / b;
     super::signed64(super::below_zero64(z), size)
 }

@@ -17,28 +17,6 @@ pub fn below_zero64(x: i64) -> bool
     x < 0
 }
 
-// The size of x, for every x: the lowest i32 has the size 2^31.
-pub fn size32(x: i32) -> u32
-    ensures { result ≡ nat_abs x }
-{
-    if x < 0 {
-        ((-1 - x) as u32) + 1
-    } else {
-        x as u32
-    }
-}
-
-// The size of x, for every x: the lowest i64 has the size 2^63.
-pub fn size64(x: i64) -> u64
-    ensures { result ≡ nat_abs x }
-{
-    if x < 0 {
-        ((-1 - x) as u64) + 1
-    } else {
-        x as u64
-    }
-}
-
 // The number of a sign and a size that an i32 holds.
 pub fn signed32(negative: bool, size: u32) -> i32
     requires { SFits w32 (signed negative size) }

@@ -1,6 +1,6 @@
 -- What a C caller sees of a call (rules C1 to C33): the number that is returned, and each lent number afterwards, which is what the call gives or, on a
 -- refusal, what it held.
-use Rattle.std.specs.Prelude.{ℕ, Bool, cond, List, ◌≡◌, Float, ℤ}
+use Rattle.std.specs.Prelude.{ℕ, Bool, cond, List, ◌≡◌, Float, ℤ, Result}
 use Rattle.std.specs.Borrow.{Bor, MutBor}
 use denote.Triple.Both.{Both}
 use Rattle.whole.specs.Call.{Call, number_of, held_after}
@@ -8,26 +8,22 @@ use Rattle.unit.specs.declared.Unit.{Unit}
 use Rattle.rules.specs.declared.Settings.{Settings}
 use Rattle.controller.specs.declared.Passed.{Passed}
 use Rattle.members.specs.Ranges.{Fleet, fleet_of, fleet_linked, links_of}
-use Rattle.controller.specs.declared.PassAnswer.{PassAnswer}
-use Rattle.controller.specs.Answers.{pass_call}
 use Rattle.settling.specs.declared.Trial.{Trial}
 use Rattle.settling.specs.declared.Studied.{Studied}
 use Rattle.solar.specs.declared.Inverter.{Inverter}
 use Rattle.solar.specs.declared.Weather.{Weather}
 use Rattle.solar.specs.declared.Given.{Given}
-use Rattle.solar.specs.declared.Lit.{Lit}
-use Rattle.solar.specs.Answers.{lists_of, lit_of, lit_call}
+use Rattle.solar.specs.Answers.{lists_of, lit_of}
 use Rattle.storage.specs.declared.Outcome.{Outcome}
-use Rattle.storage.specs.declared.Stepped.{Stepped}
-use Rattle.storage.specs.Answers.{step_call}
 use Rattle.storage.specs.Step.{stepped_as}
 use Rattle.site.specs.declared.Head.{Head}
 use Rattle.partner.specs.declared.Verdict.{Verdict}
 use Rattle.partner.specs.Verdict.{partner_answer, partner_call}
 use Rattle.tally.specs.declared.Figures.{Figures}
-use Rattle.peaks.specs.Answers.{peaks_answer, peaks_call}
+use Rattle.peaks.specs.Answers.{peaks_answer}
 use Rattle.ask.specs.declared.Connection.{Connection}
-use Rattle.ask.specs.Says.{head_answer, head_call, unit_answer, unit_call, connection_answer, connection_call}
+use Rattle.ask.specs.Says.{head_answer, unit_answer, connection_answer}
+use Rattle.whole.specs.declared.Refusal.{Refusal}
 
 -- a flag as a lent byte
 abbrev pub flag : Bool → ℕ
@@ -63,12 +59,12 @@ fleet_joined rated reserve stored rating weight phases volts =
     fleet_linked (held rated) (held reserve) (held stored) (held rating) (held weight) (links_of (held phases) (held volts))
 
 -- yb_pass and yb_pass_current: the number, need and changed
-pub record PassSeen (a : PassAnswer) (number : ℕ) (need need' : ℤ) (changed changed' : ℕ) : Type 0 where
-  pub number_is : number ≡ number_of (pass_call a)
-  pub need_is : need' ≡ held_after (pass_call a) (λ (p : Passed). p.need) need
-  pub changed_is : changed' ≡ held_after (pass_call a) (λ (p : Passed). flag p.changed) changed
+pub record PassSeen (a : Result Passed Refusal) (number : ℕ) (need need' : ℤ) (changed changed' : ℕ) : Type 0 where
+  pub number_is : number ≡ number_of a
+  pub need_is : need' ≡ held_after a (λ (p : Passed). p.need) need
+  pub changed_is : changed' ≡ held_after a (λ (p : Passed). flag p.changed) changed
 
-abbrev pub PassTold : PassAnswer → ℕ → Written ℤ → Written ℕ → Type 0
+abbrev pub PassTold : Result Passed Refusal → ℕ → Written ℤ → Written ℕ → Type 0
 PassTold a number need changed = PassSeen a number (was need) (left need) (was changed) (left changed)
 
 -- yb_settle and yb_study: the number, settled and passes
@@ -105,12 +101,12 @@ unit_of rated reserve stored rating kva idle var weight inverter charge discharg
   link = 0;
 }
 
-pub record StepSeen (a : Stepped) (number : ℕ) (watts watts' vars vars' : ℤ) (stored stored' loss loss' : ℕ) : Type 0 where
-  pub number_is : number ≡ number_of (step_call a)
-  pub watts_is : watts' ≡ held_after (step_call a) (λ (o : Outcome). o.watts) watts
-  pub vars_is : vars' ≡ held_after (step_call a) (λ (o : Outcome). o.vars) vars
-  pub stored_is : stored' ≡ held_after (step_call a) (λ (o : Outcome). o.stored) stored
-  pub loss_is : loss' ≡ held_after (step_call a) (λ (o : Outcome). o.loss) loss
+pub record StepSeen (a : Result Outcome Refusal) (number : ℕ) (watts watts' vars vars' : ℤ) (stored stored' loss loss' : ℕ) : Type 0 where
+  pub number_is : number ≡ number_of a
+  pub watts_is : watts' ≡ held_after a (λ (o : Outcome). o.watts) watts
+  pub vars_is : vars' ≡ held_after a (λ (o : Outcome). o.vars) vars
+  pub stored_is : stored' ≡ held_after a (λ (o : Outcome). o.stored) stored
+  pub loss_is : loss' ≡ held_after a (λ (o : Outcome). o.loss) loss
 
 -- of a unit of an edition, over so many seconds, at a request
 abbrev pub StepTold : ℕ → Unit → ℕ → ℤ → ℕ → Written ℤ → Written ℤ → Written ℕ → Written ℕ → Type 0
@@ -132,30 +128,30 @@ inverter_of array kva cut_in cut_out limit var priority = record {
 abbrev pub weather_of : Float → Float → Weather
 weather_of irradiance temperature = record { irradiance = irradiance; temperature = temperature }
 
-abbrev pub lit_lent : Inverter → Lent (List ℤ) → Lent (List ℤ) → Lent (List ℤ) → Lent (List ℤ) → ℕ → Float → Float → Lit
+abbrev pub lit_lent : Inverter → Lent (List ℤ) → Lent (List ℤ) → Lent (List ℤ) → Lent (List ℤ) → ℕ → Float → Float → Result Given Refusal
 lit_lent v warm_x warm_y eff_x eff_y on irradiance temperature =
     lit_of v (lists_of (held warm_x) (held warm_y) (held eff_x) (held eff_y)) on (weather_of irradiance temperature)
 
-pub record LitSeen (a : Lit) (number on on' : ℕ) (watts watts' vars vars' : ℤ) (dc dc' : ℕ) : Type 0 where
-  pub number_is : number ≡ number_of (lit_call a)
-  pub on_is : on' ≡ held_after (lit_call a) (λ (g : Given). flag g.on) on
-  pub watts_is : watts' ≡ held_after (lit_call a) (λ (g : Given). g.watts) watts
-  pub vars_is : vars' ≡ held_after (lit_call a) (λ (g : Given). g.vars) vars
-  pub dc_is : dc' ≡ held_after (lit_call a) (λ (g : Given). g.dc) dc
+pub record LitSeen (a : Result Given Refusal) (number on on' : ℕ) (watts watts' vars vars' : ℤ) (dc dc' : ℕ) : Type 0 where
+  pub number_is : number ≡ number_of a
+  pub on_is : on' ≡ held_after a (λ (g : Given). flag g.on) on
+  pub watts_is : watts' ≡ held_after a (λ (g : Given). g.watts) watts
+  pub vars_is : vars' ≡ held_after a (λ (g : Given). g.vars) vars
+  pub dc_is : dc' ≡ held_after a (λ (g : Given). g.dc) dc
 
-abbrev pub LitTold : Lit → ℕ → Written ℕ → Written ℤ → Written ℤ → Written ℕ → Type 0
+abbrev pub LitTold : Result Given Refusal → ℕ → Written ℕ → Written ℤ → Written ℤ → Written ℕ → Type 0
 LitTold a number on watts vars dc =
     LitSeen a number (was on) (left on) (was watts) (left watts) (was vars) (left vars) (was dc) (left dc)
 
 -- yb_settings, yb_unit and yb_connection: what a file says, as a call's answer
 abbrev pub head_said : List ℕ → Call Head
-head_said file = head_call (head_answer file)
+head_said file = (head_answer file)
 
 abbrev pub unit_said : List ℕ → ℕ → Call Unit
-unit_said file i = unit_call (unit_answer file i)
+unit_said file i = (unit_answer file i)
 
 abbrev pub connection_told : List ℕ → ℕ → Call Connection
-connection_told file i = connection_call (connection_answer file i)
+connection_told file i = (connection_answer file i)
 
 -- yb_partner
 abbrev pub partner_told : List ℕ → List ℕ → Call Verdict
@@ -163,4 +159,4 @@ partner_told run result = partner_call (partner_answer run result)
 
 -- yb_peaks
 abbrev pub peaks_told : List ℕ → ℤ → ℕ → Call Figures
-peaks_told file target len = peaks_call (peaks_answer file target len)
+peaks_told file target len = (peaks_answer file target len)

@@ -7,8 +7,6 @@ ghost use Rattle.whole.specs.Call.{number_of};
 ghost use Rattle.peaks.specs.Answers.{peaks_leaves};
 ghost use Rattle.yesbrulka.specs.Calls.{peaks_told};
 
-use peaks::PeaksAnswer;
-
 // The check of a file's bytes, in one pass: the number of its refusal, 0 for a complete file; the
 // place of the refused field, or where reading stopped; and the steps accepted.
 #[unsafe(no_mangle)]
@@ -89,7 +87,7 @@ pub extern "C" fn yb_peaks(file: &[u8], target: i32, figures: &mut [i64]) -> u32
     ensures figures_after { figures.new ≡ peaks_leaves file.now target figures.old }
 {
     match peaks::peaks(file, target, figures) {
-        PeaksAnswer::Told(_) => 0,
-        PeaksAnswer::Untold(r) => r.number as u32,
+        Ok(_) => 0,
+        Err(r) => r.number as u32,
     }
 }

@@ -1,12 +1,12 @@
 // One pass of the controller over lent lists, and where a fleet settles.
 ghost use Rattle.std.specs.Prelude.{◌≡◌};
 ghost use Rattle.controller.specs.Answers.{pass_answer, pass_leaves, current_answer, current_leaves};
-ghost use Rattle.settling.specs.Answers.{study_answer, study_leaves, study_call};
+ghost use Rattle.settling.specs.Answers.{study_answer, study_leaves};
 ghost use Rattle.yesbrulka.specs.Calls.{held, left, settings_of, fleet_lent, fleet_joined, PassTold, trial_of, StudyTold};
 
-use controller::{Aim, PassAnswer};
+use controller::Aim;
 use rules::Settings;
-use settling::{StudyAnswer, Trial};
+use settling::Trial;
 
 // One controller pass over lent lists: 0, the requests after it, need and whether a request changed
 // (1 or 0); or 10, 5 or 10.
@@ -36,13 +36,13 @@ pub extern "C" fn yb_pass(
         factor,
     };
     match controller::pass(s, measure, rated, reserve, stored, rating, weight, requests) {
-        PassAnswer::PassDone(p) => {
+        Ok(p) => {
             let wanted = p.need;
             *need = wanted;
             *changed = p.changed as u8;
             0
         }
-        PassAnswer::PassRefused(r) => r.number as u32,
+        Err(r) => r.number as u32,
     }
 }
 
@@ -81,13 +81,13 @@ pub extern "C" fn yb_pass_current(
     match controller::pass_current(
         aim, rated, reserve, stored, rating, weight, phases, volts, requests,
     ) {
-        PassAnswer::PassDone(p) => {
+        Ok(p) => {
             let wanted = p.need;
             *need = wanted;
             *changed = p.changed as u8;
             0
         }
-        PassAnswer::PassRefused(r) => r.number as u32,
+        Err(r) => r.number as u32,
     }
 }
 
@@ -109,7 +109,7 @@ pub extern "C" fn yb_settle(
     settled: &mut u8,
     passes: &mut u32,
 ) -> u32
-    ensures study_told { StudyTold (study_call (study_answer (trial_of load target band factor budget) (fleet_lent rated reserve stored rating weight) requests.old)) result settled passes }
+    ensures study_told { StudyTold ((study_answer (trial_of load target band factor budget) (fleet_lent rated reserve stored rating weight) requests.old)) result settled passes }
     ensures requests_value { requests.new ≡ study_leaves (trial_of load target band factor budget) (fleet_lent rated reserve stored rating weight) requests.old }
 {
     let settings = Settings {
@@ -124,11 +124,11 @@ pub extern "C" fn yb_settle(
         budget,
     };
     match settling::settle(q, rated, reserve, stored, rating, weight, requests) {
-        StudyAnswer::StudyDone(found) => {
+        Ok(found) => {
             *settled = found.settled as u8;
             *passes = found.passes;
             0
         }
-        StudyAnswer::StudyRefused(r) => r.number as u32,
+        Err(r) => r.number as u32,
     }
 }

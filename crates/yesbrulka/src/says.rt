@@ -5,12 +5,9 @@ ghost use Rattle.unit.specs.declared.Unit.{Unit};
 ghost use Rattle.unit.specs.Ranges.{idle_loss_of};
 ghost use Rattle.site.specs.declared.Head.{Head};
 ghost use Rattle.ask.specs.declared.Connection.{Connection};
-ghost use Rattle.settling.specs.Answers.{study_call};
 ghost use Rattle.ask.specs.Says.{units_said, inverters_said, seconds_said, file_study, file_study_leaves};
 ghost use Rattle.yesbrulka.specs.Calls.{held, StudyTold, head_said, unit_said, connection_told};
 
-use ask::{ConnectionAnswer, HeadAnswer, UnitAnswer};
-use settling::StudyAnswer;
 use unit::Unit;
 
 // What a file says: the number of its units, 0 for a file that the check refuses.
@@ -55,7 +52,7 @@ pub extern "C" fn yb_settings(
     ensures phase_after { phase.new ≡ held_after (head_said file.now) (λ (h : Head). h.phase) phase.old }
 {
     match ask::head(file) {
-        HeadAnswer::HeadSaid(h) => {
+        Ok(h) => {
             let s = h.settings;
             let aim = s.target;
             *mode = s.mode;
@@ -65,7 +62,7 @@ pub extern "C" fn yb_settings(
             *phase = h.phase;
             0
         }
-        HeadAnswer::HeadRefused(r) => r.number as u32,
+        Err(r) => r.number as u32,
     }
 }
 
@@ -103,7 +100,7 @@ pub extern "C" fn yb_unit(
     ensures priority_after { priority.new ≡ held_after (unit_said file.now unit) (λ (u : Unit). u.priority) priority.old }
 {
     match ask::unit(file, unit) {
-        UnitAnswer::UnitSaid(u) => {
+        Ok(u) => {
             let vars = u.var_request;
             let lost = unit::idle_loss(u);
             *rated = u.rated;
@@ -120,7 +117,7 @@ pub extern "C" fn yb_unit(
             *priority = u.priority;
             0
         }
-        UnitAnswer::UnitRefused(r) => r.number as u32,
+        Err(r) => r.number as u32,
     }
 }
 
@@ -133,12 +130,12 @@ pub extern "C" fn yb_var_limits(file: &[u8], unit: u32, provide: &mut u32, absor
     ensures absorb_after { absorb.new ≡ held_after (unit_said file.now unit) (λ (u : Unit). u.absorb) absorb.old }
 {
     match ask::unit(file, unit) {
-        UnitAnswer::UnitSaid(u) => {
+        Ok(u) => {
             *provide = u.provide;
             *absorb = u.absorb;
             0
         }
-        UnitAnswer::UnitRefused(r) => r.number as u32,
+        Err(r) => r.number as u32,
     }
 }
 
@@ -151,12 +148,12 @@ pub extern "C" fn yb_connection(file: &[u8], unit: u32, phases: &mut u8, volts: 
     ensures volts_after { volts.new ≡ held_after (connection_told file.now unit) (λ (c : Connection). c.volts) volts.old }
 {
     match ask::connection_of(file, unit) {
-        ConnectionAnswer::ConnectionSaid(c) => {
+        Ok(c) => {
             *phases = c.phases;
             *volts = c.volts;
             0
         }
-        ConnectionAnswer::ConnectionRefused(r) => r.number as u32,
+        Err(r) => r.number as u32,
     }
 }
 
@@ -172,15 +169,15 @@ pub extern "C" fn yb_study(
     settled: &mut u8,
     passes: &mut u32,
 ) -> u32
-    ensures study_told { StudyTold (study_call (file_study (held file) load budget requests.old)) result settled passes }
+    ensures study_told { StudyTold ((file_study (held file) load budget requests.old)) result settled passes }
     ensures requests_after { requests.new ≡ file_study_leaves file.now load budget requests.old }
 {
     match ask::study(file, load, budget, requests) {
-        StudyAnswer::StudyDone(found) => {
+        Ok(found) => {
             *settled = found.settled as u8;
             *passes = found.passes;
             0
         }
-        StudyAnswer::StudyRefused(r) => r.number as u32,
+        Err(r) => r.number as u32,
     }
 }

@@ -5,9 +5,7 @@ ghost use Rattle.reading.specs.Conversion.{watts_of, watts_call};
 ghost use Rattle.unit.specs.declared.Unit.{Unit};
 ghost use Rattle.yesbrulka.specs.Calls.{unit_of, StepTold, inverter_of, lit_lent, LitTold};
 
-use reading::Watts;
-use solar::{Inverter, Lit, Weather};
-use storage::Stepped;
+use solar::{Inverter, Weather};
 use unit::Unit;
 
 // The whole watts of a kW double: 0 and the watts, or 6 for a reading that cannot be used.
@@ -16,7 +14,7 @@ pub extern "C" fn yb_watts(kw: f64, watts: &mut i32) -> u32
     ensures value { result ≡ number_of (watts_call (watts_of kw)) }
     ensures watts_after { watts.new ≡ held_after (watts_call (watts_of kw)) (λ (w : ℤ). w) watts.old }
 {
-    let Watts::Whole(w) = reading::converted(kw) else {
+    let Some(w) = reading::converted(kw) else {
         return 6;
     };
     *watts = w;
@@ -119,7 +117,7 @@ pub extern "C" fn yb_step_as(
         link: 0,
     };
     match storage::step_as(edition, u, seconds, request) {
-        Stepped::Done(o) => {
+        Ok(o) => {
             let given = o.watts;
             let side = o.vars;
             *watts = given;
@@ -128,7 +126,7 @@ pub extern "C" fn yb_step_as(
             *loss = o.loss;
             0
         }
-        Stepped::RefusedBy(r) => r.number as u32,
+        Err(r) => r.number as u32,
     }
 }
 
@@ -171,7 +169,7 @@ pub extern "C" fn yb_solar(
         temperature,
     };
     match solar::step(v, warm_x, warm_y, eff_x, eff_y, on, w) {
-        Lit::Done(g) => {
+        Ok(g) => {
             let given = g.watts;
             let side = g.vars;
             *after = g.on as u8;
@@ -180,6 +178,6 @@ pub extern "C" fn yb_solar(
             *dc = g.dc;
             0
         }
-        Lit::RefusedBy(r) => r.number as u32,
+        Err(r) => r.number as u32,
     }
 }

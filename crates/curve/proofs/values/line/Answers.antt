@@ -29,9 +29,9 @@ overflow_sub-qx c = let a = c.args in run_fits a.px a.py a.qx a.qy a.x (c.requir
 pub overflow_add-result : goal.overflow_add-result
 overflow_add-result c =
     let a = c.args in
-    line_fits a.px a.py a.qx a.qy a.x (c.requires.px_bound, (c.requires.py_bound, (c.requires.qx_bound, (c.requires.qy_bound, c.requires.x_bound)))) c.size64-run.result c.cut.result c.size64-run.ensures c.cut.type_inv c.cut.ensures
+    line_fits a.px a.py a.qx a.qy a.x (c.requires.px_bound, (c.requires.py_bound, (c.requires.qx_bound, (c.requires.qy_bound, c.requires.x_bound)))) c.unsigned_abs-run.result c.cut.result c.unsigned_abs-run.ensures.value c.cut.type_inv c.cut.ensures
 
 pub returns : goal.returns
 returns c =
     let a = c.args in
-    line_is a.px a.py a.qx a.qy a.x (c.requires.px_bound, (c.requires.py_bound, (c.requires.qx_bound, (c.requires.qy_bound, c.requires.x_bound)))) c.size64-run.result c.cut.result c.size64-run.ensures c.cut.type_inv c.cut.ensures
+    line_is a.px a.py a.qx a.qy a.x (c.requires.px_bound, (c.requires.py_bound, (c.requires.qx_bound, (c.requires.qy_bound, c.requires.x_bound)))) c.unsigned_abs-run.result c.cut.result c.unsigned_abs-run.ensures.value c.cut.type_inv c.cut.ensures

@@ -35,4 +35,4 @@ overflow_mul-drawn-3 c =
 
 pub returns : goal.returns
 returns c =
-    c.least64.ensures ∙ sym (deliverable_is c.args.u c.args.seconds c.args.p (bounds c.requires))
+    c.min.ensures ∙ sym (deliverable_is c.args.u c.args.seconds c.args.p (bounds c.requires))

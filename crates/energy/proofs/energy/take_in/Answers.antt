@@ -52,4 +52,4 @@ nonzero_div-d c = let b = bounds c.requires in omega arith
 
 pub returns : goal.returns
 returns c =
-    c.least64.ensures ∙ sym (takeable_is c.args.u c.args.seconds c.args.p (bounds c.requires))
+    c.min.ensures ∙ sym (takeable_is c.args.u c.args.seconds c.args.p (bounds c.requires))

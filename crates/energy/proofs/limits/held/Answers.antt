@@ -4,4 +4,4 @@ use Rattle.energy.proofs.limits.held.Goals as goal
 
 pub returns : goal.returns
 returns c =
-    held_is c.args.u c.args.request c.ranges.request.sfits c.limited.result c.size32.result c.watts_in.result c.limited.ensures c.size32.ensures c.watts_in.ensures
+    held_is c.args.u c.args.request c.ranges.request.sfits c.limited.result c.unsigned_abs.result c.watts_in.result c.limited.ensures c.unsigned_abs.ensures.value c.watts_in.ensures

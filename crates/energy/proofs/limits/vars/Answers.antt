@@ -9,5 +9,5 @@ pub returns : goal.returns
 returns c =
     let x = c.args in
     read w32 c.vars_in.result c.vars_in.type_inv
-    ∙ vars_are x.u x.watts c.struct_told-1.given.1.1.1.1.1.1.0.1 c.ranges.watts.sfits c.below_zero32-below.result c.limited.result c.size32.result c.vars_in.result
-    c.below_zero32-below.ensures c.limited.ensures c.size32.ensures c.vars_in.ensures
+    ∙ vars_are x.u x.watts c.struct_told-1.given.1.1.1.1.1.1.0.1 c.ranges.watts.sfits c.below_zero32-below.result c.limited.result c.unsigned_abs.result c.vars_in.result
+    c.below_zero32-below.ensures c.limited.ensures c.unsigned_abs.ensures.value c.vars_in.ensures

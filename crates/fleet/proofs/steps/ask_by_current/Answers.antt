@@ -1,13 +1,13 @@
 -- A reading without currents leaves the requests; the pass on the measure of its currents is that over the site's fleet.
 use mathlib.Core.Path.{sym, ap, ◌∙◌}
-use Rattle.reading.specs.declared.Measure.{Measure}
-use Rattle.reading.specs.Choice.{measure_call}
 use Rattle.reading.proofs.MeasureLaws.{current_small}
 use Rattle.fleet.specs.Step.{passed_on}
 use Rattle.fleet.specs.Posts.{site_in}
 use Rattle.fleet.proofs.StepLaws.{pass_refused, pass_chosen, currents_are, no_currents, ask_sound}
+use Rattle.std.proofs.Common.{Result, ℤ}
+use Rattle.whole.specs.declared.Refusal.{Refusal}
 use Rattle.fleet.proofs.steps.ask_by_current.Goals as goal
-use Rattle.fleet.proofs.steps.ask_by_current.Goals.{After-current, After-pass_within, In-Chosen, In-Current, Start}
+use Rattle.fleet.proofs.steps.ask_by_current.Goals.{After-current, After-pass_within, In-Ok, In-Current, Start}
 
 pub returns-in_default : goal.returns-in_default
 returns-in_default c =
@@ -17,21 +17,21 @@ pub returns-in_default-current : goal.returns-in_default-current
 returns-in_default-current c =
     let site = site_in c.args.f c.args.rows.now in
     pass_refused site c.args.stored.now c.args.requests.now c.current.result c.in_default-current.field-0 c.in_default-current.is
-    ∙ ap (λ (x : Measure). passed_on site c.args.stored.now c.args.requests.now (measure_call x)) c.current.ensures
+    ∙ ap (λ (x : Result ℤ Refusal). passed_on site c.args.stored.now c.args.requests.now x) c.current.ensures
     ∙ currents_are site c.args.stored.now c.args.requests.now c.args.r c.in-Current.p c.in-Current.is
 
 pub pass_within-requires : goal.pass_within-requires
 pass_within-requires c = record {
-  sound = ask_sound c.args.f.head c.args.rows.now c.args.stored.now c.args.requests.now c.in-Chosen.m
-      (current_small c.in-Current.p c.args.f.head.phase c.in-Chosen.m (sym c.current.ensures ∙ c.in-Chosen.is))
-      c.in-Chosen.known_told-in-Chosen-1-own.given.0.1 c.requires.ready.sited c.requires.stored_len c.requires.requests_len c.requires.stored;
+  sound = ask_sound c.args.f.head c.args.rows.now c.args.stored.now c.args.requests.now c.in-Ok.m
+      (current_small c.in-Current.p c.args.f.head.phase c.in-Ok.m (sym c.current.ensures ∙ c.in-Ok.is))
+      c.in-Ok.known_told-in-Ok-1-own.given.0.1 c.requires.ready.sited c.requires.stored_len c.requires.requests_len c.requires.stored;
   totals_of = c.requires.ready.totals;
 }
 
 pub returns : goal.returns
 returns c =
     let site = site_in c.args.f c.args.rows.now in
-    pass_chosen site c.args.stored.now c.args.requests.now c.current.result c.in-Chosen.m c.in-Chosen.is
-    c.in-Chosen.known_told-in-Chosen-1-own.given.0.1 c.pass_within.new.requests c.pass_within.ensures.requests
-    ∙ ap (λ (x : Measure). passed_on site c.args.stored.now c.args.requests.now (measure_call x)) c.current.ensures
+    pass_chosen site c.args.stored.now c.args.requests.now c.current.result c.in-Ok.m c.in-Ok.is
+    c.in-Ok.known_told-in-Ok-1-own.given.0.1 c.pass_within.new.requests c.pass_within.ensures.requests
+    ∙ ap (λ (x : Result ℤ Refusal). passed_on site c.args.stored.now c.args.requests.now x) c.current.ensures
     ∙ currents_are site c.args.stored.now c.args.requests.now c.args.r c.in-Current.p c.in-Current.is

@@ -17,7 +17,7 @@ use Rattle.storage.specs.Posts.{Told, row_unit, kind_of, flow_by}
 use Rattle.storage.specs.Step.{step_of}
 use Rattle.storage.proofs.GivingLaws.{holding_vars, holds, held_few, step_carried, step_is, vars_idle, vars_full}
 use Rattle.fleet.proofs.steps.own.Goals as goal
-use Rattle.fleet.proofs.steps.own.Goals.{then-kind-eq-IDLES, else-kind-eq-IDLES, After-kind_of-kind, After-least32-p, Start}
+use Rattle.fleet.proofs.steps.own.Goals.{then-kind-eq-IDLES, else-kind-eq-IDLES, After-kind_of-kind, After-min-p, Start}
 
 abbrev unit : Start → Unit
 unit s = row_unit s.args.rows.now s.args.i s.args.held
@@ -29,25 +29,25 @@ told : (s : Start) → Told s.args.seconds (row s)
 told s = s.requires.rested.told s.args.i s.requires.i_in_bounds
 
 -- what the request is held at
-held : (l : After-least32-p) → let a = l.args in l.least32-p.result ≡ held_size (row_unit a.rows.now a.i a.held) a.request
+held : (l : After-min-p) → let a = l.args in l.min-p.result ≡ held_size (row_unit a.rows.now a.i a.held) a.request
 held l =
     let a = l.args in
     let here = get_or a.rows.now a.i no_row in
-    holds (unit_by here) a.held a.request l.ranges.request.sfits l.size32.result (most_by here) l.least32-p.result
-    l.size32.ensures (l.requires.rested.told a.i l.requires.i_in_bounds).most_is l.least32-p.ensures
+    holds (unit_by here) a.held a.request l.ranges.request.sfits l.unsigned_abs.result (most_by here) l.min-p.result
+    l.unsigned_abs.ensures.value (l.requires.rested.told a.i l.requires.i_in_bounds).most_is l.min-p.ensures
 
 -- its kind
 kind : (k : After-kind_of-kind) → let a = k.args in
-    k.kind_of-kind.result ≡ kind_of (row_unit a.rows.now a.i a.held) a.seconds a.request k.least32-p.result (clear_by (get_or a.rows.now a.i no_row))
+    k.kind_of-kind.result ≡ kind_of (row_unit a.rows.now a.i a.held) a.seconds a.request k.min-p.result (clear_by (get_or a.rows.now a.i no_row))
 kind k =
     let a = k.args in
     k.kind_of-kind.ensures
-    ∙ ap (λ (z : ℤ). kind_of (row_unit a.rows.now a.i a.held) a.seconds z k.least32-p.result (clear_by (get_or a.rows.now a.i no_row))) (read w32 a.request k.ranges.request.sfits)
+    ∙ ap (λ (z : ℤ). kind_of (row_unit a.rows.now a.i a.held) a.seconds z k.min-p.result (clear_by (get_or a.rows.now a.i no_row))) (read w32 a.request k.ranges.request.sfits)
 
 pub kind_of-kind-requires : goal.kind_of-kind-requires
 kind_of-kind-requires c =
     let a = c.args in
-    let r = c.requires.ranged in record { i_in_bounds = c.requires.i_in_bounds; rested = c.requires.rested; ranged = r; p_bound = held_few (unit (goal.at.kind_of-kind-requires c).Start) a.seconds a.request r c.least32-p.result (held (goal.at.kind_of-kind-requires c).After-least32-p) }
+    let r = c.requires.ranged in record { i_in_bounds = c.requires.i_in_bounds; rested = c.requires.rested; ranged = r; p_bound = held_few (unit (goal.at.kind_of-kind-requires c).Start) a.seconds a.request r c.min-p.result (held (goal.at.kind_of-kind-requires c).After-min-p) }
 
 pub step_within-requires : goal.step_within-requires
 step_within-requires c =
@@ -63,16 +63,16 @@ done-requires c =
     let a = c.args in
     let r = c.requires.ranged in
     let s = (goal.at.done-requires c).Start in
-    let carried = step_carried (unit s) a.seconds a.request r c.least32-p.result (held (goal.at.done-requires c).After-least32-p) (clear_by (row s)) (told s).clear_is c.kind_of-kind.result (kind (goal.at.done-requires c).After-kind_of-kind) c.if-kind-eq-OPEN.false in record { i_in_bounds = c.requires.i_in_bounds; rested = c.requires.rested; ranged = r; carried = carried }
+    let carried = step_carried (unit s) a.seconds a.request r c.min-p.result (held (goal.at.done-requires c).After-min-p) (clear_by (row s)) (told s).clear_is c.kind_of-kind.result (kind (goal.at.done-requires c).After-kind_of-kind) c.if-kind-eq-OPEN.false in record { i_in_bounds = c.requires.i_in_bounds; rested = c.requires.rested; ranged = r; carried = carried }
 
 pub returns : goal.returns
 returns c =
     let a = c.args in
     let s = (goal.at.returns c).Start in
     let r = c.requires.ranged in
-    let p = c.least32-p.result in
+    let p = c.min-p.result in
     let kept = told s in
-    let h = held (goal.at.returns c).After-least32-p in
+    let h = held (goal.at.returns c).After-min-p in
     let k = kind (goal.at.returns c).After-kind_of-kind in
     -- the vars that the row keeps are those of what flows
     let vars : to_z w32 c.if-kind-eq-IDLES.vars-bits ≡ vars_of (unit s) (inverter_watts (unit s) (flow_by c.kind_of-kind.result p)) =

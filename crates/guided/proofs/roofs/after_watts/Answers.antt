@@ -3,7 +3,7 @@
 use Rattle.solar.specs.Posts.{roof_by}
 use Rattle.guided.proofs.RoofLaws.{requested_asks, after_in, after_step, after_kept}
 use Rattle.guided.proofs.roofs.after_watts.Goals as goal
-use Rattle.guided.proofs.roofs.after_watts.Goals.{After-led_inverter-led, After-requested-asked, After-size32, After-step_within-g, After-with_vars, Start}
+use Rattle.guided.proofs.roofs.after_watts.Goals.{After-led_inverter-led, After-requested-asked, After-unsigned_abs, After-step_within-g, After-with_vars, Start}
 
 pub step_within-g-requires : goal.step_within-g-requires
 step_within-g-requires c =
@@ -26,9 +26,9 @@ returns c =
     let a = c.args in
     let r = roof_by a.v a.bytes.now a.warm a.efficiency in record {
       given_value = after_step a.l r a.last a.on a.s c.requires.roofed.roof_in_is c.requires.guiding c.requires.after_value c.led_inverter-led.result c.led_inverter-led.ensures
-          c.step_within-g.result c.step_within-g.ensures c.size32.result c.size32.ensures c.requested-asked.result c.requested-asked.ensures
+          c.step_within-g.result c.step_within-g.ensures c.unsigned_abs.result c.unsigned_abs.ensures.value c.requested-asked.result c.requested-asked.ensures
           c.with_vars.result c.with_vars.ensures;
       vars_value = after_kept a.l r a.last a.on a.s c.requires.roofed.roof_in_is c.requires.guiding c.requires.after_value c.led_inverter-led.result c.led_inverter-led.ensures
-          c.step_within-g.result c.step_within-g.ensures c.size32.result c.size32.ensures c.requested-asked.result c.requested-asked.ensures
+          c.step_within-g.result c.step_within-g.ensures c.unsigned_abs.result c.unsigned_abs.ensures.value c.requested-asked.result c.requested-asked.ensures
           c.kept.result c.kept.type_inv c.kept.ensures;
     }

@@ -12,7 +12,7 @@ use Rattle.guided.proofs.SharedLaws.{guiding_back}
 use Rattle.guided.proofs.RowLaws.{first_few, first_carried, left_few, limited_fits, first_step, first_kept}
 use Rattle.guided.proofs.UnitLaws.{step_read, kept_read}
 use Rattle.guided.proofs.units.after_watts.Goals as goal
-use Rattle.guided.proofs.units.after_watts.Goals.{After-below_zero32, After-done, After-kind_of-kind, After-least32-p, After-led_unit, After-left, After-limited-size, After-part-asked, After-signed32-vars, After-size32, After-unit_holding-u, Else-kind-eq-OPEN, Start}
+use Rattle.guided.proofs.units.after_watts.Goals.{After-below_zero32, After-done, After-kind_of-kind, After-min-p, After-led_unit, After-left, After-limited-size, After-part-asked, After-signed32-vars, After-unsigned_abs, After-unit_holding-u, Else-kind-eq-OPEN, Start}
 
 abbrev row : Start → Row
 row s = get_or s.args.units.now s.args.i no_row
@@ -28,7 +28,7 @@ pub kind_of-kind-requires : goal.kind_of-kind-requires
 kind_of-kind-requires c =
     let a = c.args in
     let few = first_few a.l (row (goal.at.kind_of-kind-requires c).Start) a.held a.seconds (told (goal.at.kind_of-kind-requires c).Start) c.requires.ranged a.last c.requires.guiding c.requires.after_value a.request c.ranges.request.sfits
-    c.unit_holding-u.result c.unit_holding-u.ensures c.size32.result c.size32.ensures c.least32-p.result c.least32-p.ensures in record { i_in_bounds = c.requires.i_in_bounds; rested = c.requires.rested; ranged = c.requires.ranged; p_bound = few }
+    c.unit_holding-u.result c.unit_holding-u.ensures c.unsigned_abs.result c.unsigned_abs.ensures.value c.min-p.result c.min-p.ensures in record { i_in_bounds = c.requires.i_in_bounds; rested = c.requires.rested; ranged = c.requires.ranged; p_bound = few }
 
 pub open_after-requires : goal.open_after-requires
 open_after-requires c =
@@ -49,14 +49,14 @@ pub part-asked-requires : goal.part-asked-requires
 part-asked-requires c =
     let a = c.args in
     let few = left_few a.l (row (goal.at.part-asked-requires c).Start) a.held a.seconds (told (goal.at.part-asked-requires c).Start) c.requires.ranged a.last c.requires.guiding c.requires.after_value a.request c.ranges.request.sfits
-    c.unit_holding-u.result c.unit_holding-u.ensures c.size32.result c.size32.ensures c.least32-p.result c.least32-p.ensures
+    c.unit_holding-u.result c.unit_holding-u.ensures c.unsigned_abs.result c.unsigned_abs.ensures.value c.min-p.result c.min-p.ensures
     _ c.kind_of-kind.result c.kind_of-kind.ensures c.if-kind-eq-OPEN.false c.left.result c.left.ensures in record { modest = c.requires.guiding.modest; base_bound = few }
 
 pub signed32-vars-requires : goal.signed32-vars-requires
 signed32-vars-requires c =
     let a = c.args in
     limited_fits a.l (row (goal.at.signed32-vars-requires c).Start) a.held a.seconds (told (goal.at.signed32-vars-requires c).Start) c.requires.ranged a.last c.requires.guiding c.requires.after_value a.request c.ranges.request.sfits
-    c.unit_holding-u.result c.unit_holding-u.ensures c.size32.result c.size32.ensures c.least32-p.result c.least32-p.ensures
+    c.unit_holding-u.result c.unit_holding-u.ensures c.unsigned_abs.result c.unsigned_abs.ensures.value c.min-p.result c.min-p.ensures
     _ c.kind_of-kind.result c.kind_of-kind.ensures c.if-kind-eq-OPEN.false c.left.result c.left.ensures c.part-asked.result c.part-asked.ensures
     c.led_unit.result c.led_unit.ensures c.limited-size.result c.limited-size.ensures c.below_zero32.result c.below_zero32.ensures
 
@@ -64,19 +64,19 @@ pub done-requires : goal.done-requires
 done-requires c =
     let a = c.args in
     let carried = first_carried a.l (row (goal.at.done-requires c).Start) a.held a.seconds (told (goal.at.done-requires c).Start) c.requires.ranged a.last c.requires.guiding c.requires.after_value a.request c.ranges.request.sfits
-    c.unit_holding-u.result c.unit_holding-u.ensures c.size32.result c.size32.ensures c.least32-p.result c.least32-p.ensures
+    c.unit_holding-u.result c.unit_holding-u.ensures c.unsigned_abs.result c.unsigned_abs.ensures.value c.min-p.result c.min-p.ensures
     _ c.kind_of-kind.result c.kind_of-kind.ensures c.if-kind-eq-OPEN.false in record { i_in_bounds = c.requires.i_in_bounds; rested = c.requires.rested; ranged = c.requires.ranged; carried = carried }
 
 pub returns : goal.returns
 returns c =
     let a = c.args in record {
       outcome_value = first_step a.l (row (goal.at.returns c).Start) a.held a.seconds (told (goal.at.returns c).Start) c.requires.ranged a.last c.requires.guiding c.requires.after_value a.request c.ranges.request.sfits
-          c.unit_holding-u.result c.unit_holding-u.ensures c.size32.result c.size32.ensures c.least32-p.result c.least32-p.ensures
+          c.unit_holding-u.result c.unit_holding-u.ensures c.unsigned_abs.result c.unsigned_abs.ensures.value c.min-p.result c.min-p.ensures
           _ c.kind_of-kind.result c.kind_of-kind.ensures c.if-kind-eq-OPEN.false c.left.result c.left.ensures c.part-asked.result c.part-asked.ensures
           c.led_unit.result c.led_unit.ensures c.limited-size.result c.limited-size.ensures c.below_zero32.result c.below_zero32.ensures
           c.signed32-vars.result c.signed32-vars.type_inv c.signed32-vars.ensures c.done.result c.done.ensures;
       vars_value = first_kept a.l (row (goal.at.returns c).Start) a.held a.seconds (told (goal.at.returns c).Start) c.requires.ranged a.last c.requires.guiding c.requires.after_value a.request c.ranges.request.sfits
-          c.unit_holding-u.result c.unit_holding-u.ensures c.size32.result c.size32.ensures c.least32-p.result c.least32-p.ensures
+          c.unit_holding-u.result c.unit_holding-u.ensures c.unsigned_abs.result c.unsigned_abs.ensures.value c.min-p.result c.min-p.ensures
           _ c.kind_of-kind.result c.kind_of-kind.ensures c.if-kind-eq-OPEN.false c.left.result c.left.ensures c.part-asked.result c.part-asked.ensures
           c.kept.result c.kept.type_inv c.kept.ensures;
     }

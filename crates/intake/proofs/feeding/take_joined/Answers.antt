@@ -6,15 +6,15 @@ use mathlib.Core.Path.{◌≡◌, refl, sym, ap, ◌∙◌}
 use mathlib.Core.List.{List, ◌++◌}
 use lib.ListN.{length, take}
 use Rattle.octets.specs.BigEndian.{laid}
-use Rattle.fields.specs.declared.Taken.TheVariants.{Next, Stop}
 use Rattle.stick.specs.Check.{field_at}
 use Rattle.chunks.specs.Sizes.{largest_field}
 use Rattle.kept.specs.Layout.{tail_part, kept_in, bytes_for}
 use Rattle.intake.proofs.OpenLaws.{open_sized}
 use Rattle.intake.proofs.JointLaws.{take_most}
 use Rattle.intake.proofs.FeedLaws.{Fits, Stays, joint_fits, joint_stays}
+use Rattle.std.proofs.Common.{Err, Ok}
 use Rattle.intake.proofs.feeding.take_joined.Goals as goal
-use Rattle.intake.proofs.feeding.take_joined.Goals.{After-field, After-join-n, After-take_both, After-take_rest, In-Next, In-Stop, Start}
+use Rattle.intake.proofs.feeding.take_joined.Goals.{After-field, After-join-n, After-take_both, After-take_rest, In-Ok, In-Err, Start}
 
 -- the start of the function, and what is put together
 abbrev first : After-join-n → Start
@@ -39,31 +39,31 @@ joint_read : (j : After-join-n) → read j ≡ take largest_field ((kept_in (fir
 unfolding kept_in
 joint_read j = ap (λ (k : ℕ). take k j.join-n.new.joint) (sub-zero j.join-n.result) ∙ j.join-n.ensures.joint_after
 
-next_is : (n : In-Next) → let j = made (record { before = n.before.before; type_inv = record { room = n.slice_known-2-1.given; chunk = n.shared_slice_known-1.given } }) in field_at (first j).args.m.state (read j) 0 ≡ Next n.in-Next.mid
-next_is n = sym f.field.ensures.value ∙ n.in-Next.is
+next_is : (n : In-Ok) → let j = made (record { before = n.before.before; type_inv = record { room = n.slice_known-2-1.given; chunk = n.shared_slice_known-1.given } }) in field_at (first j).args.m.state (read j) 0 ≡ Ok n.in-Ok.mid
+next_is n = sym f.field.ensures.value ∙ n.in-Ok.is
   where
     f : After-field
     f = (record { before = n.before.before; type_inv = record { room = n.slice_known-2-1.given; chunk = n.shared_slice_known-1.given } })
 
-stop_is : (n : In-Stop) → let j = made (record { before = n.before.before; type_inv = record { room = n.slice_known-2-1.given; chunk = n.shared_slice_known-1.given } }) in field_at (first j).args.m.state (read j) 0 ≡ Stop n.in-Stop.field-0
-stop_is n = sym f.field.ensures.value ∙ n.in-Stop.is
+stop_is : (n : In-Err) → let j = made (record { before = n.before.before; type_inv = record { room = n.slice_known-2-1.given; chunk = n.shared_slice_known-1.given } }) in field_at (first j).args.m.state (read j) 0 ≡ Err n.in-Err.field-0
+stop_is n = sym f.field.ensures.value ∙ n.in-Err.is
   where
     f : After-field
     f = (record { before = n.before.before; type_inv = record { room = n.slice_known-2-1.given; chunk = n.shared_slice_known-1.given } })
 
-fits : (n : In-Next) → let j = made (record { before = n.before.before; type_inv = record { room = n.slice_known-2-1.given; chunk = n.shared_slice_known-1.given } }) in let a = (first j).args in Fits (kept_in a.s.now) a.chunk.now (read j) n.in-Next.mid a.m.tail a.r.at a.r.state
+fits : (n : In-Ok) → let j = made (record { before = n.before.before; type_inv = record { room = n.slice_known-2-1.given; chunk = n.shared_slice_known-1.given } }) in let a = (first j).args in Fits (kept_in a.s.now) a.chunk.now (read j) n.in-Ok.mid a.m.tail a.r.at a.r.state
 fits n =
     let j = made (record { before = n.before.before; type_inv = record { room = n.slice_known-2-1.given; chunk = n.shared_slice_known-1.given } }) in
     let s = first j in
     let a = s.args in
-    joint_fits a.s.now a.chunk.now a.m a.r s.requires.gone s.requires.le_tail (read j) (joint_read j) n.in-Next.mid (next_is n)
+    joint_fits a.s.now a.chunk.now a.m a.r s.requires.gone s.requires.le_tail (read j) (joint_read j) n.in-Ok.mid (next_is n)
 
-stays : (n : In-Stop) → let j = made (record { before = n.before.before; type_inv = record { room = n.slice_known-2-1.given; chunk = n.shared_slice_known-1.given } }) in let a = (first j).args in Stays a.s.now a.chunk.now (read j) a.m.state
+stays : (n : In-Err) → let j = made (record { before = n.before.before; type_inv = record { room = n.slice_known-2-1.given; chunk = n.shared_slice_known-1.given } }) in let a = (first j).args in Stays a.s.now a.chunk.now (read j) a.m.state
 stays n =
     let j = made (record { before = n.before.before; type_inv = record { room = n.slice_known-2-1.given; chunk = n.shared_slice_known-1.given } }) in
     let s = first j in
     let a = s.args in
-    joint_stays a.s.now a.chunk.now a.m a.r s.requires.gone s.requires.le_tail (read j) (joint_read j) n.in-Stop.field-0 (stop_is n)
+    joint_stays a.s.now a.chunk.now a.m a.r s.requires.gone s.requires.le_tail (read j) (joint_read j) n.in-Err.field-0 (stop_is n)
 
 pub slice_bounds-join-end : goal.slice_bounds-join-end
 slice_bounds-join-end c = refl
@@ -84,7 +84,7 @@ pub field-requires : goal.field-requires
 field-requires c = zero-le
 
 pub enum_known-mid : goal.enum_known-mid
-enum_known-mid c = c.in-Next.in-Next-own.keys1
+enum_known-mid c = c.in-Ok.in-Ok-own.keys1
 
 pub slice_bounds-take_both-count : goal.slice_bounds-take_both-count
 slice_bounds-take_both-count c = zero-le
@@ -100,10 +100,10 @@ unfolding kept_in
 take_both-requires c =
     let j = made (goal.at.take_both-requires c).After-field in
     let s = first j in
-    let f = fits (goal.at.take_both-requires c).In-Next in record { fact = s.requires.gone.is_open_is; in_bounds = f.header_there; joint_in_bounds = f.first_there; tail_bound = f.beyond_tail; joint_bound = f.others_behind; at_bound = f.within; chunk_bound = f.short; leads = f.first_leads; leads_2 = f.others_lead; next_in_bounds = le_trans (le_of_eq (ap length f.results_are)) s.requires.chunk_in_bounds }
+    let f = fits (goal.at.take_both-requires c).In-Ok in record { fact = s.requires.gone.is_open_is; in_bounds = f.header_there; joint_in_bounds = f.first_there; tail_bound = f.beyond_tail; joint_bound = f.others_behind; at_bound = f.within; chunk_bound = f.short; leads = f.first_leads; leads_2 = f.others_lead; next_in_bounds = le_trans (le_of_eq (ap length f.results_are)) s.requires.chunk_in_bounds }
 
 pub enum_told-1 : goal.enum_told-1
-enum_told-1 c = c.in-Stop.in-Stop-own.keys2
+enum_told-1 c = c.in-Err.in-Err-own.keys2
 
 pub slice_bounds-take_rest-count : goal.slice_bounds-take_rest-count
 slice_bounds-take_rest-count c = zero-le
@@ -118,26 +118,26 @@ pub take_rest-requires : goal.take_rest-requires
 take_rest-requires c =
     let j = made (goal.at.take_rest-requires c).After-field in
     let s = first j in
-    let f = stays (goal.at.take_rest-requires c).In-Stop in record { fact = s.requires.gone.is_open_is; from_le_to = zero-le; to_in_bounds = zero-le; bytes_len_bound = f.short; leads = f.leads; next_in_bounds = le_trans (le_of_eq (zero-add _ ∙ ap length f.results_are)) s.requires.chunk_in_bounds }
+    let f = stays (goal.at.take_rest-requires c).In-Err in record { fact = s.requires.gone.is_open_is; from_le_to = zero-le; to_in_bounds = zero-le; bytes_len_bound = f.short; leads = f.leads; next_in_bounds = le_trans (le_of_eq (zero-add _ ∙ ap length f.results_are)) s.requires.chunk_in_bounds }
 
-pub shape_of-s-in-Next : goal.shape_of-s-in-Next
-shape_of-s-in-Next c = c.take_both.auto.s
+pub shape_of-s-in-Ok : goal.shape_of-s-in-Ok
+shape_of-s-in-Ok c = c.take_both.auto.s
 
-pub shape_of-room-in-Next : goal.shape_of-room-in-Next
-shape_of-room-in-Next c = c.take_both.auto.room
+pub shape_of-room-in-Ok : goal.shape_of-room-in-Ok
+shape_of-room-in-Ok c = c.take_both.auto.room
 
-pub returns-in-Next : goal.returns-in-Next
-returns-in-Next c =
-    let a = (first (made (goal.at.returns-in-Next c).After-field)).args in
-    let f = fits (goal.at.returns-in-Next c).In-Next in record { s_after = c.take_both.ensures.s_after ∙ ap bytes_for f.kept_is; room_after = c.take_both.ensures.room_after ∙ ap (laid a.room.now 0) f.results_are }
+pub returns-in-Ok : goal.returns-in-Ok
+returns-in-Ok c =
+    let a = (first (made (goal.at.returns-in-Ok c).After-field)).args in
+    let f = fits (goal.at.returns-in-Ok c).In-Ok in record { s_after = c.take_both.ensures.s_after ∙ ap bytes_for f.kept_is; room_after = c.take_both.ensures.room_after ∙ ap (laid a.room.now 0) f.results_are }
 
-pub shape_of-s-in-Stop : goal.shape_of-s-in-Stop
-shape_of-s-in-Stop c = c.take_rest.auto.s
+pub shape_of-s-in-Err : goal.shape_of-s-in-Err
+shape_of-s-in-Err c = c.take_rest.auto.s
 
-pub shape_of-room-in-Stop : goal.shape_of-room-in-Stop
-shape_of-room-in-Stop c = c.take_rest.auto.room
+pub shape_of-room-in-Err : goal.shape_of-room-in-Err
+shape_of-room-in-Err c = c.take_rest.auto.room
 
-pub returns-in-Stop : goal.returns-in-Stop
-returns-in-Stop c =
-    let a = (first (made (goal.at.returns-in-Stop c).After-field)).args in
-    let f = stays (goal.at.returns-in-Stop c).In-Stop in record { s_after = c.take_rest.ensures.s_after ∙ ap bytes_for f.kept_is; room_after = c.take_rest.ensures.room_after ∙ ap (laid a.room.now 0) f.results_are }
+pub returns-in-Err : goal.returns-in-Err
+returns-in-Err c =
+    let a = (first (made (goal.at.returns-in-Err c).After-field)).args in
+    let f = stays (goal.at.returns-in-Err c).In-Err in record { s_after = c.take_rest.ensures.s_after ∙ ap bytes_for f.kept_is; room_after = c.take_rest.ensures.room_after ∙ ap (laid a.room.now 0) f.results_are }

@@ -9,8 +9,6 @@ use lib.Dec.{eqb}
 use lib.ListN.{length, take}
 use Rattle.parts.specs.Header.{past}
 use Rattle.fields.specs.declared.State.{State}
-use Rattle.fields.specs.declared.Taken.{Taken}
-use Rattle.fields.specs.declared.Taken.TheVariants.{Next, Stop}
 use Rattle.fields.specs.Fields.{head_of}
 use Rattle.stick.specs.Check.{field_at, reached, reach_of}
 use Rattle.chunks.specs.Sizes.{largest_field}
@@ -21,8 +19,9 @@ use Rattle.kept.specs.Layout.{tail_part, state_in, mark_in, kept_in}
 use Rattle.taking.specs.Chunk.{gone_by}
 use Rattle.intake.proofs.OpenLaws.{open_sized, open_few, open_tail, open_waits}
 use Rattle.intake.proofs.JointLaws.{take_most, stops_first, three, tail_first, past_within, goes_first}
+use Rattle.std.proofs.Common.{Err, Ok, Result}
 use Rattle.intake.proofs.joints.gone_on.Goals as goal
-use Rattle.intake.proofs.joints.gone_on.Goals.{After-field, After-field-arg-1, After-join-n, After-st-1, In-Next, In-Stop, Start}
+use Rattle.intake.proofs.joints.gone_on.Goals.{After-field, After-field-arg-1, After-join-n, After-st-1, In-Ok, In-Err, Start}
 
 -- the start of the function, and what is put together
 abbrev first : After-join-n → Start
@@ -59,16 +58,16 @@ waited : (s : Start) → (eqb (state_in s.args.s.now).stage 0 ≡ false) × (hea
 waited s = open_waits s.args.s.now s.requires.fact (omega (arith, some_tail s, open_tail s.args.s.now s.requires.fact))
 
 -- the first field, as it is read
-abbrev field_of : After-field → Taken
+abbrev field_of : After-field → Result State ℕ
 field_of f = let s = first (record { before = f.before.before.before.before; type_inv = record { chunk = f.shared_slice_known-2-1.given; s = f.shared_slice_known-1.given } }) in field_at (state_in s.args.s.now) (take largest_field (bytes s)) 0
 
-stop_is : (n : In-Stop) → field_of (record { before = n.before.before; type_inv = record { chunk = n.shared_slice_known-2-1.given; s = n.shared_slice_known-1.given } }) ≡ Stop n.in-Stop.number
+stop_is : (n : In-Err) → field_of (record { before = n.before.before; type_inv = record { chunk = n.shared_slice_known-2-1.given; s = n.shared_slice_known-1.given } }) ≡ Err n.in-Err.number
 stop_is n =
-    sym (sym n.in-Stop.is ∙ n.field.ensures.value ∙ ap₂ (λ (st : State) (l : List ℕ). field_at st l 0) (state_is (first (record { before = n.before.before.before.before.before; type_inv = record { chunk = n.shared_slice_known-2-1.given; s = n.shared_slice_known-1.given } }))) (joint_read (record { before = n.before.before.before.before.before; type_inv = record { chunk = n.shared_slice_known-2-1.given; s = n.shared_slice_known-1.given } })))
+    sym (sym n.in-Err.is ∙ n.field.ensures.value ∙ ap₂ (λ (st : State) (l : List ℕ). field_at st l 0) (state_is (first (record { before = n.before.before.before.before.before; type_inv = record { chunk = n.shared_slice_known-2-1.given; s = n.shared_slice_known-1.given } }))) (joint_read (record { before = n.before.before.before.before.before; type_inv = record { chunk = n.shared_slice_known-2-1.given; s = n.shared_slice_known-1.given } })))
 
-next_is : (n : In-Next) → field_of (record { before = n.before.before; type_inv = record { chunk = n.shared_slice_known-2-1.given; s = n.shared_slice_known-1.given } }) ≡ Next n.in-Next.next
+next_is : (n : In-Ok) → field_of (record { before = n.before.before; type_inv = record { chunk = n.shared_slice_known-2-1.given; s = n.shared_slice_known-1.given } }) ≡ Ok n.in-Ok.next
 next_is n =
-    sym (sym n.in-Next.is ∙ n.field.ensures.value ∙ ap₂ (λ (st : State) (l : List ℕ). field_at st l 0) (state_is (first (record { before = n.before.before.before.before.before; type_inv = record { chunk = n.shared_slice_known-2-1.given; s = n.shared_slice_known-1.given } }))) (joint_read (record { before = n.before.before.before.before.before; type_inv = record { chunk = n.shared_slice_known-2-1.given; s = n.shared_slice_known-1.given } })))
+    sym (sym n.in-Ok.is ∙ n.field.ensures.value ∙ ap₂ (λ (st : State) (l : List ℕ). field_at st l 0) (state_is (first (record { before = n.before.before.before.before.before; type_inv = record { chunk = n.shared_slice_known-2-1.given; s = n.shared_slice_known-1.given } }))) (joint_read (record { before = n.before.before.before.before.before; type_inv = record { chunk = n.shared_slice_known-2-1.given; s = n.shared_slice_known-1.given } })))
 
 pub slice_bounds-join-end : goal.slice_bounds-join-end
 slice_bounds-join-end c = refl
@@ -89,10 +88,10 @@ pub field-requires : goal.field-requires
 field-requires c = zero-le
 
 pub enum_known-number : goal.enum_known-number
-enum_known-number c = c.in-Stop.in-Stop-own.keys1
+enum_known-number c = c.in-Err.in-Err-own.keys1
 
 pub enum_known-next : goal.enum_known-next
-enum_known-next c = c.in-Next.in-Next-own.keys2
+enum_known-next c = c.in-Ok.in-Ok-own.keys2
 
 pub slice_bounds-beyond-count : goal.slice_bounds-beyond-count
 slice_bounds-beyond-count c = zero-le
@@ -109,25 +108,25 @@ beyond-requires c =
     let st = state_in s.args.s.now in
     let tail = tail_part s.args.s.now in
     let chunk = s.args.chunk.now in
-    let e = next_is (goal.at.beyond-requires c).In-Next in
+    let e = next_is (goal.at.beyond-requires c).In-Ok in
     let w = waited s in
-    let same = joint_read (goal.at.beyond-requires c).After-join-n in record { in_bounds = omega (arith, ap length same, three st (few_said s) tail chunk (some_tail s) w.0 w.1 c.in-Next.next e); tail_bound = omega (arith, ap (λ (l : List ℕ). past l 0) same, tail_is s, tail_first st (few_said s) tail chunk (some_tail s) w.0 w.1 c.in-Next.next e); joint_bound = omega (arith, ap (λ (l : List ℕ). past l 0) same, tail_is s, past_within st (few_said s) tail chunk (some_tail s) w.0 w.1 c.in-Next.next e); tail_le_tail_most = omega (arith, tail_is s, open_tail s.args.s.now s.requires.fact, (open_sized s.args.s.now s.requires.fact).tail_fits_is) }
+    let same = joint_read (goal.at.beyond-requires c).After-join-n in record { in_bounds = omega (arith, ap length same, three st (few_said s) tail chunk (some_tail s) w.0 w.1 c.in-Ok.next e); tail_bound = omega (arith, ap (λ (l : List ℕ). past l 0) same, tail_is s, tail_first st (few_said s) tail chunk (some_tail s) w.0 w.1 c.in-Ok.next e); joint_bound = omega (arith, ap (λ (l : List ℕ). past l 0) same, tail_is s, past_within st (few_said s) tail chunk (some_tail s) w.0 w.1 c.in-Ok.next e); tail_le_tail_most = omega (arith, tail_is s, open_tail s.args.s.now s.requires.fact, (open_sized s.args.s.now s.requires.fact).tail_fits_is) }
 
-pub returns-in-Stop : goal.returns-in-Stop
+pub returns-in-Err : goal.returns-in-Err
 unfolding gone_by kept_in
-returns-in-Stop c =
-    let s = first (goal.at.returns-in-Stop c).After-join-n in
+returns-in-Err c =
+    let s = first (goal.at.returns-in-Err c).After-join-n in
     let w = waited s in
-    ap (reached c.in-Stop.number 0) (state_is s)
-    ∙ stops_first (state_in s.args.s.now) (few_said s) (tail_part s.args.s.now) s.args.chunk.now (some_tail s) w.0 w.1 c.in-Stop.number (stop_is c)
+    ap (reached c.in-Err.number 0) (state_is s)
+    ∙ stops_first (state_in s.args.s.now) (few_said s) (tail_part s.args.s.now) s.args.chunk.now (some_tail s) w.0 w.1 c.in-Err.number (stop_is c)
 
-pub returns-in-Next : goal.returns-in-Next
+pub returns-in-Ok : goal.returns-in-Ok
 unfolding gone_by kept_in
-returns-in-Next c =
-    let s = first (goal.at.returns-in-Next c).After-join-n in
+returns-in-Ok c =
+    let s = first (goal.at.returns-in-Ok c).After-join-n in
     let w = waited s in
     let chunk = s.args.chunk.now in
-    let next = c.in-Next.next in
+    let next = c.in-Ok.next in
     c.beyond.ensures
-    ∙ ap₂ (λ (t : ℕ) (l : List ℕ). moved t (reach_of (length chunk) next chunk (past l 0 - t))) (tail_is s) (joint_read (goal.at.returns-in-Next c).After-join-n)
-    ∙ goes_first (state_in s.args.s.now) (few_said s) (tail_part s.args.s.now) chunk (some_tail s) w.0 w.1 next (next_is (goal.at.returns-in-Next c).In-Next)
+    ∙ ap₂ (λ (t : ℕ) (l : List ℕ). moved t (reach_of (length chunk) next chunk (past l 0 - t))) (tail_is s) (joint_read (goal.at.returns-in-Ok c).After-join-n)
+    ∙ goes_first (state_in s.args.s.now) (few_said s) (tail_part s.args.s.now) chunk (some_tail s) w.0 w.1 next (next_is (goal.at.returns-in-Ok c).In-Ok)

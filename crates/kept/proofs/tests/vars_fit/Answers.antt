@@ -19,7 +19,7 @@ pub loop-i-preserved : goal.loop-i-preserved
 unfolding var_fits var_at
 loop-i-preserved c =
     let s = c.args.s.now in
-    let e = sized c.i32_at.result c.size32.result c.i32_at.type_inv c.size32.ensures ∙ ap nat_abs c.i32_at.ensures in (
+    let e = sized c.i32_at.result c.unsigned_abs.result c.i32_at.type_inv c.unsigned_abs.ensures.value ∙ ap nat_abs c.i32_at.ensures in (
       omega arith,
       ap₂ ◌&&◌ c.loop-i.invariant.1 (ap (λ (n : ℕ). leb n 100000000) e) ∙ sym (all_next c.loop-i.i (var_fits s)),
     )

@@ -22,7 +22,7 @@ loop-i-preserved c =
     let site = site_of a.site.now in
     let stored = a.stored.now in
     let rs = a.requests.now in
-    let e = sized (get_or rs i (pos 0)) c.size32-size.result (omega arith) c.size32-size.ensures in (
+    let e = sized (get_or rs i (pos 0)) c.unsigned_abs-size.result (omega arith) c.unsigned_abs-size.ensures.value in (
       omega arith,
-      ap₂ ◌&&◌ c.loop-i.invariant.1 (unit_fits_is site stored rs i c.unit-u.result c.size32-size.result c.unit-u.ensures e) ∙ sym (all_next i (unit_fits site stored rs)),
+      ap₂ ◌&&◌ c.loop-i.invariant.1 (unit_fits_is site stored rs i c.unit-u.result c.unsigned_abs-size.result c.unit-u.ensures e) ∙ sym (all_next i (unit_fits site stored rs)),
     )

@@ -8,7 +8,7 @@ use Rattle.whole.proofs.SignLaws.{read}
 use Rattle.lead.proofs.FunctionLaws.{unled_is, there_is, unsaid_is, said_is}
 use mathlib.Core.Bool.{not}
 use Rattle.lead.proofs.leading.lead_at.Goals as goal
-use Rattle.lead.proofs.leading.lead_at.Goals.{After-u8_at-after, Else-not-there, In-Said, Start}
+use Rattle.lead.proofs.leading.lead_at.Goals.{After-u8_at-after, Else-not-there, In-Some, Start}
 
 pub returns-then-not-there : goal.returns-then-not-there
 returns-then-not-there c =
@@ -40,6 +40,6 @@ returns c =
     let a = c.args in
     let y = c.value_at.result in record {
       value = said_is a.bytes.now a.there a.at a.v (ap not c.if-not-there.false) c.u8_at-after.result c.u8_at-after.ensures
-          c.in-Said.x c.in-Said.is y c.value_at.type_inv c.value_at.ensures.value;
+          c.in-Some.x c.in-Some.is y c.value_at.type_inv c.value_at.ensures.value;
       modest = record { y_small = subst⁻¹ (λ (z : ℤ). nat_abs z ≤ 10000) (read w32 y c.value_at.type_inv) c.value_at.ensures.result_bound };
     }

@@ -11,7 +11,7 @@ use Rattle.whole.proofs.OverLaws.{all_next}
 use Rattle.whole.proofs.SignLaws.{read}
 use Rattle.members.specs.Ranges.{within_ratings}
 use Rattle.members.proofs.ranges.within_ratings.Goals as goal
-use Rattle.members.proofs.ranges.within_ratings.Goals.{After-size32-size, At-loop-i}
+use Rattle.members.proofs.ranges.within_ratings.Goals.{After-unsigned_abs-size, At-loop-i}
 
 pub loop-i-init : goal.loop-i-init
 unfolding all_of
@@ -23,7 +23,7 @@ loop-i-preserved c =
     let rs = a.requests.now in
     let ws = a.rating.now in
     let r = get_or rs c.loop-i.i (pos 0) in
-    let e = c.size32-size.ensures ∙ ap nat_abs (read w32 r c.size32-arg-1.given) in
+    let e = c.unsigned_abs-size.ensures.value ∙ ap nat_abs (read w32 r c.unsigned_abs-arg-1.given) in
     ap₂ ◌&&◌ c.loop-i.invariant (ap (λ (z : ℕ). leb z (get_or ws c.loop-i.i 0)) e)
     ∙ sym (all_next c.loop-i.i (λ k. leb (nat_abs (get_or rs k (pos 0))) (get_or ws k 0)))
 

@@ -36,5 +36,5 @@ overflow_sub-size c = omega (arith, room (goal.at.overflow_sub-size c).Else-not-
 pub returns : goal.returns
 returns c =
     let a = c.args in
-    c.least64.ensures ∙ ap (λ (n : ℕ). min n (length a.file.now - (a.place + 3))) c.u16_at-wanted.ensures
+    c.min.ensures ∙ ap (λ (n : ℕ). min n (length a.file.now - (a.place + 3))) c.u16_at-wanted.ensures
     ∙ sized_some a.file.now a.place (there (goal.at.returns c).Else-not-head_there)

@@ -20,4 +20,4 @@ returns-then-head_there c = let a = c.args in starts_after a.file.now a.place (t
 pub returns : goal.returns
 returns c =
     let a = c.args in
-    c.least64.ensures ∙ starts_empty a.file.now a.place (sym c.head_there.ensures ∙ c.if-head_there.false)
+    c.min.ensures ∙ starts_empty a.file.now a.place (sym c.head_there.ensures ∙ c.if-head_there.false)

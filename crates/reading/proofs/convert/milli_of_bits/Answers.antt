@@ -14,13 +14,13 @@ pub returns-then-w-lt0 : goal.returns-then-w-lt0
 unfolding milli_of
 returns-then-w-lt0 c =
     let x = c.watts_of_bits in
-    below_refused c.in-Whole.w (record { sfits = c.in-Whole.known_told-1-own.given.0.1 }) c.if-w-lt0.true
-    ∙ ap not_below (sym c.in-Whole.is ∙ x.ensures)
+    below_refused c.in-Some.w (record { sfits = c.in-Some.known_told-1-own.given.0.1 }) c.if-w-lt0.true
+    ∙ ap not_below (sym c.in-Some.is ∙ x.ensures)
 
 pub returns : goal.returns
 unfolding milli_of
 returns c =
     let x = c.watts_of_bits in
-    let w = c.in-Whole.w in
-    let f = c.in-Whole.known_told-1-own.given.0.1 in
-    not_below_lem w (record { sfits = f }) c.if-w-lt0.false (read w32 w f) ∙ ap not_below (sym c.in-Whole.is ∙ x.ensures)
+    let w = c.in-Some.w in
+    let f = c.in-Some.known_told-1-own.given.0.1 in
+    not_below_lem w (record { sfits = f }) c.if-w-lt0.false (read w32 w f) ∙ ap not_below (sym c.in-Some.is ∙ x.ensures)

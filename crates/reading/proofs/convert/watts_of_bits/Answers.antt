@@ -6,8 +6,8 @@ use lib.Dec.{lit<}
 use mir.Syntax.{w32}
 use mir.ValLaws.{to_z-of_z}
 use Rattle.whole.proofs.SignLaws.{signed_fits}
-use Rattle.reading.specs.declared.Watts.TheVariants.{Whole}
 use Rattle.reading.proofs.DoubleLaws.{minus_of, high_bits, low_bits, over_bits, whole_bits}
+use Rattle.std.proofs.Common.{Some}
 use Rattle.reading.proofs.convert.watts_of_bits.Goals as goal
 
 pub returns-then-field-gt1074 : goal.returns-then-field-gt1074
@@ -27,5 +27,5 @@ signed32-requires c =
 pub returns : goal.returns
 returns c =
     let size = c.rounded-size in
-    ap Whole (to_z-of_z w32 c.signed32.result (record { sfits = c.signed32.type_inv }) ∙ c.signed32.ensures)
+    ap Some (to_z-of_z w32 c.signed32.result (record { sfits = c.signed32.type_inv }) ∙ c.signed32.ensures)
     ∙ whole_bits c.args.bits size.result c.if-field-lt1011.false c.if-field-gt1074.false size.ensures c.if-size-gt100000000.false

@@ -11,4 +11,4 @@ use Rattle.rules.proofs.ranges.measure_in.Goals as goal
 pub returns : goal.returns
 unfolding measure_in
 returns c =
-    ap (λ (n : ℕ). leb n 300000000) (c.size64.ensures ∙ ap nat_abs (read w64 c.args.measure c.ranges.measure.sfits))
+    ap (λ (n : ℕ). leb n 300000000) (c.unsigned_abs.ensures.value ∙ ap nat_abs (read w64 c.args.measure c.ranges.measure.sfits))

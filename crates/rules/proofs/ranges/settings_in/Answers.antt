@@ -16,5 +16,5 @@ unfolding settings_in
 returns c =
     let s = c.args.s in
     let h : mag s.target < 2 ^ 31 = c.struct_told-1.given.1.0.1 in
-    let e = c.size32-size.ensures ∙ ap nat_abs (read w32 s.target h) in
+    let e = c.unsigned_abs-size.ensures.value ∙ ap nat_abs (read w32 s.target h) in
     ap (λ (n : ℕ). between 1 5 s.mode && leb n 100000000 && leb s.band 200000000 && between 1 1000 s.factor) e

@@ -10,12 +10,12 @@ returns-then-charging-negative c =
 pub signed32-requires : goal.signed32-requires
 signed32-requires c =
     let a = c.args in
-    small_fits a.charging a.rating a.z c.requires c.ranges.z.sfits c.below_zero64-negative.result c.below_zero64-negative.ensures c.if-charging-negative.false c.size64-size.result c.size64-size.ensures c.if-size-rating.true
+    small_fits a.charging a.rating a.z c.requires c.ranges.z.sfits c.below_zero64-negative.result c.below_zero64-negative.ensures c.if-charging-negative.false c.unsigned_abs-size.result c.unsigned_abs-size.ensures.value c.if-size-rating.true
 
 pub returns-then-size-rating : goal.returns-then-size-rating
 returns-then-size-rating c =
     let a = c.args in
-    small_is a.charging a.rating a.z c.requires c.ranges.z.sfits c.below_zero64-negative.result c.below_zero64-negative.ensures c.if-charging-negative.false c.size64-size.result c.size64-size.ensures c.if-size-rating.true c.signed32.result c.signed32.type_inv c.signed32.ensures
+    small_is a.charging a.rating a.z c.requires c.ranges.z.sfits c.below_zero64-negative.result c.below_zero64-negative.ensures c.if-charging-negative.false c.unsigned_abs-size.result c.unsigned_abs-size.ensures.value c.if-size-rating.true c.signed32.result c.signed32.type_inv c.signed32.ensures
 
 pub signed32-requires-2 : goal.signed32-requires-2
 signed32-requires-2 c =
@@ -25,4 +25,4 @@ signed32-requires-2 c =
 pub returns : goal.returns
 returns c =
     let a = c.args in
-    large_is a.charging a.rating a.z c.requires c.ranges.z.sfits c.below_zero64-negative.result c.below_zero64-negative.ensures c.if-charging-negative.false c.size64-size.result c.size64-size.ensures c.if-size-rating.false c.signed32-2.result c.signed32-2.type_inv c.signed32-2.ensures
+    large_is a.charging a.rating a.z c.requires c.ranges.z.sfits c.below_zero64-negative.result c.below_zero64-negative.ensures c.if-charging-negative.false c.unsigned_abs-size.result c.unsigned_abs-size.ensures.value c.if-size-rating.false c.signed32-2.result c.signed32-2.type_inv c.signed32-2.ensures

@@ -11,10 +11,10 @@ use Rattle.rules.proofs.rules.in_band.Goals as goal
 
 pub overflow_mul-result : goal.overflow_mul-result
 overflow_mul-result c =
-    let e : c.size64.result ≡ nat_abs c.args.need = c.size64.ensures ∙ ap nat_abs (read w64 c.args.need c.ranges.need.sfits) in
+    let e : c.unsigned_abs.result ≡ nat_abs c.args.need = c.unsigned_abs.ensures.value ∙ ap nat_abs (read w64 c.args.need c.ranges.need.sfits) in
     omega arith
 
 pub returns : goal.returns
 unfolding in_band
 returns c =
-    ap (λ (n : ℕ). leb (2 * n) c.args.band) (c.size64.ensures ∙ ap nat_abs (read w64 c.args.need c.ranges.need.sfits))
+    ap (λ (n : ℕ). leb (2 * n) c.args.band) (c.unsigned_abs.ensures.value ∙ ap nat_abs (read w64 c.args.need c.ranges.need.sfits))

@@ -6,7 +6,7 @@ use Rattle.solar.proofs.SkyLaws.{sky_shining}
 use Rattle.solar.proofs.AnswerLaws.{out_of_range, roof_passed, no_sky, clear_sky}
 use mathlib.Core.Bool.{not}
 use Rattle.solar.proofs.calls.step_in.Goals as goal
-use Rattle.solar.proofs.calls.step_in.Goals.{After-roof_in, After-sky_of, Else-not-roof_in-on, In-Clear, In_default, Start, Then-not-roof_in-on}
+use Rattle.solar.proofs.calls.step_in.Goals.{After-roof_in, After-sky_of, Else-not-roof_in-on, In-Some, In_default, Start, Then-not-roof_in-on}
 
 pub returns-then-not-roof_in-on : goal.returns-then-not-roof_in-on
 returns-then-not-roof_in-on c =
@@ -27,11 +27,11 @@ step_within-requires c =
         warm_there = omega arith;
         efficiency_there = omega arith;
       };
-      shining = sky_shining a.w c.in-Clear.s (sym c.sky_of.ensures ∙ c.in-Clear.is);
+      shining = sky_shining a.w c.in-Some.s (sym c.sky_of.ensures ∙ c.in-Some.is);
     }
 
 pub returns : goal.returns
 returns c =
     let a = c.args in
     clear_sky (roof_by a.v a.bytes.now 0 129) a.on a.w c.roof_in.result c.roof_in.ensures (ap not c.if-not-roof_in-on.false) c.sky_of.result c.sky_of.ensures
-    c.in-Clear.s c.in-Clear.is c.step_within.result c.step_within.ensures
+    c.in-Some.s c.in-Some.is c.step_within.result c.step_within.ensures

@@ -20,5 +20,5 @@ overflow_cast-result c =
     let a = c.args in
     let v = a.v in
     let most =
-    ac_small (a.dc * a.efficiency / 10000) v.array v.limit c.least64.result c.requires.array_bound c.requires.limit_bound c.least64.ensures in
+    ac_small (a.dc * a.efficiency / 10000) v.array v.limit c.min.result c.requires.array_bound c.requires.limit_bound c.min.ensures in
     record { fits = lt_of_le_of_lt most (lit< tt) }

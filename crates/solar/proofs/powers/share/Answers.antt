@@ -11,7 +11,7 @@ use Rattle.solar.proofs.powers.share.Goals.{After-value, Start}
 pub returns : goal.returns
 returns c =
     let a = c.args in
-    c.size64.ensures
+    c.unsigned_abs.ensures.value
     ∙ ap nat_abs
     (read w64 c.value.result c.value.type_inv ∙ c.value.ensures
     ∙ ap (λ (z : ℤ). curve_at (points_at a.bytes.now a.place) z) (read w64 a.x c.ranges.x.sfits))

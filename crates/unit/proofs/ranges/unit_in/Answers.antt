@@ -13,5 +13,5 @@ returns c =
     let t = v.before in
     let m = t.before in
     let u = m.args.u in
-    let size : v.size32-vars.result ≡ nat_abs u.var_request = sized u.var_request v.size32-vars.result t.struct_told-1.given.1.1.1.1.1.1.0.1 v.size32-vars.ensures in
+    let size : v.unsigned_abs-vars.result ≡ nat_abs u.var_request = sized u.var_request v.unsigned_abs-vars.result t.struct_told-1.given.1.1.1.1.1.1.0.1 v.unsigned_abs-vars.ensures.value in
     cc (size, d.idle_draw-draw.ensures, m.member_in-member.ensures)

@@ -9,11 +9,11 @@ returns-then-b-eq0 c = cut_none c.args.z c.args.b c.if-b-eq0.true
 pub signed64-requires : goal.signed64-requires
 signed64-requires c =
     let s = c.before.before.before in
-    cut_fits w64 s.args.z s.args.b s.ranges.z c.below_zero64.result c.size64.result c.below_zero64.ensures c.size64.ensures
+    cut_fits w64 s.args.z s.args.b s.ranges.z c.below_zero64.result c.unsigned_abs.result c.below_zero64.ensures c.unsigned_abs.ensures.value
 
 pub returns : goal.returns
 returns c =
     let s = c.before.before.before.before in
     let sign = c.below_zero64 in
-    let size = c.size64 in
-    cut_is w64 s.args.z s.args.b s.ranges.z sign.result size.result sign.ensures size.ensures c.signed64.result c.signed64.type_inv c.signed64.ensures
+    let size = c.unsigned_abs in
+    cut_is w64 s.args.z s.args.b s.ranges.z sign.result size.result sign.ensures size.ensures.value c.signed64.result c.signed64.type_inv c.signed64.ensures

@@ -5,10 +5,12 @@ use lib.ListN.{length}
 use mir.Syntax.{w32}
 use Rattle.whole.specs.Call.{number_of}
 use Rattle.whole.proofs.SignLaws.{read}
-use Rattle.peaks.specs.declared.PeaksAnswer.{PeaksAnswer}
-use Rattle.peaks.specs.Answers.{peaks_answer, peaks_leaves, peaks_call}
+use Rattle.peaks.specs.Answers.{peaks_answer, peaks_leaves}
+use Rattle.std.proofs.Common.{Result}
+use Rattle.whole.specs.declared.Refusal.{Refusal}
+use Rattle.tally.specs.declared.Figures.{Figures}
 use Rattle.yesbrulka.proofs.files.yb_peaks.Goals as goal
-use Rattle.yesbrulka.proofs.files.yb_peaks.Goals.{After-peaks, In-Untold, Start}
+use Rattle.yesbrulka.proofs.files.yb_peaks.Goals.{After-peaks, In-Err, Start}
 
 -- where the function starts, and what the library answered and left
 abbrev start : After-peaks → Start
@@ -27,21 +29,21 @@ left p =
     p.peaks.ensures.list_after ∙ ap (λ (z : ℤ). peaks_leaves a.file.now z a.figures.now) (read w32 a.target s.ranges.target.sfits)
 
 pub enum_told-1 : goal.enum_told-1
-enum_told-1 c = c.in-Told.in-Told-own.keys1
+enum_told-1 c = c.in-Ok.in-Ok-own.keys1
 
 pub enum_known-r : goal.enum_known-r
-enum_known-r c = c.in-Untold.in-Untold-own.keys2
+enum_known-r c = c.in-Err.in-Err-own.keys2
 
-pub shape_of-figures-in-Told : goal.shape_of-figures-in-Told
-shape_of-figures-in-Told c = c.peaks.auto.list
+pub shape_of-figures-in-Ok : goal.shape_of-figures-in-Ok
+shape_of-figures-in-Ok c = c.peaks.auto.list
 
-pub returns-in-Told : goal.returns-in-Told
-returns-in-Told c =
-    let a = (start (goal.at.returns-in-Told c).After-peaks).args in record { value = sym (ap (λ (x : PeaksAnswer). number_of (peaks_call x)) (sym (is (goal.at.returns-in-Told c).After-peaks) ∙ c.in-Told.is)); figures_after = left (goal.at.returns-in-Told c).After-peaks }
+pub returns-in-Ok : goal.returns-in-Ok
+returns-in-Ok c =
+    let a = (start (goal.at.returns-in-Ok c).After-peaks).args in record { value = sym (ap (λ (x : Result Figures Refusal). number_of x) (sym (is (goal.at.returns-in-Ok c).After-peaks) ∙ c.in-Ok.is)); figures_after = left (goal.at.returns-in-Ok c).After-peaks }
 
-pub shape_of-figures-in-Untold : goal.shape_of-figures-in-Untold
-shape_of-figures-in-Untold c = c.peaks.auto.list
+pub shape_of-figures-in-Err : goal.shape_of-figures-in-Err
+shape_of-figures-in-Err c = c.peaks.auto.list
 
-pub returns-in-Untold : goal.returns-in-Untold
-returns-in-Untold c =
-    let a = (start (goal.at.returns-in-Untold c).After-peaks).args in record { value = sym (ap (λ (x : PeaksAnswer). number_of (peaks_call x)) (sym (is (goal.at.returns-in-Untold c).After-peaks) ∙ c.in-Untold.is)); figures_after = left (goal.at.returns-in-Untold c).After-peaks }
+pub returns-in-Err : goal.returns-in-Err
+returns-in-Err c =
+    let a = (start (goal.at.returns-in-Err c).After-peaks).args in record { value = sym (ap (λ (x : Result Figures Refusal). number_of x) (sym (is (goal.at.returns-in-Err c).After-peaks) ∙ c.in-Err.is)); figures_after = left (goal.at.returns-in-Err c).After-peaks }

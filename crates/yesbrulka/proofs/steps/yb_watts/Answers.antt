@@ -3,19 +3,19 @@ use mathlib.Core.Path.{sym, ap, ◌∙◌}
 use lib.IntN.{ℤ}
 use mir.Syntax.{w32}
 use Rattle.whole.proofs.SignLaws.{read}
-use Rattle.reading.specs.declared.Watts.{Watts}
 use Rattle.whole.specs.Call.{number_of, held_after}
 use Rattle.reading.specs.Conversion.{watts_call}
+use Rattle.std.proofs.Common.{Option}
 use Rattle.yesbrulka.proofs.steps.yb_watts.Goals as goal
 
 pub returns-in_default : goal.returns-in_default
 returns-in_default c =
-    let is = sym c.in_default.is ∙ c.converted.ensures in record { value = ap (λ (w : Watts). number_of (watts_call w)) is; watts_after = ap (λ (w : Watts). held_after (watts_call w) (λ (z : ℤ). z) c.args.watts.now) is }
+    let is = sym c.in_default.is ∙ c.converted.ensures in record { value = ap (λ (w : Option ℤ). number_of (watts_call w)) is; watts_after = ap (λ (w : Option ℤ). held_after (watts_call w) (λ (z : ℤ). z) c.args.watts.now) is }
 
 pub returns : goal.returns
 returns c =
-    let is = sym c.in-Whole.is ∙ c.converted.ensures in record {
-      value = ap (λ (w : Watts). number_of (watts_call w)) is;
-      watts_after = read w32 c.in-Whole.w c.in-Whole.known_told-1-own.given.0.1
-          ∙ ap (λ (w : Watts). held_after (watts_call w) (λ (z : ℤ). z) c.args.watts.now) is;
+    let is = sym c.in-Some.is ∙ c.converted.ensures in record {
+      value = ap (λ (w : Option ℤ). number_of (watts_call w)) is;
+      watts_after = read w32 c.in-Some.w c.in-Some.known_told-1-own.given.0.1
+          ∙ ap (λ (w : Option ℤ). held_after (watts_call w) (λ (z : ℤ). z) c.args.watts.now) is;
     }
