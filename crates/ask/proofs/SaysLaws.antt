@@ -13,8 +13,10 @@ use Rattle.unit.specs.declared.Unit.{Unit}
 use Rattle.settling.specs.Answers.{study_answer, study_leaves}
 use Rattle.site.specs.declared.Head.{Head}
 use Rattle.site.specs.Site.{count, unit_of}
-use Rattle.stick.specs.declared.Answer.{Answer}
-use Rattle.stick.specs.Check.{check_of, refusal_by}
+use Rattle.stick.specs.Check.{Answer}
+use Rattle.stick.specs.declared.Checked.{Checked}
+use Rattle.stick.specs.Check.{check_of, checked_by, refusal_by}
+use Rattle.stick.proofs.CheckedLaws.{accepted_is, refused_is}
 use Rattle.stick.specs.Site.{connections_of, value_of_first, site_of, roofs_of}
 use Rattle.stick.specs.Check.{Accepted}
 use Rattle.stick.specs.Posts.{connections_place, connected}
@@ -36,58 +38,53 @@ zero_number n x y e = ap (λ (b : Bool). cond b x y) (eq-eqb n 0 e)
 other_number {ℓ} : {X : Type ℓ} (n : ℕ) (x y : X) → (n ≡ 0 → ⊥) → by_number n x y ≡ y
 other_number n x y h = ap (λ (b : Bool). cond b x y) (ne_eqb n 0 h)
 
-module _ (file : List ℕ) (a : Answer) (is : a ≡ check_of file) where
-  number_is : a.number ≡ (check_of file).number
-  number_is = ap (λ (x : Answer). x.number) is
+-- a file that the check accepts
+pub accepts : (file : List ℕ) (a : Checked) → Ok a ≡ checked_by (check_of file) → Accepted file
+accepts file a e = record { complete = sym (ap (λ (x : Answer). x.number) (accepted_is (check_of file) a e)) }
 
-  pub accepts : a.number ≡ 0 → Accepted file
-  accepts e = record { complete = sym number_is ∙ e }
+-- a file that is refused
+module _ (file : List ℕ) (r : Refusal) (is : Err r ≡ checked_by (check_of file)) where
+  whole_is : r ≡ refusal_by (check_of file)
+  whole_is = (refused_is (check_of file) r is).0
 
-  -- a file that is refused
-  module _ (no : a.number ≡ 0 → ⊥) where
-    refused : (check_of file).number ≡ 0 → ⊥
-    refused e = no (number_is ∙ e)
+  refused : (check_of file).number ≡ 0 → ⊥
+  refused = (refused_is (check_of file) r is).1
 
-    pub no_units : 0 ≡ units_said file
-    unfolding units_said
-    no_units = sym (other_number (check_of file).number (count (site_of file)) 0 refused)
+  pub no_units : 0 ≡ units_said file
+  unfolding units_said
+  no_units = sym (other_number (check_of file).number (count (site_of file)) 0 refused)
 
-    pub no_inverters : 0 ≡ inverters_said file
-    unfolding inverters_said
-    no_inverters = sym (other_number (check_of file).number (length (roofs_of file)) 0 refused)
+  pub no_inverters : 0 ≡ inverters_said file
+  unfolding inverters_said
+  no_inverters = sym (other_number (check_of file).number (length (roofs_of file)) 0 refused)
 
-    pub no_seconds : 0 ≡ seconds_said file
-    unfolding seconds_said
-    no_seconds = sym (other_number (check_of file).number (site_of file).head.seconds 0 refused)
+  pub no_seconds : 0 ≡ seconds_said file
+  unfolding seconds_said
+  no_seconds = sym (other_number (check_of file).number (site_of file).head.seconds 0 refused)
 
-    -- with the refusal that the check's answer makes
-    module _ (r : Refusal) (er : r ≡ refusal_by a) where
-      whole_is : r ≡ refusal_by (check_of file)
-      whole_is = er ∙ ap refusal_by is
+  pub no_head : Err r ≡ head_answer file
+  unfolding head_answer
+  no_head = ap Err whole_is ∙ sym (other_number (check_of file).number (Ok (site_of file).head) (Err (refusal_by (check_of file))) refused)
 
-      pub no_head : Err r ≡ head_answer file
-      unfolding head_answer
-      no_head = ap Err whole_is ∙ sym (other_number (check_of file).number (Ok (site_of file).head) (Err (refusal_by (check_of file))) refused)
+  pub no_unit_lem : (i : ℕ) → Err r ≡ unit_answer file i
+  unfolding unit_answer
+  no_unit_lem i =
+      let said = cond (ltb i (count (site_of file))) (Ok (unit_of (site_of file) i)) (Err (refusal 10)) in
+      ap Err whole_is ∙ sym (other_number (check_of file).number said (Err (refusal_by (check_of file))) refused)
 
-      pub no_unit_lem : (i : ℕ) → Err r ≡ unit_answer file i
-      unfolding unit_answer
-      no_unit_lem i =
-          let said = cond (ltb i (count (site_of file))) (Ok (unit_of (site_of file) i)) (Err (refusal 10)) in
-          ap Err whole_is ∙ sym (other_number (check_of file).number said (Err (refusal_by (check_of file))) refused)
+  pub no_connection : (i : ℕ) → Err r ≡ connection_answer file i
+  unfolding connection_answer
+  no_connection i =
+      let said = cond (ltb i (count (site_of file)) && leb 1 (length (connections_of file))) (Ok (connection_of file i)) (Err (refusal 10)) in
+      ap Err whole_is ∙ sym (other_number (check_of file).number said (Err (refusal_by (check_of file))) refused)
 
-      pub no_connection : (i : ℕ) → Err r ≡ connection_answer file i
-      unfolding connection_answer
-      no_connection i =
-          let said = cond (ltb i (count (site_of file)) && leb 1 (length (connections_of file))) (Ok (connection_of file i)) (Err (refusal 10)) in
-          ap Err whole_is ∙ sym (other_number (check_of file).number said (Err (refusal_by (check_of file))) refused)
-
-      pub no_study : (load : ℤ) (budget : ℕ) (rs : List ℤ) → (Err r ≡ file_study file load budget rs) × (rs ≡ file_study_leaves file load budget rs)
-      unfolding file_study file_study_leaves
-      no_study load budget rs = (
-        ap Err whole_is
-            ∙ sym (other_number (check_of file).number (study_answer (trial_said file load budget) (fleet_said file) rs) (Err (refusal_by (check_of file))) refused),
-        sym (other_number (check_of file).number (study_leaves (trial_said file load budget) (fleet_said file) rs) rs refused),
-      )
+  pub no_study : (load : ℤ) (budget : ℕ) (rs : List ℤ) → (Err r ≡ file_study file load budget rs) × (rs ≡ file_study_leaves file load budget rs)
+  unfolding file_study file_study_leaves
+  no_study load budget rs = (
+    ap Err whole_is
+        ∙ sym (other_number (check_of file).number (study_answer (trial_said file load budget) (fleet_said file) rs) (Err (refusal_by (check_of file))) refused),
+    sym (other_number (check_of file).number (study_leaves (trial_said file load budget) (fleet_said file) rs) rs refused),
+  )
 
 -- ---- an accepted file
 module _ (file : List ℕ) (z : Accepted file) where

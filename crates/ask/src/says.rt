@@ -10,40 +10,37 @@ use whole::Refusal;
 pub fn units(file: &[u8]) -> u32
     ensures { result ≡ units_said file.now }
 {
-    if stick::check(file).number != 0 {
-        return 0;
+    match stick::check(file) {
+        Ok(_) => stick::units(file) as u32,
+        Err(_) => 0,
     }
-    stick::units(file) as u32
 }
 
 // The number of inverters of an accepted file, 0 of any other.
 pub fn inverters(file: &[u8]) -> u32
     ensures { result ≡ inverters_said file.now }
 {
-    if stick::check(file).number != 0 {
-        return 0;
+    match stick::check(file) {
+        Ok(_) => stick::roofs(file) as u32,
+        Err(_) => 0,
     }
-    stick::roofs(file) as u32
 }
 
 // The seconds of a step of an accepted file, 0 of any other.
 pub fn seconds(file: &[u8]) -> u32
     ensures { result ≡ seconds_said file.now }
 {
-    if stick::check(file).number != 0 {
-        return 0;
+    match stick::check(file) {
+        Ok(_) => stick::head(file).seconds,
+        Err(_) => 0,
     }
-    stick::head(file).seconds
 }
 
 // What a file says beside its units.
 pub fn head(file: &[u8]) -> Result<Head, Refusal>
     ensures { result ≡ head_answer file.now }
 {
-    let a = stick::check(file);
-    if a.number != 0 {
-        return Err(stick::refusal_of(a));
-    }
+    stick::check(file)?;
     Ok(stick::head(file))
 }
 
@@ -51,10 +48,7 @@ pub fn head(file: &[u8]) -> Result<Head, Refusal>
 pub fn unit(file: &[u8], i: u32) -> Result<Unit, Refusal>
     ensures { result ≡ unit_answer file.now i }
 {
-    let a = stick::check(file);
-    if a.number != 0 {
-        return Err(stick::refusal_of(a));
-    }
+    stick::check(file)?;
     let place = i as usize;
     if place < stick::units(file) {
         return Ok(stick::unit(file, place));
@@ -66,10 +60,7 @@ pub fn unit(file: &[u8], i: u32) -> Result<Unit, Refusal>
 pub fn connection_of(file: &[u8], i: u32) -> Result<Connection, Refusal>
     ensures { result ≡ connection_answer file.now i }
 {
-    let a = stick::check(file);
-    if a.number != 0 {
-        return Err(stick::refusal_of(a));
-    }
+    stick::check(file)?;
     let place = i as usize;
     if stick::units(file) <= place {
         return Err(whole::refused(10));

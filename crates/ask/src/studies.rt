@@ -45,10 +45,7 @@ pub fn study(file: &[u8], load: i64, budget: u32, requests: &mut [i32]) -> Resul
     ensures value { result ≡ file_study file.now load budget requests.old }
     ensures requests_after { requests.new ≡ file_study_leaves file.now load budget requests.old }
 {
-    let a = stick::check(file);
-    if a.number != 0 {
-        return Err(stick::refusal_of(a));
-    }
+    stick::check(file)?;
     if requests.len() != stick::units(file) {
         return Err(whole::refused(10));
     }

@@ -18,7 +18,7 @@ use Rattle.fields.specs.declared.State.{State}
 use Rattle.fields.specs.Fields.{at_end, at_fleet, at_units, at_settings, at_steps, at_inverters, at_temperature, at_efficiency, at_connections, at_volt_var, at_led, begins, unit_size, kinds, size_in}
 use Rattle.fields.specs.Fields.{size_of, head_of, stands_in, allowed, is_reading, value_of, refused_by, Flags, flags, flags_of, state_of, gone_to, roof_after, state_after, taken_by}
 use Rattle.fields.proofs.FieldLaws.{fleet_alone, units_alone, settings_alone, connections_alone, warm_alone, efficiency_alone, volt_var_alone, fewer, fewer_more}
-use Rattle.stick.specs.declared.Answer.{Answer}
+use Rattle.stick.specs.Check.{Answer}
 use Rattle.stick.specs.declared.Reached.{Reached}
 use Rattle.stick.specs.Check.{answer, field_at, reached, reach_of, ends, start}
 use Rattle.stick.specs.Site.{steps_from, of_steps, head_from}

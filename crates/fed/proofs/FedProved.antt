@@ -14,7 +14,7 @@ use Rattle.site.specs.declared.Step.{Step}
 use Rattle.lead.specs.Lead.{Leading}
 use Rattle.site.specs.Site.{Site, Plant, none_yet}
 use Rattle.fields.specs.declared.State.{State}
-use Rattle.stick.specs.declared.Answer.{Answer}
+use Rattle.stick.specs.Check.{Answer}
 use Rattle.stick.specs.declared.Reached.{Reached}
 use Rattle.stick.specs.Check.{answer, ends, start, walk}
 use Rattle.stick.specs.Site.{site_of, roofs_of, leading_of, plant_of, steps_from, steps_of}

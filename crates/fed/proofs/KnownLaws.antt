@@ -9,10 +9,10 @@ use native.Mathlib.Omega.{arith}
 use lib.Dec.{eqb}
 use lib.ListN.{length}
 use borrow.Author.Tests.{eqb-true, eqb-false, eq-eqb, ne_eqb}
-use Rattle.stick.specs.declared.Answer.{Answer}
+use Rattle.stick.specs.Check.{Answer}
 use Rattle.stick.specs.declared.Known.{Known}
 use Rattle.stick.specs.declared.Known.TheVariants.{Complete, Refused, NotKnown}
-use Rattle.stick.specs.Check.{answer}
+use Rattle.stick.specs.Check.{answer, refusal_by}
 use Rattle.stick.specs.Known.{known_by}
 use Rattle.records.specs.Records.{end_bytes}
 use Rattle.kept.specs.Layout.{place_in, steps_kept}
@@ -26,7 +26,7 @@ use Rattle.fed.proofs.FedProved.{walked_numbered, whole_place, fed_law}
 
 -- ---- by an answer
 abbrev known_by_lem : Bool → Bool → Answer → Known
-known_by_lem ok none a = cond ok (Complete a.steps) (cond none NotKnown (Refused a))
+known_by_lem ok none a = cond ok (Complete a.steps) (cond none NotKnown (Refused (refusal_by a)))
 
 abbrev known_of : Answer → Known
 known_of a = known_by_lem (eqb a.number 0) (eqb a.number 10 || eqb a.number 11) a
@@ -75,7 +75,7 @@ module _ (n : ℕ) (t : List ℕ) where
       pub says_short : eqb n 11 ≡ true → known_end n t ≡ NotKnown
       says_short e = says_rest true (ap₂ ◌||◌ (ne_eqb n 10 some) e)
 
-      pub says_refused : eqb n 11 ≡ false → known_end n t ≡ Refused (told n t)
+      pub says_refused : eqb n 11 ≡ false → known_end n t ≡ Refused (refusal_by (told n t))
       says_refused e = says_rest false (ap₂ ◌||◌ (ne_eqb n 10 some) e)
 
 -- ---- the end of a state that chunks led to

@@ -1,10 +1,10 @@
 -- What is known of a file that was fed to a state (rule E10): by the bytes of the state, whatever they are; and so by the bytes that were fed, however these were cut. `known-law` proves
 -- that the one gives the other.
 use Rattle.std.specs.Prelude.{ℕ, ◌≤◌, Bool, true, false, not, cond, ◌&&◌, ◌||◌, List, ◌≡◌, eqb, length}
-use Rattle.stick.specs.declared.Answer.{Answer}
+use Rattle.stick.specs.Check.{Answer}
 use Rattle.stick.specs.declared.Known.{Known}
 use Rattle.stick.specs.declared.Known.TheVariants.{Complete, Refused, NotKnown}
-use Rattle.stick.specs.Check.{answer, start, walk}
+use Rattle.stick.specs.Check.{answer, start, walk, refusal_by}
 use Rattle.stick.specs.Known.{known_by}
 use Rattle.records.specs.Records.{end_bytes}
 use Rattle.feed.specs.Answers.{own_number, end_number, end_leaves, place_told, steps_told}
@@ -22,7 +22,7 @@ unfoldable pub known_end : ℕ → List ℕ → Known
 unfolding place_told steps_told
 known_end number s =
     cond (eqb number 0) (Complete (steps_told s))
-    (cond (eqb number 10 || eqb number 11) NotKnown (Refused (answer number (place_told s) (steps_told s))))
+    (cond (eqb number 10 || eqb number 11) NotKnown (Refused (refusal_by (answer number (place_told s) (steps_told s)))))
 
 unfoldable pub known_in : List ℕ → ℕ → Bool → Known
 unfolding left known_end end_number end_leaves

@@ -2,7 +2,8 @@ ghost use Rattle.std.specs.Prelude.{◌≡◌, cond, length};
 ghost use Rattle.feed.specs.Answers.{end_leaves, end_writes};
 ghost use Rattle.fed.specs.Known.{known_end, left, Knows};
 
-use stick::{Answer, Known};
+use stick::Known;
+use whole::Refusal;
 
 // What is known once a run was ended: the end's number, and the state that it left. A state that is
 // none, and room too short for the end record, say nothing of the file.
@@ -15,7 +16,7 @@ fn ended(number: u8, state: &[u8]) -> Known
     if number == 10 || number == 11 {
         return Known::NotKnown;
     }
-    Known::Refused(Answer {
+    Known::Refused(Refusal {
         number,
         place: feed::place(state),
         steps: feed::steps(state),

@@ -2,7 +2,7 @@
 use Rattle.std.specs.Prelude.{List, [], ◌∷◌, ◌++◌, ℕ, ◌+◌, ℤ, pos, take, drop}
 use Rattle.octets.specs.BigEndian.{bytes_of}
 use Rattle.partner.specs.declared.Verdict.{Verdict}
-use Rattle.partner.specs.Verdict.{partner_answer, partner_call}
+use Rattle.partner.specs.Verdict.{partner_answer}
 use Rattle.figures.specs.Rows.{Row, row, values, refused_at, said}
 use Rattle.figures.specs.Table.{missing_once, no_steps}
 use Rattle.figures.specs.Further.{opening, missing, ending}
@@ -11,7 +11,7 @@ use Rattle.figures.specs.Roofs.{roof, weather}
 -- a verdict: its number, and where what is shown begins and how long it is
 unfoldable pub partner : List ℕ → List ℕ → List ℤ
 unfolding partner_answer
-partner run result = said (λ (v : Verdict). pos v.number ∷ pos v.start ∷ pos v.len ∷ []) (partner_call (partner_answer run result))
+partner run result = said (λ (v : Verdict). pos v.number ∷ pos v.start ∷ pos v.len ∷ []) ((partner_answer run result))
 
 abbrev pub verdict : ℕ → ℕ → ℕ → List ℤ
 verdict number start len = values (pos number ∷ pos start ∷ pos len ∷ [])

@@ -17,7 +17,7 @@ use Rattle.settling.specs.declared.Studied.{Studied}
 use Rattle.settling.specs.Answers.{study_answer, study_leaves}
 use Rattle.storage.specs.declared.Outcome.{Outcome}
 use Rattle.storage.specs.Step.{stepped_of}
-use Rattle.stick.specs.declared.Answer.{Answer}
+use Rattle.stick.specs.Check.{Answer}
 use Rattle.fields.specs.declared.State.{State}
 use Rattle.fields.specs.Fields.{flags, at_steps, state_of}
 use Rattle.stick.specs.Check.{field_at, taken_call, check_of}

@@ -20,7 +20,8 @@ use Rattle.stretch.specs.Posts.{FieldsAt, StepsThere}
 use Rattle.stretch.proofs.AcceptedLaws.{steps_there}
 use Rattle.season.specs.Run.{result_of}
 use Rattle.partner.specs.declared.Verdict.{Verdict}
-use Rattle.partner.specs.declared.PartnerAnswer.TheVariants.{Judged, Unjudged}
+use Rattle.std.proofs.Common.{Ok, Err}
+use Rattle.stick.specs.Check.{refusal_by}
 use Rattle.partner.specs.Verdict.{Field, asked_by, sizes_of, fields_at, fields_in, fields_of, right, their_bytes, our_field, same, verdict_from, verdict_of, partner_answer}
 use Rattle.partner.specs.Shown.{told_by, file_of, ShownPart}
 use Rattle.partner.proofs.FieldsLaws.{fields_start}
@@ -89,7 +90,7 @@ module _ (run result : List ℕ) where
   unfolding partner_answer
   told_within = go (eqb (check_of run).number 0) refl
     where
-      go : (b : Bool) → eqb (check_of run).number 0 ≡ b → Within run result (told_by (cond b (Judged (verdict_of run result)) (Unjudged (check_of run))))
+      go : (b : Bool) → eqb (check_of run).number 0 ≡ b → Within run result (told_by (cond b (Ok (verdict_of run result)) (Err (refusal_by (check_of run)))))
       go true e = within (record { complete = eqb-true (check_of run).number 0 e })
       go false e = omega arith
 

@@ -1,15 +1,14 @@
 -- What is shown (rule J11): a part of the partner's result or of the run file, as it lies there, by the verdict; nothing where it is right or there is none.
-use Rattle.std.specs.Prelude.{ℕ, ◌+◌, cond, List, ◌≡◌, eqb, take, drop}
+use Rattle.std.specs.Prelude.{ℕ, ◌+◌, cond, List, ◌≡◌, eqb, take, drop, Ok, Err, Result}
 use Rattle.std.specs.Borrow.{Bor}
 use Rattle.partner.specs.declared.Verdict.{Verdict}
-use Rattle.partner.specs.declared.PartnerAnswer.{PartnerAnswer}
-use Rattle.partner.specs.declared.PartnerAnswer.TheVariants.{Judged, Unjudged}
+use Rattle.whole.specs.declared.Refusal.{Refusal}
 use Rattle.partner.specs.Verdict.{right, partner_answer}
 
 -- the verdict of an answer; where there is none, nothing is shown either
-abbrev pub told_by : PartnerAnswer → Verdict
-told_by (Judged v) = v
-told_by (Unjudged a) = right
+abbrev pub told_by : Result Verdict Refusal → Verdict
+told_by (Ok v) = v
+told_by (Err r) = right
 
 abbrev pub file_of : {A : Type 0} → Verdict → A → A → A
 file_of v run result = cond (eqb v.number 2) run result

@@ -1,7 +1,6 @@
 -- The verdict on a partner's result (rules J1 to J7): right, or the first field of ours that does not stand there. Shown are the bytes that stand in its place or, where
 -- there are none, the field of the run file that asks for it.
-use Rattle.std.specs.Prelude.{ℕ, ◌+◌, Bool, true, false, cond, ◌&&◌, List, [], ◌∷◌, ◌++◌, map, eqb, length, take, drop, replicate, Err, Ok}
-use Rattle.whole.specs.Call.{Call}
+use Rattle.std.specs.Prelude.{ℕ, ◌+◌, Bool, true, false, cond, ◌&&◌, List, [], ◌∷◌, ◌++◌, map, eqb, length, take, drop, replicate, Err, Ok, Result}
 use Rattle.octets.specs.BigEndian.{be}
 use Rattle.parts.specs.Header.{header, tag_at, length_at}
 use Rattle.fields.specs.Fields.{is_reading}
@@ -11,8 +10,7 @@ use Rattle.stick.specs.Site.{places_of, plant_of}
 use Rattle.records.specs.Records.{record_bytes, roof_record_bytes, end_bytes}
 use Rattle.season.specs.Run.{result_of}
 use Rattle.partner.specs.declared.Verdict.{Verdict}
-use Rattle.partner.specs.declared.PartnerAnswer.{PartnerAnswer}
-use Rattle.partner.specs.declared.PartnerAnswer.TheVariants.{Judged, Unjudged}
+use Rattle.whole.specs.declared.Refusal.{Refusal}
 
 -- ---- J2: a field of our result: how many bytes it has, and the place of the run file's field that asks for it
 pub record Field : Type 0 where
@@ -81,10 +79,6 @@ unfolding verdict_from fields_of result_of
 verdict_of run result = verdict_from run (fields_of run) (result_of run) result 0
 
 -- ---- of any bytes: J1: a run file that the check refuses gets its refusal and no verdict
-unfoldable pub partner_answer : List ℕ → List ℕ → PartnerAnswer
+unfoldable pub partner_answer : List ℕ → List ℕ → Result Verdict Refusal
 unfolding check_of verdict_of
-partner_answer run result = cond (eqb (check_of run).number 0) (Judged (verdict_of run result)) (Unjudged (check_of run))
-
-abbrev pub partner_call : PartnerAnswer → Call Verdict
-partner_call (Judged v) = Ok v
-partner_call (Unjudged a) = Err (refusal_by a)
+partner_answer run result = cond (eqb (check_of run).number 0) (Ok (verdict_of run result)) (Err (refusal_by (check_of run)))

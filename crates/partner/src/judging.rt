@@ -5,11 +5,12 @@ ghost use Rattle.stretch.specs.Stretch.{all_bytes};
 ghost use Rattle.season.specs.Posts.{Lengths, SetOut};
 ghost use Rattle.partner.specs.Verdict.{verdict_of, partner_answer};
 
-use super::{PartnerAnswer, Verdict, alike, places};
+use super::{Verdict, alike, places};
 use fields::HEADER;
 use records::{RECORD_BYTES, ROOF_RECORD_BYTES};
 use rows::Row;
 use stretch::Track;
+use whole::Refusal;
 
 // The fields of an accepted run file in turn: what each brings stands in the room, and is held beside
 // what the partner has in its place; up to the end field, which brings the end record.
@@ -104,12 +105,9 @@ fn judged(run: &[u8], res: &[u8]) -> Verdict
 }
 
 // The verdict on any two files, or the check's refusal of the first.
-pub fn judge(run: &[u8], res: &[u8]) -> PartnerAnswer
+pub fn judge(run: &[u8], res: &[u8]) -> Result<Verdict, Refusal>
     ensures { result ≡ partner_answer run.now res.now }
 {
-    let a = stick::check(run);
-    if a.number != 0 {
-        return PartnerAnswer::Unjudged(a);
-    }
-    PartnerAnswer::Judged(judged(run, res))
+    stick::check(run)?;
+    Ok(judged(run, res))
 }

@@ -9,7 +9,6 @@ mod showing;
 
 pub use judging::judge;
 pub use showing::shown;
-use stick::Answer;
 
 // The verdict: 0 for a right result; 1 for bytes of the partner's and 2 for a field of the run file,
 // with the place of the first and how many there are.
@@ -18,13 +17,6 @@ pub struct Verdict {
     pub number: u8,
     pub start: u64,
     pub len: u64,
-}
-
-// A verdict, or the check's refusal of the run file.
-#[derive(Clone, Copy)]
-pub enum PartnerAnswer {
-    Judged(Verdict),
-    Unjudged(Answer),
 }
 
 // A field within a step's records: where it begins, and how many bytes it has.

@@ -1,7 +1,8 @@
 ghost use Rattle.std.specs.Prelude.{◌≡◌, cond};
 ghost use Rattle.partner.specs.Shown.{told_by, ShownPart};
 
-use super::{PartnerAnswer, Verdict, judging};
+use super::{Verdict, judging};
+use whole::Refusal;
 
 // The one lent file or the other.
 fn chosen<'a>(run: &'a [u8], res: &'a [u8], first: bool) -> &'a [u8]
@@ -11,12 +12,12 @@ fn chosen<'a>(run: &'a [u8], res: &'a [u8], first: bool) -> &'a [u8]
 }
 
 // The verdict of an answer; of a refusal that of nothing shown.
-fn told(a: PartnerAnswer) -> Verdict
+fn told(a: Result<Verdict, Refusal>) -> Verdict
     ensures { result ≡ told_by a }
 {
     match a {
-        PartnerAnswer::Judged(v) => v,
-        PartnerAnswer::Unjudged(_) => Verdict {
+        Ok(v) => v,
+        Err(_) => Verdict {
             number: 0,
             start: 0,
             len: 0,

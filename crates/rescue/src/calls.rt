@@ -1,6 +1,7 @@
 ghost use Rattle.std.specs.Prelude.{◌≡◌, cond, ◌+◌, ◌*◌, ◌≤◌, leb, eqb, length};
 ghost use Rattle.octets.specs.BigEndian.{laid};
 ghost use Rattle.parts.specs.Header.{tag_at};
+ghost use Rattle.stick.specs.Check.{checked_by};
 ghost use Rattle.rescue.specs.Saved.{due, saved_of};
 ghost use Rattle.rescue.specs.Answers.{list_bytes, rescue_answer, rescue_writes, rescue_lists};
 ghost use Rattle.rescue.specs.Posts.{extent, end_bytes_of, last_of, Walked, Surveyed};
@@ -9,7 +10,8 @@ use super::{CHANGE_BYTES, END_BYTES, Extent, Walk, walking, writing};
 use fields::{
     AT_CONNECTIONS, AT_END, AT_INVERTERS, AT_LED, AT_READING, AT_STEPS, AT_VOLTAGE, State,
 };
-use stick::Answer;
+use stick::Checked;
+use whole::Refusal;
 
 // The most bytes of a run file.
 const MOST_BYTES: usize = 2097152;
@@ -115,31 +117,30 @@ fn finish(file: &[u8], out: &mut [u8], list: &mut [u8])
 
 // The rescue of any bytes: the output at the start of its room and the changes at the start of the
 // list, or a refusal with nothing written.
-pub fn rescue(file: &[u8], out: &mut [u8], list: &mut [u8]) -> Answer
-    ensures value { result ≡ rescue_answer file.now (length out.old) (length list.old) }
+pub fn rescue(file: &[u8], out: &mut [u8], list: &mut [u8]) -> Result<Checked, Refusal>
+    ensures value { result ≡ checked_by (rescue_answer file.now (length out.old) (length list.old)) }
     ensures out_after { out.new ≡ rescue_writes file.now out.old (length list.old) }
     ensures list_after { list.new ≡ rescue_lists file.now (length out.old) list.old }
 {
     let v = survey(file);
     if v.number != 0 {
-        return Answer {
+        return Err(Refusal {
             number: v.number,
             place: v.place,
             steps: v.steps,
-        };
+        });
     }
     if (out.len() < v.output) | (list.len() < CHANGE_BYTES * v.changes) {
-        return Answer {
+        return Err(Refusal {
             number: 11,
             place: v.place,
             steps: v.steps,
-        };
+        });
     }
     writing::put_kept(file, out, list);
     finish(file, out, list);
-    Answer {
-        number: 0,
+    Ok(Checked {
         place: v.place,
         steps: v.steps,
-    }
+    })
 }

@@ -11,7 +11,7 @@ use lib.Seq.{slice, length-take-le, drop-append-le}
 use borrow.Author.Tests.{ltb-false, le-ltb, le-leb, eq-eqb, eqb-true, eqb-false}
 use Rattle.parts.specs.Header.{tag_at, past}
 use Rattle.fields.specs.declared.State.{State}
-use Rattle.stick.specs.declared.Answer.{Answer}
+use Rattle.stick.specs.Check.{Answer}
 use Rattle.stick.specs.declared.Reached.{Reached}
 use Rattle.stick.specs.Check.{answer, ends, start, check_of}
 use Rattle.stick.specs.Posts.{answered}

@@ -10,7 +10,11 @@ use lib.Seq.{length-take-le}
 use borrow.Author.Tests.{lt-ltb, le-ltb, eq-eqb, ne_eqb}
 use Rattle.octets.specs.BigEndian.{laid}
 use Rattle.site.specs.Site.{count}
-use Rattle.stick.specs.declared.Answer.{Answer}
+use Rattle.std.proofs.Common.{Ok, Err}
+use Rattle.whole.specs.declared.Refusal.{Refusal}
+use Rattle.stick.specs.declared.Checked.{Checked}
+use Rattle.stick.specs.Check.{Answer, checked_by}
+use Rattle.stick.proofs.CheckedLaws.{accepted_is, refused_is}
 use Rattle.stick.specs.Check.{answer, check_of}
 use Rattle.stick.specs.Site.{site_of, roofs_of, plant_of, steps_of}
 use Rattle.stick.proofs.SiteProved.{steps_count, steps_most}
@@ -81,44 +85,49 @@ module _ (file : List ℕ) where
         ap (λ (l : List ℕ). cond complete l room) (over (result_of file) room (needed file) (result_length_lem file))
         ∙ ap (λ (b : Bool). cond b (result_of file ++ drop (needed file) room) room) (sym t ∙ ap (λ (y : Answer). eqb y.number 0) e)
 
--- ---- as the code has them: the check's answer, and the bytes needed where it accepts
-module _ (file : List ℕ) (a : Answer) (e : a ≡ check_of file) where
-  same_test : (b : Bool) → eqb a.number 0 ≡ b → eqb (check_of file).number 0 ≡ b
-  same_test b t = ap (λ (x : Answer). eqb x.number 0) (sym e) ∙ t
+-- ---- as the code has them: what the check gives, and the bytes needed where it accepts
 
-  -- refused
-  module _ (no : a.number ≡ 0 → ⊥) where
-    pub no_room : 0 ≡ room_of file
-    no_room = room_by file false (same_test false (ne_eqb a.number 0 no))
+-- refused
+module _ (file : List ℕ) (r : Refusal) (e : Err r ≡ checked_by (check_of file)) where
+  off : eqb (check_of file).number 0 ≡ false
+  off = ne_eqb (check_of file).number 0 (refused_is (check_of file) r e).1
 
-    pub refused : (room : List ℕ) → (a ≡ run_answer file (length room)) × (room ≡ run_leaves file room)
-    refused room =
-        let t = ne_eqb a.number 0 no in
-        let is : a ≡ run_answer file (length room) = e ∙ answer_by_lem file room false (ltb (length room) (needed file)) (same_test false t) refl in
-        (is, leaves_by_lem file room a is false t)
+  pub no_room : 0 ≡ room_of file
+  no_room = room_by file false off
 
-  -- accepted
-  module _ (z : a.number ≡ 0) where
-    pub counted : Counted file a.steps
-    counted = record { accepted = record { complete = sym (ap (λ (x : Answer). x.number) e) ∙ z }; counted = sym (ap (λ (x : Answer). x.steps) e) }
+  pub refused : (room : List ℕ) → (Err r ≡ checked_by (run_answer file (length room))) × (room ≡ run_leaves file room)
+  refused room =
+      let is : check_of file ≡ run_answer file (length room) = answer_by_lem file room false (ltb (length room) (needed file)) off refl in
+      (e ∙ ap checked_by is, leaves_by_lem file room (check_of file) is false off)
 
-    pub room_is : (n : ℕ) → n ≡ needed file → n ≡ room_of file
-    room_is n d = d ∙ room_by file true (same_test true (eq-eqb a.number 0 z))
+-- accepted
+module _ (file : List ℕ) (a : Checked) (e : Ok a ≡ checked_by (check_of file)) where
+  is_answer : answer 0 a.place a.steps ≡ check_of file
+  is_answer = accepted_is (check_of file) a e
 
-    module _ (room : List ℕ) (n : ℕ) (d : n ≡ needed file) where
-      pub too_short : length room < n → (answer 11 (length file) a.steps ≡ run_answer file (length room)) × (room ≡ run_leaves file room)
-      too_short l =
-          let u : ltb (length room) (needed file) ≡ true = lt-ltb (length room) (needed file) (le_trans l (le_of_eq d)) in
-          let is : answer 11 (length file) a.steps ≡ run_answer file (length room) =
-          ap (λ (x : Answer). answer 11 (length file) x.steps) e ∙ answer_by_lem file room true true (same_test true (eq-eqb a.number 0 z)) u in
-          (is, leaves_by_lem file room (answer 11 (length file) a.steps) is false refl)
+  on : eqb (check_of file).number 0 ≡ true
+  on = ap (λ (x : Answer). eqb x.number 0) (sym is_answer)
 
-      module _ (l : n ≤ length room) where
-        pub enough : needed file ≤ length room
-        enough = le_trans (le_of_eq (sym d)) l
+  pub counted : Counted file a.steps
+  counted = record { accepted = record { complete = sym (ap (λ (x : Answer). x.number) is_answer) }; counted = sym (ap (λ (x : Answer). x.steps) is_answer) }
 
-        pub done : (after : List ℕ) → after ≡ laid room 0 (result_of file) → (a ≡ run_answer file (length room)) × (after ≡ run_leaves file room)
-        done after r =
-            let t = eq-eqb a.number 0 z in
-            let is : a ≡ run_answer file (length room) = e ∙ answer_by_lem file room true false (same_test true t) (le-ltb (length room) (needed file) enough) in
-            (is, r ∙ leaves_by_lem file room a is true t)
+  pub room_is : (n : ℕ) → n ≡ needed file → n ≡ room_of file
+  room_is n d = d ∙ room_by file true on
+
+  module _ (room : List ℕ) (n : ℕ) (d : n ≡ needed file) where
+    pub too_short : length room < n
+        → (Err (record { number = 11; place = length file; steps = a.steps }) ≡ checked_by (run_answer file (length room))) × (room ≡ run_leaves file room)
+    too_short l =
+        let u : ltb (length room) (needed file) ≡ true = lt-ltb (length room) (needed file) (le_trans l (le_of_eq d)) in
+        let is : answer 11 (length file) a.steps ≡ run_answer file (length room) =
+        ap (λ (x : Answer). answer 11 (length file) x.steps) is_answer ∙ answer_by_lem file room true true on u in
+        (ap checked_by is, leaves_by_lem file room (answer 11 (length file) a.steps) is false refl)
+
+    module _ (l : n ≤ length room) where
+      pub enough : needed file ≤ length room
+      enough = le_trans (le_of_eq (sym d)) l
+
+      pub done : (after : List ℕ) → after ≡ laid room 0 (result_of file) → (Ok a ≡ checked_by (run_answer file (length room))) × (after ≡ run_leaves file room)
+      done after r =
+          let is : check_of file ≡ run_answer file (length room) = answer_by_lem file room true false on (le-ltb (length room) (needed file) enough) in
+          (e ∙ ap checked_by is, r ∙ leaves_by_lem file room (check_of file) is true on)

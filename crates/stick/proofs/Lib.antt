@@ -1,5 +1,6 @@
 -- Laws about the run file's check, what an accepted file says and where, and rows of its units.
 pub mod WalkLaws
+pub mod CheckedLaws
 pub mod PassedLaws
 pub mod MissingLaws
 pub mod ReachLaws

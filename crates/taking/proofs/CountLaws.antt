@@ -17,7 +17,7 @@ use Rattle.site.specs.Site.{count}
 use Rattle.fields.specs.declared.State.{State}
 use Rattle.fields.specs.Fields.{begins, closes, is_reading}
 use Rattle.fields.proofs.FieldLaws.{fewer}
-use Rattle.stick.specs.declared.Answer.{Answer}
+use Rattle.stick.specs.Check.{Answer}
 use Rattle.stick.specs.Check.{start}
 use Rattle.stick.specs.Site.{places_of, having, roof_at, site_of, roofs_of, plant_of}
 use Rattle.stick.specs.Check.{Accepted}

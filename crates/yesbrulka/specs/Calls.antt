@@ -18,7 +18,7 @@ use Rattle.storage.specs.declared.Outcome.{Outcome}
 use Rattle.storage.specs.Step.{stepped_as}
 use Rattle.site.specs.declared.Head.{Head}
 use Rattle.partner.specs.declared.Verdict.{Verdict}
-use Rattle.partner.specs.Verdict.{partner_answer, partner_call}
+use Rattle.partner.specs.Verdict.{partner_answer}
 use Rattle.tally.specs.declared.Figures.{Figures}
 use Rattle.peaks.specs.Answers.{peaks_answer}
 use Rattle.ask.specs.declared.Connection.{Connection}
@@ -155,7 +155,7 @@ connection_told file i = (connection_answer file i)
 
 -- yb_partner
 abbrev pub partner_told : List ℕ → List ℕ → Call Verdict
-partner_told run result = partner_call (partner_answer run result)
+partner_told run result = partner_answer run result
 
 -- yb_peaks
 abbrev pub peaks_told : List ℕ → ℤ → ℕ → Call Figures

@@ -5,8 +5,6 @@ ghost use Rattle.rescue.specs.Answers.{rescue_of, output_room, changes_told, res
 ghost use Rattle.partner.specs.declared.Verdict.{Verdict};
 ghost use Rattle.yesbrulka.specs.Calls.{partner_told};
 
-use partner::PartnerAnswer;
-
 // The bytes of a rescue's output, 0 for a file that it refuses.
 #[unsafe(no_mangle)]
 pub extern "C" fn yb_rescue_room(file: &[u8]) -> u64
@@ -39,7 +37,10 @@ pub extern "C" fn yb_rescue(file: &[u8], out: &mut [u8], list: &mut [u8]) -> u32
     ensures out_after { out.new ≡ rescue_writes file.now out.old (length list.old) }
     ensures list_after { list.new ≡ rescue_lists file.now (length out.old) list.old }
 {
-    rescue::rescue(file, out, list).number as u32
+    match rescue::rescue(file, out, list) {
+        Ok(_) => 0,
+        Err(r) => r.number as u32,
+    }
 }
 
 // A partner's result beside the run file: 0 and the verdict, with the place of what is shown and its
@@ -58,12 +59,12 @@ pub extern "C" fn yb_partner(
     ensures len_after { len.new ≡ held_after (partner_told run.now res.now) (λ (v : Verdict). v.len) len.old }
 {
     match partner::judge(run, res) {
-        PartnerAnswer::Judged(v) => {
+        Ok(v) => {
             *verdict = v.number;
             *start = v.start;
             *len = v.len;
             0
         }
-        PartnerAnswer::Unjudged(a) => a.number as u32,
+        Err(r) => r.number as u32,
     }
 }

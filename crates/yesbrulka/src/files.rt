@@ -15,10 +15,18 @@ pub extern "C" fn yb_checked(file: &[u8], place: &mut u64, steps: &mut u32) -> u
     ensures place_after { place.new ≡ (check_of file.now).place }
     ensures steps_after { steps.new ≡ (check_of file.now).steps }
 {
-    let a = stick::check(file);
-    *place = a.place;
-    *steps = a.steps;
-    a.number as u32
+    match stick::check(file) {
+        Ok(a) => {
+            *place = a.place;
+            *steps = a.steps;
+            0
+        }
+        Err(r) => {
+            *place = r.place;
+            *steps = r.steps;
+            r.number as u32
+        }
+    }
 }
 
 // The check of a file's bytes: the number of its refusal, 0 for a complete file.
@@ -26,7 +34,10 @@ pub extern "C" fn yb_checked(file: &[u8], place: &mut u64, steps: &mut u32) -> u
 pub extern "C" fn yb_check(file: &[u8]) -> u32
     ensures { result ≡ (check_of file.now).number }
 {
-    stick::check(file).number as u32
+    match stick::check(file) {
+        Ok(_) => 0,
+        Err(r) => r.number as u32,
+    }
 }
 
 // The check: the place of the refused field, or where reading stopped.
@@ -34,7 +45,10 @@ pub extern "C" fn yb_check(file: &[u8]) -> u32
 pub extern "C" fn yb_check_place(file: &[u8]) -> u64
     ensures { result ≡ (check_of file.now).place }
 {
-    stick::check(file).place
+    match stick::check(file) {
+        Ok(a) => a.place,
+        Err(r) => r.place,
+    }
 }
 
 // The check: the steps accepted.
@@ -42,7 +56,10 @@ pub extern "C" fn yb_check_place(file: &[u8]) -> u64
 pub extern "C" fn yb_check_steps(file: &[u8]) -> u32
     ensures { result ≡ (check_of file.now).steps }
 {
-    stick::check(file).steps
+    match stick::check(file) {
+        Ok(a) => a.steps,
+        Err(r) => r.steps,
+    }
 }
 
 // The support screen: where the value bytes of the field at a place begin.
@@ -76,7 +93,10 @@ pub extern "C" fn yb_run(file: &[u8], room: &mut [u8]) -> u32
     ensures value { result ≡ (run_answer file.now (length room.old)).number }
     ensures room_after { room.new ≡ run_leaves file.now room.old }
 {
-    season::run(file, room).number as u32
+    match season::run(file, room) {
+        Ok(_) => 0,
+        Err(r) => r.number as u32,
+    }
 }
 
 // The figures of a file's season with a target in place of its own: 0, and the list holds them; or the

@@ -1,27 +1,14 @@
 -- Of a file that the check accepts its inverters are counted, at most 64; of any other the number is 0.
 use native.Mathlib.Omega.{arith}
-use Rattle.stick.specs.Check.{Accepted}
-use Rattle.stick.proofs.SiteProved.{roofed}
 use Rattle.ask.proofs.SaysLaws.{accepts, no_inverters, inverters_said_lem}
+use Rattle.stick.proofs.SiteProved.{roofed}
 use Rattle.ask.proofs.says.inverters.Goals as goal
-use Rattle.ask.proofs.says.inverters.Goals.{After-check, Else-check-ne0}
-
--- past the test the file is accepted
-accepted : (e : Else-check-ne0) → Accepted e.args.file.now
-accepted e =
-    accepts e.args.file.now e.check.result e.check.ensures e.if-check-ne0.false
-
-pub returns-then-check-ne0 : goal.returns-then-check-ne0
-returns-then-check-ne0 c =
-    no_inverters c.args.file.now c.check.result c.check.ensures c.if-check-ne0.true
-
-pub roofs-requires : goal.roofs-requires
-roofs-requires c = accepted c
 
 pub overflow_cast-result : goal.overflow_cast-result
-overflow_cast-result c =
-    omega (arith, (roofed c.args.file.now (accepted (goal.at.overflow_cast-result c).Else-check-ne0)).few, c.roofs.ensures)
+overflow_cast-result c = let file = c.args.file.now in omega (arith, (roofed file (accepts file c.in-Ok.field-0 c.in-Ok.ensures)).few, c.roofs.ensures)
 
-pub returns : goal.returns
-returns c =
-    inverters_said_lem c.args.file.now (accepted (goal.at.returns c).Else-check-ne0) c.roofs.result c.roofs.ensures
+pub returns-in-Ok : goal.returns-in-Ok
+returns-in-Ok c = let file = c.args.file.now in inverters_said_lem file (accepts file c.in-Ok.field-0 c.in-Ok.ensures) c.roofs.result c.roofs.ensures
+
+pub returns-in-Err : goal.returns-in-Err
+returns-in-Err c = no_inverters c.args.file.now c.in-Err.field-0 c.in-Err.ensures

@@ -1,21 +1,9 @@
 -- Of a file that the check accepts the seconds stand in its head; of any other the number is 0.
-use Rattle.stick.specs.Check.{Accepted}
 use Rattle.ask.proofs.SaysLaws.{accepts, no_seconds, seconds_said_lem}
 use Rattle.ask.proofs.says.seconds.Goals as goal
-use Rattle.ask.proofs.says.seconds.Goals.{After-check, Else-check-ne0}
 
--- past the test the file is accepted
-accepted : (e : Else-check-ne0) → Accepted e.args.file.now
-accepted e =
-    accepts e.args.file.now e.check.result e.check.ensures e.if-check-ne0.false
+pub returns-in-Ok : goal.returns-in-Ok
+returns-in-Ok c = let file = c.args.file.now in seconds_said_lem file (accepts file c.in-Ok.field-0 c.in-Ok.ensures) c.head.result c.head.ensures
 
-pub returns-then-check-ne0 : goal.returns-then-check-ne0
-returns-then-check-ne0 c =
-    no_seconds c.args.file.now c.check.result c.check.ensures c.if-check-ne0.true
-
-pub head-requires : goal.head-requires
-head-requires c = accepted c
-
-pub returns : goal.returns
-returns c =
-    seconds_said_lem c.args.file.now (accepted (goal.at.returns c).Else-check-ne0) c.head.result c.head.ensures
+pub returns-in-Err : goal.returns-in-Err
+returns-in-Err c = no_seconds c.args.file.now c.in-Err.field-0 c.in-Err.ensures

@@ -4,7 +4,7 @@ use mathlib.Core.Path.{sym, ap, ap₂, ◌∙◌}
 use mathlib.Core.Logic.{⊎_elim}
 use Prim.Native.Nat.{ℕ}
 use Rattle.stick.specs.declared.Known.TheVariants.{Complete, Refused}
-use Rattle.stick.specs.Check.{answer}
+use Rattle.stick.specs.Check.{answer, refusal_by}
 use Rattle.fed.proofs.KnownLaws.{says_complete, says_none, says_short, says_refused}
 use Rattle.fed.proofs.knowing.ended.Goals as goal
 use Rattle.fed.proofs.knowing.ended.Goals.{After-place, Else-number-eq0, Else-number-eq10, Else-number-eq11, Then-number-eq0}
@@ -24,5 +24,5 @@ returns-then-number-eq10 c =
 pub returns : goal.returns
 returns c =
     let a = c.args in
-    ap₂ (λ (place steps : ℕ). Refused (answer a.number place steps)) c.place.ensures c.steps-2.ensures
+    ap₂ (λ (place steps : ℕ). Refused (refusal_by (answer a.number place steps))) c.place.ensures c.steps-2.ensures
     ∙ sym (says_refused a.number a.state.now c.if-number-eq0.false c.if-number-eq10.false c.if-number-eq11.false-raw)

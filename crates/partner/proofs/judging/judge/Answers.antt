@@ -1,17 +1,15 @@
 -- The check's refusal comes first; where there is none, the run file is accepted, and the verdict is the one on it.
+use Rattle.std.proofs.lemmas.Result.{err_from_is_err_and}
 use Rattle.partner.proofs.AnswerLaws.{unjudged, taken, judged}
 use Rattle.partner.proofs.judging.judge.Goals as goal
-use Rattle.partner.proofs.judging.judge.Goals.{After-check-a}
 
-pub returns-then-a-ne0 : goal.returns-then-a-ne0
-returns-then-a-ne0 c =
-    let a = c.args in
-    unjudged a.run.now c.check-a.ensures c.if-a-ne0.true a.res.now
+pub returns-in_err-check : goal.returns-in_err-check
+returns-in_err-check c =
+    let p = err_from_is_err_and c.from_residual.result c.from_residual.ensures.1 in
+    rw (p.1, p.2) (unjudged c.args.run.now c.in_err-check.field-0.0 c.in_err-check.ensures c.args.res.now)
 
 pub judged-requires : goal.judged-requires
-judged-requires c = taken c.args.run.now c.check-a.ensures c.if-a-ne0.false
+judged-requires c = taken c.args.run.now c.in_ok-check.field-0 c.in_ok-check.ensures
 
 pub returns : goal.returns
-returns c =
-    let a = c.args in
-    judged a.run.now c.check-a.ensures c.if-a-ne0.false a.res.now c.judged.ensures
+returns c = judged c.args.run.now c.in_ok-check.field-0 c.in_ok-check.ensures c.args.res.now c.judged.ensures

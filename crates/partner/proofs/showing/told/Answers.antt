@@ -3,5 +3,5 @@ use mathlib.Core.Path.{sym, ap}
 use Rattle.partner.specs.Shown.{told_by}
 use Rattle.partner.proofs.showing.told.Goals as goal
 
-pub returns-in-Unjudged : goal.returns-in-Unjudged
-returns-in-Unjudged c = sym (ap told_by c.in-Unjudged.is)
+pub returns-in-Err : goal.returns-in-Err
+returns-in-Err c = sym (ap told_by c.in-Err.is)
