@@ -4,8 +4,10 @@ use std::io;
 
 // C: a file. Number, place and steps of its check.
 pub fn check(out: &impl Print, v: &[u8]) -> io::Result<()> {
-    let a = stick::check(v);
-    print!(out; "{} {} {}", a.number, a.place, a.steps)
+    match stick::check(v) {
+        Ok(a) => print!(out; "0 {} {}", a.place, a.steps),
+        Err(r) => print!(out; "{} {} {}", r.number, r.place, r.steps),
+    }
 }
 
 // Where the value part of the field at a place begins, and how many bytes it has.
@@ -39,11 +41,11 @@ pub fn run(out: &impl Print, v: &[u8]) -> io::Result<()> {
 
 // The run in a room.
 fn run_in(out: &impl Print, file: &[u8], room: &mut [u8]) -> io::Result<()> {
-    let a = season::run(file, room);
-    print!(out; "{} {} {}", a.number, a.place, a.steps)?;
-    if a.number == 0 {
-        let n = room.len().min(season::room(file) as usize);
-        print!(out; " {}", Hex(&room[..n]))?;
+    match season::run(file, room) {
+        Ok(a) => {
+            let n = room.len().min(season::room(file) as usize);
+            print!(out; "0 {} {} {}", a.place, a.steps, Hex(&room[..n]))
+        }
+        Err(r) => print!(out; "{} {} {}", r.number, r.place, r.steps),
     }
-    Ok(())
 }

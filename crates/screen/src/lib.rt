@@ -13,14 +13,15 @@ pub use call::{is_given, word};
 pub use dump::{hex, value};
 pub use input::{Filled, Stop, fill, read_whole};
 use std::io;
-use stick::{Answer, Known};
+use stick::Known;
+use whole::Refusal;
 
 // A whole refusal, behind a file's name: its number, its words, its place and its steps.
-pub fn refusal(out: &impl Print, a: Answer) -> io::Result<()> {
-    let number = a.number;
+pub fn refusal(out: &impl Print, r: Refusal) -> io::Result<()> {
+    let number = r.number;
     let name = words::name(number);
-    let place = a.place;
-    let steps = a.steps;
+    let place = r.place;
+    let steps = r.steps;
     println!(out; ": refused {number} ({name}) at byte {place} after {steps} steps")
 }
 
@@ -28,9 +29,9 @@ pub fn refusal(out: &impl Print, a: Answer) -> io::Result<()> {
 pub fn line(out: &impl Print, k: Known) -> io::Result<()> {
     match k {
         Known::Complete(steps) => println!(out; "standard input: complete, {steps} steps"),
-        Known::Refused(a) => {
+        Known::Refused(r) => {
             print!(out; "standard input")?;
-            refusal(out, a)
+            refusal(out, r)
         }
         Known::NotKnown => println!(out; "standard input: not read to its end"),
     }

@@ -1,7 +1,7 @@
 use std::alloc::Global;
 use std::io::Error;
 use std::{fmt, io};
-use stick::Answer;
+use whole::Refusal;
 
 // A name as it was given, whose bytes need not be text: one that is not printable shows as '?'.
 #[derive(Clone, Copy)]
@@ -58,9 +58,9 @@ pub fn no_verdict(err: &impl Print, res: Name) -> io::Result<()> {
 }
 
 // The check's refusal of the run file.
-pub fn refused(out: &impl Print, run: Name, a: Answer) -> io::Result<()> {
+pub fn refused(out: &impl Print, run: Name, r: Refusal) -> io::Result<()> {
     print!(out; "{run}")?;
-    screen::refusal(out, a)
+    screen::refusal(out, r)
 }
 
 // The result is the run's, byte for byte.

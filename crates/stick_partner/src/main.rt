@@ -7,7 +7,7 @@ mod files;
 mod lines;
 
 use lines::Name;
-use partner::{PartnerAnswer, Verdict};
+use partner::Verdict;
 use std::io;
 use std::rt::Files;
 
@@ -37,11 +37,9 @@ fn judged(
     res: &[u8],
 ) -> io::Result<()> {
     match partner::judge(run, res) {
-        PartnerAnswer::Judged(v) => {
-            told(out, run_name, result_name, v, partner::shown(run, res))
-        }
-        PartnerAnswer::Unjudged(a) => {
-            lines::refused(out, run_name, a)?;
+        Ok(v) => told(out, run_name, result_name, v, partner::shown(run, res)),
+        Err(r) => {
+            lines::refused(out, run_name, r)?;
             lines::no_verdict(err, result_name)
         }
     }
