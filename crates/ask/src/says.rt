@@ -40,8 +40,10 @@ pub fn seconds(file: &[u8]) -> u32
 pub fn head(file: &[u8]) -> Result<Head, Refusal>
     ensures { result ≡ head_answer file.now }
 {
-    stick::check(file)?;
-    Ok(stick::head(file))
+    match stick::check(file) {
+        Ok(_) => Ok(stick::head(file)),
+        Err(r) => Err(r),
+    }
 }
 
 // Unit i of a file.

@@ -95,7 +95,7 @@ pub extern "C" fn yb_run(file: &[u8], room: &mut [u8]) -> u32
 {
     match season::run(file, room) {
         Ok(_) => 0,
-        Err(r) => r.number as u32,
+        Err(refused) => refused.number as u32,
     }
 }
 
@@ -107,7 +107,7 @@ pub extern "C" fn yb_peaks(file: &[u8], target: i32, figures: &mut [i64]) -> u32
     ensures figures_after { figures.new ≡ peaks_leaves file.now target figures.old }
 {
     match peaks::peaks(file, target, figures) {
-        Ok(_) => 0,
+        Ok(_told) => 0,
         Err(r) => r.number as u32,
     }
 }

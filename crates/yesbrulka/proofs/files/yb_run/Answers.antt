@@ -14,5 +14,5 @@ returns-in-Ok c =
 
 pub returns-in-Err : goal.returns-in-Err
 returns-in-Err c =
-    let e = (refused_is (run_answer c.args.file.now (length c.args.room.now)) c.in-Err.r c.in-Err.ensures.value).0 in
+    let e = (refused_is (run_answer c.args.file.now (length c.args.room.now)) c.in-Err.refused c.in-Err.ensures.value).0 in
     record { value = ap (λ (r : Refusal). r.number) e; room_after = c.run.ensures.room_after }
