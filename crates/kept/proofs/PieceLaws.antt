@@ -1,10 +1,11 @@
--- Bytes laid in a part of a list, and a test of each byte of a part. Assumes nothing.
+-- Bytes laid one by one from a place on, or in a part of a list, and a test of each byte of a part. Assumes nothing.
+use Rattle.octets.proofs.LaidLaws.{laid_length, laid_set, laid_laid}
 use mathlib.Core.Path.{◌≡◌, refl, sym, ap, ap₂, ◌∙◌}
 use mathlib.Core.Bool.{Bool, ◌&&◌}
-use mathlib.Core.List.{List, ◌++◌, append-nil, append_assoc}
-use Prim.Native.Nat.{ℕ, zero, suc, ◌+◌, ◌-◌, ◌≤◌}
+use mathlib.Core.List.{List, ◌++◌, append-nil, append_assoc, [], ◌∷◌}
+use Prim.Native.Nat.{ℕ, zero, suc, ◌+◌, ◌-◌, ◌≤◌, ◌<◌}
 use borrow.Rule.Slice.PartMut.{put_mid}
-use Rattle.std.proofs.lemmas.List.{drop-drop, drop-take}
+use Rattle.std.proofs.lemmas.List.{drop-drop}
 use Rattle.std.specs.List.{list_all}
 use Rattle.std.proofs.lemmas.List.Folds.{list_all_more}
 use Rattle.std.proofs.Common.{length-drop}
@@ -12,21 +13,51 @@ use Rattle.whole.specs.Over.{all_of}
 use native.Mathlib.Nat.{zero-add, add-zero, add-sub_of_le}
 use native.Mathlib.Numerals.{add-one}
 use native.Mathlib.Omega.{arith}
-use lib.ListN.{length, get_or, take, drop, replicate, length-replicate}
-use lib.Seq.{slice, get_or-drop, drop-length}
+use lib.ListN.{length, get_or, take, drop, replicate, length-replicate, set}
+use lib.Seq.{slice, get_or-drop, drop-length, take-suc, take-length, length-take-le, get_or-take}
 use Rattle.octets.specs.BigEndian.{be, laid}
-use Rattle.records.proofs.LayLaws.{behind, both}
+use Rattle.records.proofs.LayLaws.{behind, both, nothing}
 use Rattle.kept.specs.Layout.{filled}
+
+-- the first i of some bytes lie at a place
+pub record Laying (s now : List ℕ) (at : ℕ) (bs : List ℕ) (i : ℕ) : Type 0 where
+  pub upto : i ≤ length bs
+  pub is : now ≡ laid s at (take i bs)
+
+module _ (s : List ℕ) (at : ℕ) (bs : List ℕ) where
+  pub laying_none : Laying s s at bs 0
+  laying_none = record { upto = omega arith; is = nothing s at }
+
+  module _ (h : at + length bs ≤ length s) (now : List ℕ) (i : ℕ) (w : Laying s now at bs i) where
+    pub laying_length : length now ≡ length s
+    laying_length =
+        let l : length (take i bs) ≡ i = length-take-le i bs w.upto in
+        let u : i ≤ length bs = w.upto in
+        ap length w.is ∙ laid_length s at (take i bs) (omega arith)
+
+    pub laying_more : i < length bs → (v : ℕ) → v ≡ get_or bs i 0 → Laying s (set now (at + i) v) at bs (i + 1)
+    laying_more l v e =
+        let m : length now ≡ length s = laying_length in
+        let k : length (take i bs) ≡ i = length-take-le i bs w.upto in
+        let one : set now (at + i) v ≡ laid now (at + i) (v ∷ []) = laid_set now (at + i) v (omega arith) in
+        let more : take (i + 1) bs ≡ take i bs ++ (get_or bs i 0 ∷ []) = ap (λ (j : ℕ). take j bs) (add-one i) ∙ take-suc bs i 0 l in
+        record {
+          upto = omega arith;
+          is = cc (one, w.is, k, e, more, laid_laid s at (omega arith) (take i bs) (v ∷ []));
+        }
+
+    pub laying_all : i ≡ length bs → now ≡ laid s at bs
+    laying_all e = w.is ∙ ap (λ (t : List ℕ). laid s at t) (ap (λ (j : ℕ). take j bs) e ∙ take-length bs)
+
+-- a byte of a part
+pub slice_at : (from to : ℕ) (l : List ℕ) (i : ℕ) → from + i < to → get_or (slice from to l) i 0 ≡ get_or l (from + i) 0
+slice_at from to l i h = get_or-drop from (take to l) i 0 ∙ get_or-take to l (from + i) 0 h
 
 -- as many bytes as a part of a list has, put in its place
 pub laid_part : (s : List ℕ) (at n : ℕ) (bs ys : List ℕ) → ys ≡ bs → length bs ≡ n → put_mid at n s ys ≡ laid s at bs
 unfolding laid
 laid_part s at n bs ys e l =
     ap₂ (λ (t u : List ℕ). take at s ++ (t ++ u)) e (drop-drop n at s ∙ ap (λ (k : ℕ). drop (at + k) s) (sym l)) ∙ sym (append_assoc (take at s) bs (drop (at + length bs) s))
-
--- the bytes from one place up to another, as the code reads them
-pub part_read : (from to : ℕ) (l : List ℕ) → from ≤ to → take (to - from) (drop from l) ≡ slice from to l
-part_read from to l h = sym (drop-take from (to - from) l) ∙ ap (λ (n : ℕ). drop from (take n l)) (add-sub_of_le h)
 
 -- a test of each byte of a part is that of its places one by one
 pub part_passes : (ok : ℕ → Bool) (s : List ℕ) (from n : ℕ) → from + n ≤ length s → list_all ok (take n (drop from s)) ≡ all_of n (λ (k : ℕ). ok (get_or s (from + k) 0))

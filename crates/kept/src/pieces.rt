@@ -3,15 +3,17 @@ ghost use Rattle.std.proofs.Math.Seq.{slice};
 ghost use Rattle.octets.specs.BigEndian.{laid};
 ghost use Rattle.kept.specs.Formed.{clear};
 
-// Lays the bytes from one place up to another at a place.
+// Lays the bytes from one place up to another at a place. One by one: that becomes a memcpy, and
+// `copy_from_slice` a memmove, which the archive has not.
 pub fn copy(s: &mut [u8], at: usize, bytes: &[u8], from: usize, to: usize)
     requires from_le_to { from ≤ to }
     requires to_in_bounds { to ≤ length bytes.now }
     requires from_in_bounds { at + (to - from) ≤ length s.old }
     ensures { s.new ≡ laid s.old at (slice from to bytes.now) }
 {
-    let end = at + (to - from);
-    s[at..end].copy_from_slice(&bytes[from..to]);
+    for i in 0..to - from {
+        s[at + i] = bytes[from + i];
+    }
 }
 
 // Lays 0 over all bytes from one place up to another.

@@ -44,7 +44,7 @@ fn place_fits(place: u64, stage: u8, steps: u32, site: usize, tail: usize) -> bo
     ensures { result ≡ place_fits place stage steps site tail }
 {
     let close = if begun_at(stage) { 7 } else { 0 };
-    let head = if close <= site { site - close } else { 0 };
+    let head = site.saturating_sub(close);
     let weather = if stage == AT_READING { 19 } else { 0 };
     let voltage = if stage == AT_VOLTAGE { 5 } else { 0 };
     let end = if stage == AT_END { 7 } else { 0 };
