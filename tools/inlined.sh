@@ -20,7 +20,7 @@ must='
     energy::energy::removed energy::energy::added
     storage::giving::kind_out storage::giving::kind_in storage::giving::kind_of storage::giving::given
     storage::giving::taken storage::giving::done storage::steps::rest
-    rows::rows::unit_of rows::rows::unit_holding
+    rows::rows::unit_holding
     records::records::put_asked records::records::put_record
     members::sums::signs members::sized::share_sized members::sized::next_sized members::shares::share_alike
     members::shares::next_request rules::rules::share_size rules::rules::request_after

@@ -7,12 +7,10 @@ use native.Mathlib.Nat.{le_trans}
 use lib.Dec.{leb}
 use lib.IntN.{ℤ, pos, nat_abs}
 use lib.Signed.{mag}
-use mir.Syntax.{w32}
 use borrow.Author.Tests.{le-leb, leb-true}
 use Rattle.whole.proofs.Choice.{passed_failed}
 use Rattle.whole.proofs.LargestLaws.{leg_le}
 use Rattle.whole.proofs.OverLaws.{and_parts}
-use Rattle.whole.proofs.SignLaws.{read}
 use Rattle.whole.specs.Interval.{between}
 use Rattle.whole.specs.Largest.{leg_of}
 use Rattle.curve.specs.Ranges.{points_in}
@@ -34,13 +32,6 @@ use Rattle.guided.proofs.SharedLaws.{back, small_same, none_leads, first_most, w
 abbrev pub with_vars : Given → ℤ → Given
 with_vars g vars = given g.on g.watts (cond g.on vars (pos 0)) g.dc
 
-module _ (g : Given) (vars : ℤ) (hw : mag g.watts < 2 ^ 31) where
-  pub others_on : mag vars < 2 ^ 31 → g.on ≡ true → given g.on (back g.watts) (back vars) g.dc ≡ with_vars g vars
-  others_on hv e = ap₂ (λ (p q : ℤ). given g.on p q g.dc) (read w32 g.watts hw) (read w32 vars hv ∙ sym (ap (λ (t : Bool). cond t vars (pos 0)) e))
-
-  pub others_off : g.on ≡ false → given g.on (back g.watts) (pos 0) g.dc ≡ with_vars g vars
-  others_off e = ap₂ (λ (p q : ℤ). given g.on p q g.dc) (read w32 g.watts hw) (sym (ap (λ (t : Bool). cond t vars (pos 0)) e))
-
 -- a roof with another inverter
 abbrev pub roof_with : Roof → Inverter → Roof
 roof_with r w = record { inverter = w; warm = r.warm; efficiency = r.efficiency }
@@ -56,10 +47,6 @@ inverter_with v priority vars = record {
   var_request = vars;
   priority = priority;
 }
-
-pub led_made : (l : Lead) (v : Inverter) (vars : ℤ) → mag vars < 2 ^ 31 → (first : ℕ) → first ≡ first_by l v.priority
-    → inverter_with v first (back vars) ≡ led_inverter l v vars
-led_made l v vars h first e = ap₂ (inverter_with v) e (read w32 vars h)
 
 -- ---- the led roof
 module _ (l : Lead) (r : Roof) where

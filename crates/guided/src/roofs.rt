@@ -12,11 +12,11 @@ use solar::{Given, Inverter, Sun};
 fn led_inverter(l: Lead, v: Inverter, vars: i32) -> Inverter
     ensures { result ≡ led_inverter l v vars }
 {
-    let first = lead::first(l, v.priority);
-    let mut led = v;
-    led.priority = first;
-    led.var_request = vars;
-    led
+    Inverter {
+        priority: lead::first(l, v.priority),
+        var_request: vars,
+        ..v
+    }
 }
 
 // What a step gives with other vars, if it is on.
@@ -24,10 +24,8 @@ fn with_vars(g: Given, vars: i32) -> Given
     ensures { result ≡ given g.on g.watts (cond g.on vars (pos 0)) g.dc }
 {
     Given {
-        on: g.on,
-        watts: g.watts,
         vars: if g.on { vars } else { 0 },
-        dc: g.dc,
+        ..g
     }
 }
 

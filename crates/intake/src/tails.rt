@@ -17,14 +17,10 @@ pub fn keep_tail(s: &mut [u8], bytes: &[u8], from: usize)
 {
     let m = kept::marked(s);
     let n = bytes.len() - from;
-    let state = m.state;
-    let due = m.due;
     let k = Mark {
         place: m.place + (n as u64),
-        state,
-        site: m.site,
         tail: n,
-        due,
+        ..m
     };
     kept::put_top(s, k, bytes, from, bytes.len());
 }

@@ -32,18 +32,14 @@ fn steps_judged(
 {
     let units = requests.len();
     let size = RECORD_BYTES * units + ROOF_RECORD_BYTES * on.len();
-    let f = t.frame;
     let mut w = t.way;
     let mut at = t.at;
     while octets::u8_at(run, at) != 127 {
         let here = Track {
-            frame: f,
-            first: t.first,
-            led: t.led,
-            function: t.function,
             at,
             out: 0,
             way: w,
+            ..t
         };
         let next = stretch::on_field(run, rows, run, here, stored, requests, vars, on, room);
         let out = size * (w.step as usize);

@@ -35,7 +35,7 @@ nearer at r n h = omega arith
 
 -- where the function starts, seen from the loop's head; its plant, and the bytes of a step's records, as the code counts them
 abbrev start : At-loop-t → Start
-start l = l.before.before.before.before.before.before.before.before.before
+start l = l.before.before.before.before.before.before.before.before
 
 abbrev plant : Start → Plant
 plant s = plant_by s.args.t s.args.rows.now s.args.run.now (length s.args.on.now)
@@ -93,7 +93,7 @@ on_way : (t : In-loop-t) → tag_at (start (head t)).args.run.now (head t).loop-
 on_way t e = t.loop-t-test.true (t.u8_at.ensures ∙ e)
 
 abbrev taking : After-on_field-next → In-loop-t
-taking o = (record { before = o.before.before.before.before.before.before.before; type_inv = record { res = o.shared_slice_known-2-1.given; run = o.shared_slice_known-1.given } })
+taking o = (record { before = o.before.before.before.before.before.before.before.before; type_inv = record { res = o.shared_slice_known-2-1.given; run = o.shared_slice_known-1.given } })
 
 pub overflow_mul-size : goal.overflow_mul-size
 overflow_mul-size c = omega (arith, few_units (goal.at.overflow_mul-size c).Start)
