@@ -3,12 +3,10 @@
 
 #![tactic(auto)]
 
-mod complement;
 mod doubles;
 mod reads;
 mod writes;
 
-pub use complement::{pattern_of, signed_of};
 pub use doubles::{bits_of, double_of, f64_at, put_f64};
 pub use reads::{i32_at, i64_at, u8_at, u16_at, u32_at, u64_at};
 pub use writes::{put_i32, put_u8, put_u16, put_u32, put_u64};
