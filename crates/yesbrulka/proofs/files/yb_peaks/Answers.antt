@@ -28,9 +28,6 @@ left p =
     let a = s.args in
     p.peaks.ensures.list_after ∙ ap (λ (z : ℤ). peaks_leaves a.file.now z a.figures.now) (read w32 a.target s.ranges.target.sfits)
 
-pub enum_told-1 : goal.enum_told-1
-enum_told-1 c = c.in-Ok.in-Ok-own.keys1
-
 pub enum_known-r : goal.enum_known-r
 enum_known-r c = c.in-Err.in-Err-own.keys2
 
