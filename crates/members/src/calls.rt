@@ -9,8 +9,8 @@ fn no_unit_calls(charging: bool, w: Wanted, units: &[Row], stored: &[u64]) -> bo
     requires { Linked w (fleet_by units.now stored.now) }
     ensures { result ≡ none_calls_by charging w (fleet_by units.now stored.now) (length units.now) }
 {
-    for i in 0..units.len() {
-        let need = rules::own_need(w, units[i].unit.link);
+    for row in units {
+        let need = rules::own_need(w, row.unit.link);
         if !rules::no_call(charging, need) {
             return false;
         }
@@ -39,8 +39,8 @@ fn units_in_band(band: u32, w: Wanted, units: &[Row], stored: &[u64]) -> bool
     requires { Linked w (fleet_by units.now stored.now) }
     ensures { result ≡ all_in_band_by band w (fleet_by units.now stored.now) (length units.now) }
 {
-    for i in 0..units.len() {
-        let link = units[i].unit.link;
+    for row in units {
+        let link = row.unit.link;
         let own = rules::own_band(w.current, link, band);
         if !rules::in_band(own, rules::own_need(w, link)) {
             return false;

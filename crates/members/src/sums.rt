@@ -37,10 +37,10 @@ pub fn summed(units: &[Row]) -> Totals
     let mut rated: u64 = 0;
     let mut reserve: u64 = 0;
     let mut weight: u64 = 0;
-    for i in 0..units.len() {
-        rated += units[i].unit.rated;
-        reserve += units[i].unit.reserve;
-        weight += units[i].unit.weight as u64;
+    for row in units {
+        rated += row.unit.rated;
+        reserve += row.unit.reserve;
+        weight += row.unit.weight as u64;
     }
     Totals {
         rated,

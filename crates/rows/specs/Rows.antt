@@ -1,7 +1,6 @@
 -- Nobody has to believe this file: it is how the code carries units. A row has a unit's values, and what the code keeps beside them.
 use Rattle.std.specs.Prelude.{ℕ, List, map, ℤ, pos}
 use Rattle.unit.specs.declared.Unit.{Unit}
-use Rattle.rows.specs.declared.Kept.{Kept}
 use Rattle.rows.specs.declared.Row.{Row}
 
 -- a row of no values, as it stands past the end of rows
@@ -36,9 +35,6 @@ no_row = record {
     rest = 0;
   };
 }
-
-abbrev pub row_of : Unit → Kept → Row
-row_of u k = record { unit = u; kept = k }
 
 -- the unit of a row
 abbrev pub unit_by : Row → Unit

@@ -8,6 +8,6 @@ use Rattle.rules.specs.Rules.{in_band, band_in_watts}
 use Rattle.members.specs.Posts.{fleet_by, own_by}
 use Rattle.members.proofs.calls.units_in_band.Given as goal
 
-abbrev pub invariant-loop-i : goal.invariant-loop-i
-invariant-loop-i l =
-    all_of l.i (λ (k : ℕ). in_band (band_in_watts l.w.current (get_or (fleet_by l.units l.stored).link k 0) l.band) (own_by l.w (fleet_by l.units l.stored) k)) ≡ true
+abbrev pub invariant-loop-row : goal.invariant-loop-row
+invariant-loop-row l =
+    all_of l.row-index (λ (k : ℕ). in_band (band_in_watts l.w.current (get_or (fleet_by l.units l.stored).link k 0) l.band) (own_by l.w (fleet_by l.units l.stored) k)) ≡ true

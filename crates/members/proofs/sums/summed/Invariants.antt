@@ -2,5 +2,5 @@
 use Rattle.members.proofs.ColumnLaws.{Summing}
 use Rattle.members.proofs.sums.summed.Given as goal
 
-abbrev pub invariant-loop-i : goal.invariant-loop-i
-invariant-loop-i l = Summing l.units l.i l.rated l.reserve l.weight
+abbrev pub invariant-loop-row : goal.invariant-loop-row
+invariant-loop-row l = Summing l.units l.row-index l.rated l.reserve l.weight

@@ -1,5 +1,4 @@
--- Each number that is kept by its definition. It fits its column: a draw and a leg are at most S, and a floor lies below 2^50; the unit comes back from its row,
--- since it is in its ranges.
+-- Each number that is kept fits its type: a draw is at most S and the loss at the grid, and a floor lies below 2^50.
 use Prim.Native.Nat.{◌+◌, ◌*◌, ◌≤◌}
 use native.Mathlib.Nat.{mul-le-mul}
 use native.Mathlib.Omega.{arith}
