@@ -20,13 +20,10 @@ const MISSING_BYTES: usize = 3;
 
 const END_BYTES: usize = 7;
 
-// A field, or a weather, a voltage or both and the reading behind them: whether the walk goes on over
-// them; if not, the number of what stands there, 0 where the bytes end; the state behind them; how
-// many bytes they have; and whether their reading is made missing.
+// What the walk goes on over, a field, or a weather, a voltage or both and the reading behind them: the
+// state behind them, how many bytes they have, and whether their reading is made missing.
 #[derive(Clone, Copy)]
 struct Group {
-    on: bool,
-    number: u8,
     state: State,
     size: usize,
     lost: bool,

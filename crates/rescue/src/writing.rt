@@ -59,10 +59,9 @@ pub fn put_kept(file: &[u8], out: &mut [u8], list: &mut [u8])
         if st.stage == AT_END {
             return;
         }
-        let g = groups::next(st, file, at);
-        if !g.on {
+        let Ok(g) = groups::next(st, file, at) else {
             return;
-        }
+        };
         put_part(out, to, file, at, g);
         if g.lost {
             put_change(list, line, (at + g.size - READING_BYTES) as u64, 1, 24);
