@@ -4,7 +4,7 @@ ghost use Rattle.parts.specs.Header.{tag_at};
 ghost use Rattle.stick.specs.Check.{checked_by};
 ghost use Rattle.rescue.specs.Saved.{due, saved_of};
 ghost use Rattle.rescue.specs.Answers.{list_bytes, rescue_answer, rescue_writes, rescue_lists};
-ghost use Rattle.rescue.specs.Posts.{extent, end_bytes_of, last_of, Walked, Surveyed};
+ghost use Rattle.rescue.specs.Posts.{end_bytes_of, last_of, Walked, Surveyed};
 
 use super::{CHANGE_BYTES, END_BYTES, Extent, Walk, walking, writing};
 use fields::{
@@ -38,19 +38,6 @@ fn tag_at(file: &[u8], at: usize) -> u8
     0
 }
 
-// A refusal, with nothing written and no steps.
-fn refusal(number: u8, place: u64) -> Extent
-    ensures { result ≡ extent number place 0 0 0 }
-{
-    Extent {
-        number,
-        place,
-        steps: 0,
-        output: 0,
-        changes: 0,
-    }
-}
-
 // What becomes of the bytes where the walk ended: a change, or none where the end field is the last
 // of a file of so many bytes.
 fn last_change(w: Walk, len: usize) -> usize
@@ -63,34 +50,38 @@ fn last_change(w: Walk, len: usize) -> usize
 }
 
 // What a rescue comes to, by where the walk over a file of no more bytes than it may have ended.
-fn by_walk(file: &[u8], w: Walk) -> Extent
+fn by_walk(file: &[u8], w: Walk) -> Result<Extent, Refusal>
     requires file_len_bound { length file.now ≤ 2097152 }
     requires walked { Walked file.now w }
     ensures { Surveyed file.now result }
 {
     let st = w.state;
     if is_due(st, tag_at(file, w.at)) {
-        return refusal(if w.number == 0 { 8 } else { w.number }, w.at as u64);
+        let number = if w.number == 0 { 8 } else { w.number };
+        return Err(Refusal {
+            number,
+            place: w.at as u64,
+            steps: 0,
+        });
     }
     let output = w.kept + if st.stage == AT_END { 0 } else { END_BYTES };
     if MOST_BYTES < output {
-        return refusal(12, 0);
+        return Err(whole::refused(12));
     }
-    Extent {
-        number: 0,
+    Ok(Extent {
         place: file.len() as u64,
         steps: st.steps,
         output,
         changes: w.missing + last_change(w, file.len()),
-    }
+    })
 }
 
-// What a rescue of any bytes comes to.
-pub fn survey(file: &[u8]) -> Extent
+// What a rescue of any bytes comes to, or its refusal, rooms aside.
+pub fn survey(file: &[u8]) -> Result<Extent, Refusal>
     ensures { Surveyed file.now result }
 {
     if MOST_BYTES < file.len() {
-        return refusal(12, 0);
+        return Err(whole::refused(12));
     }
     by_walk(file, walking::walked(file))
 }
@@ -122,14 +113,7 @@ pub fn rescue(file: &[u8], out: &mut [u8], list: &mut [u8]) -> Result<Checked, R
     ensures out_after { out.new ≡ rescue_writes file.now out.old (length list.old) }
     ensures list_after { list.new ≡ rescue_lists file.now (length out.old) list.old }
 {
-    let v = survey(file);
-    if v.number != 0 {
-        return Err(Refusal {
-            number: v.number,
-            place: v.place,
-            steps: v.steps,
-        });
-    }
+    let v = survey(file)?;
     if (out.len() < v.output) | (list.len() < CHANGE_BYTES * v.changes) {
         return Err(Refusal {
             number: 11,

@@ -40,11 +40,10 @@ struct Walk {
     missing: usize,
 }
 
-// What a rescue comes to, rooms aside: the number of a refusal, 0 for none, its place and steps, or
-// the file's length and the output's steps; the output's bytes and the changes, 0 on a refusal.
+// What a rescue comes to, rooms aside: the file's length, the output's steps and bytes, and the
+// changes.
 #[derive(Clone, Copy)]
 pub struct Extent {
-    pub number: u8,
     pub place: u64,
     pub steps: u32,
     pub output: usize,

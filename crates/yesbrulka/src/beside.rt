@@ -10,7 +10,10 @@ ghost use Rattle.yesbrulka.specs.Calls.{partner_told};
 pub extern "C" fn yb_rescue_room(file: &[u8]) -> u64
     ensures { result ≡ output_room file.now }
 {
-    rescue::survey(file).output as u64
+    match rescue::survey(file) {
+        Ok(v) => v.output as u64,
+        Err(_) => 0,
+    }
 }
 
 // The changes that a rescue makes, 0 for a file that it refuses.
@@ -18,7 +21,10 @@ pub extern "C" fn yb_rescue_room(file: &[u8]) -> u64
 pub extern "C" fn yb_rescue_changes(file: &[u8]) -> u64
     ensures { result ≡ changes_told file.now }
 {
-    rescue::survey(file).changes as u64
+    match rescue::survey(file) {
+        Ok(v) => v.changes as u64,
+        Err(_) => 0,
+    }
 }
 
 // The steps of a rescue's output, 0 for a file that it refuses.
@@ -26,7 +32,10 @@ pub extern "C" fn yb_rescue_changes(file: &[u8]) -> u64
 pub extern "C" fn yb_rescue_steps(file: &[u8]) -> u32
     ensures { result ≡ (rescue_of file.now).steps }
 {
-    rescue::survey(file).steps
+    match rescue::survey(file) {
+        Ok(v) => v.steps,
+        Err(r) => r.steps,
+    }
 }
 
 // The rescue: 0, the output at the start of its room and the changes at the start of the list; or the
