@@ -13,12 +13,10 @@ use Rattle.unit.specs.declared.Unit.{Unit}
 use Rattle.settling.specs.Answers.{study_answer, study_leaves}
 use Rattle.site.specs.declared.Head.{Head}
 use Rattle.site.specs.Site.{count, unit_of}
-use Rattle.stick.specs.Check.{Answer}
+use Rattle.stick.specs.Check.{Answer, check_of, checked_by, refusal_by, Accepted}
 use Rattle.stick.specs.declared.Checked.{Checked}
-use Rattle.stick.specs.Check.{check_of, checked_by, refusal_by}
 use Rattle.stick.proofs.CheckedLaws.{accepted_is, refused_is}
 use Rattle.stick.specs.Site.{connections_of, value_of_first, site_of, roofs_of}
-use Rattle.stick.specs.Check.{Accepted}
 use Rattle.stick.specs.Posts.{connections_place, connected}
 use Rattle.stick.proofs.SiteProved.{walk_accepted, connections_picked}
 use Rattle.parts.specs.Header.{header}

@@ -15,14 +15,11 @@ use Rattle.octets.specs.BigEndian.{be}
 use Rattle.parts.specs.Header.{header, tag_at, past}
 use Rattle.site.specs.declared.Due.{Due}
 use Rattle.fields.specs.declared.State.{State}
-use Rattle.fields.specs.Fields.{at_end, at_fleet, at_units, at_settings, at_steps, at_inverters, at_temperature, at_efficiency, at_connections, at_volt_var, at_led, begins, unit_size, kinds, size_in}
-use Rattle.fields.specs.Fields.{size_of, head_of, stands_in, allowed, is_reading, value_of, refused_by, Flags, flags, flags_of, state_of, gone_to, roof_after, state_after, taken_by}
+use Rattle.fields.specs.Fields.{at_end, at_fleet, at_units, at_settings, at_steps, at_inverters, at_temperature, at_efficiency, at_connections, at_volt_var, at_led, begins, unit_size, kinds, size_in, size_of, head_of, stands_in, allowed, is_reading, value_of, refused_by, Flags, flags, flags_of, state_of, gone_to, roof_after, state_after, taken_by}
 use Rattle.fields.proofs.FieldLaws.{fleet_alone, units_alone, settings_alone, connections_alone, warm_alone, efficiency_alone, volt_var_alone, fewer, fewer_more}
-use Rattle.stick.specs.Check.{Answer}
+use Rattle.stick.specs.Check.{Answer, answer, field_at, reached, reach_of, ends, start, Accepted}
 use Rattle.stick.specs.declared.Reached.{Reached}
-use Rattle.stick.specs.Check.{answer, field_at, reached, reach_of, ends, start}
 use Rattle.stick.specs.Site.{steps_from, of_steps, head_from}
-use Rattle.stick.specs.Check.{Accepted}
 use Rattle.stick.specs.Posts.{answered, fleet_bytes, roof_bytes, wide, edition_at, units_at, unit_bytes, unit_place, settings_place, connections_place, connected, roof_place, function_bytes, steps_place}
 use Rattle.stick.proofs.StepLaws.{steps_only}
 use Rattle.stick.proofs.WalkLaws.{whole, OnTheWay, way_starts, not_too_large}

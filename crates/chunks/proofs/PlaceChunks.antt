@@ -20,8 +20,7 @@ use Rattle.fields.proofs.FieldLaws.{by_tag, size_else}
 use Rattle.stick.specs.Check.{field_at, start}
 use Rattle.stick.specs.Site.{places_from, reading_at, due_after, steps_in, due_in, steps_from, due_from}
 use Rattle.stick.proofs.WalkLaws.{field_cases}
-use Rattle.stick.proofs.PlaceLaws.{from, from_over, from_field, steps_over, due_over, steps_first, due_first_lem}
-use Rattle.stick.proofs.PlaceLaws.{same as places-fuel}
+use Rattle.stick.proofs.PlaceLaws.{from, from_over, from_field, steps_over, due_over, steps_first, due_first_lem, same as places-fuel}
 use Rattle.chunks.proofs.SameLaws.{Same, reading_same, due_same}
 use Rattle.chunks.proofs.FieldChunks.{same_behind, same_before, tag_shift, past_shift, tag_append, past_append}
 use Rattle.chunks.proofs.ReachChunks.{over_shift, Went, there, passing, went_take, far, far_gone, far_upto}

@@ -36,8 +36,7 @@ use Rattle.site.specs.declared.Due.{Due}
 use Rattle.site.specs.Site.{due, none_yet}
 use Rattle.parts.specs.Header.{header, tag_at, length_at, past}
 use Rattle.fields.specs.declared.State.{State}
-use Rattle.fields.specs.Fields.{at_units, at_connections, bounds_at, kinds, size_in, size_of, allowed, fleet_in, unit_at, settings_at, phase_at, is_reading, base_in, flags, flags_of}
-use Rattle.fields.specs.Fields.{phases_at, inverter_at, weather_at, six_unless, five_unless, value_of, too_many, refused_by, state_of, state_after, taken_by, phases_in, volts_in, connections_in}
+use Rattle.fields.specs.Fields.{at_units, at_connections, bounds_at, kinds, size_in, size_of, allowed, fleet_in, unit_at, settings_at, phase_at, is_reading, base_in, flags, flags_of, phases_at, inverter_at, weather_at, six_unless, five_unless, value_of, too_many, refused_by, state_of, state_after, taken_by, phases_in, volts_in, connections_in}
 use Rattle.fields.proofs.FieldLaws.{by_tag}
 use Rattle.fields.proofs.TakenLaws.{room_end, value_end}
 use Rattle.stick.specs.Check.{start}

@@ -17,9 +17,8 @@ use Rattle.site.specs.Site.{step_with}
 use Rattle.fields.specs.declared.State.{State}
 use Rattle.fields.specs.Fields.{at_end, at_steps, at_reading, at_voltage, kinds, size_in, size_of, allowed, is_reading, flags_of, roof_after, state_after}
 use Rattle.fields.proofs.FieldLaws.{NoTag, by_tag, after_reading}
-use Rattle.stick.specs.Check.{Answer}
+use Rattle.stick.specs.Check.{Answer, answer, ends, reach_of}
 use Rattle.stick.specs.declared.Reached.{Reached}
-use Rattle.stick.specs.Check.{answer, ends, reach_of}
 use Rattle.stick.specs.Site.{reading_at, due_after, steps_from, due_from, of_steps}
 use Rattle.stick.specs.Posts.{answered, ReadingThere}
 use Rattle.stick.proofs.ReachLaws.{walk_reach}

@@ -14,9 +14,8 @@ use Rattle.site.specs.declared.Step.{Step}
 use Rattle.lead.specs.Lead.{Leading}
 use Rattle.site.specs.Site.{Site, Plant, none_yet}
 use Rattle.fields.specs.declared.State.{State}
-use Rattle.stick.specs.Check.{Answer}
+use Rattle.stick.specs.Check.{Answer, answer, ends, start, walk}
 use Rattle.stick.specs.declared.Reached.{Reached}
-use Rattle.stick.specs.Check.{answer, ends, start, walk}
 use Rattle.stick.specs.Site.{site_of, roofs_of, leading_of, plant_of, steps_from, steps_of}
 use Rattle.stick.specs.Posts.{answered}
 use Rattle.stick.proofs.ReachLaws.{walk_reach}
@@ -39,8 +38,7 @@ use Rattle.taking.proofs.NumberLaws.{Numbered, stop_number}
 use Rattle.taking.proofs.WellLaws.{start_well, fed_well}
 use Rattle.feed.specs.Answers.{fault_leaves, end_fault, end_number, end_leaves}
 use Rattle.fed.specs.Holds.{joined, leaves_all, first, FedLaw}
-use Rattle.fed.proofs.CallLaws.{fault_by_lem, own_end, own_end_leaves, closed_own, closed_some, end_number_is, end_leaves_is, refused_number, refused_leaves, refused_place, refused_steps, fault_formed, fault_some}
-use Rattle.fed.proofs.CallLaws.{fault_number_back, fault_place_back, fault_steps_back, no_tail, over_place_back, over_steps_back}
+use Rattle.fed.proofs.CallLaws.{fault_by_lem, own_end, own_end_leaves, closed_own, closed_some, end_number_is, end_leaves_is, refused_number, refused_leaves, refused_place, refused_steps, fault_formed, fault_some, fault_number_back, fault_place_back, fault_steps_back, no_tail, over_place_back, over_steps_back}
 use Rattle.fed.proofs.ChunkLaws.{after, after_fine, after_fault, after_formed, after_short, fed_place, leaves_all_lem, leaves_one, results_all_lem}
 
 zero_plus : (n : ℕ) → 0 - 0 + n ≡ n

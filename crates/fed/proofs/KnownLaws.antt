@@ -9,10 +9,9 @@ use native.Mathlib.Omega.{arith}
 use lib.Dec.{eqb}
 use lib.ListN.{length}
 use borrow.Author.Tests.{eqb-true, eqb-false, eq-eqb, ne_eqb}
-use Rattle.stick.specs.Check.{Answer}
+use Rattle.stick.specs.Check.{Answer, answer, refusal_by}
 use Rattle.stick.specs.declared.Known.{Known}
 use Rattle.stick.specs.declared.Known.TheVariants.{Complete, Refused, NotKnown}
-use Rattle.stick.specs.Check.{answer, refusal_by}
 use Rattle.stick.specs.Known.{known_by}
 use Rattle.records.specs.Records.{end_bytes}
 use Rattle.kept.specs.Layout.{place_in, steps_kept}

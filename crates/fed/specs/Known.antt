@@ -1,10 +1,9 @@
 -- What is known of a file that was fed to a state (rule E10): by the bytes of the state, whatever they are; and so by the bytes that were fed, however these were cut. `known-law` proves
 -- that the one gives the other.
 use Rattle.std.specs.Prelude.{ℕ, ◌≤◌, Bool, true, false, not, cond, ◌&&◌, ◌||◌, List, ◌≡◌, eqb, length}
-use Rattle.stick.specs.Check.{Answer}
+use Rattle.stick.specs.Check.{Answer, answer, start, walk, refusal_by}
 use Rattle.stick.specs.declared.Known.{Known}
 use Rattle.stick.specs.declared.Known.TheVariants.{Complete, Refused, NotKnown}
-use Rattle.stick.specs.Check.{answer, start, walk, refusal_by}
 use Rattle.stick.specs.Known.{known_by}
 use Rattle.records.specs.Records.{end_bytes}
 use Rattle.feed.specs.Answers.{own_number, end_number, end_leaves, place_told, steps_told}

@@ -44,21 +44,21 @@ unfolding unit_answer
 unit_told file i =
     said (λ (u : Unit). map pos (u.rated ∷ u.reserve ∷ u.stored ∷ u.rating ∷ u.kva ∷ idle_loss_of u ∷ [])
     ++ u.var_request ∷ map pos (u.weight ∷ u.inverter ∷ u.charge ∷ u.discharge ∷ u.priority ∷ []))
-    ((unit_answer file i))
+    (unit_answer file i)
 
 unfoldable pub connection_told : List ℕ → ℕ → List ℤ
 unfolding connection_answer
-connection_told file i = said (λ (c : Connection). pos c.phases ∷ pos c.volts ∷ []) ((connection_answer file i))
+connection_told file i = said (λ (c : Connection). pos c.phases ∷ pos c.volts ∷ []) (connection_answer file i)
 
 -- the head's mode and target; and a study over a file: 1 where it settled, the changing passes, and then what the requests are
 unfoldable pub head_told : List ℕ → List ℤ
 unfolding head_answer
-head_told file = said (λ (h : Head). pos h.settings.mode ∷ h.settings.target ∷ []) ((head_answer file))
+head_told file = said (λ (h : Head). pos h.settings.mode ∷ h.settings.target ∷ []) (head_answer file)
 
 unfoldable pub study_told : List ℕ → ℤ → ℕ → List ℤ → List ℤ
 unfolding file_study file_study_leaves
 study_told file load budget rs =
-    said (λ (r : Studied). flag r.settled ∷ pos r.passes ∷ []) ((file_study file load budget rs)) ++ file_study_leaves file load budget rs
+    said (λ (r : Studied). flag r.settled ∷ pos r.passes ∷ []) (file_study file load budget rs) ++ file_study_leaves file load budget rs
 
 -- a current of a quiet NaN
 unfoldable pub unknown : List ℕ

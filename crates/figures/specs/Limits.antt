@@ -20,7 +20,7 @@ lossy idle = unit 500000 1000 idle (pos 700) 10000 10000 10000 0
 -- a step of a unit of an edition
 unfoldable pub step_as : ℕ → Unit → ℕ → ℤ → List ℤ
 unfolding stepped_as
-step_as edition u seconds request = said (λ (o : Outcome). o.watts ∷ o.vars ∷ pos o.stored ∷ pos o.loss ∷ []) ((stepped_as edition u seconds request))
+step_as edition u seconds request = said (λ (o : Outcome). o.watts ∷ o.vars ∷ pos o.stored ∷ pos o.loss ∷ []) (stepped_as edition u seconds request)
 
 -- ---- files: a fleet of one such unit that is asked -700 var, and its settings, in edition 2; with a limit of 1,001; and what is of another edition
 unfoldable pub second : List ℕ

@@ -11,7 +11,7 @@ use Rattle.figures.specs.Roofs.{roof, weather}
 -- a verdict: its number, and where what is shown begins and how long it is
 unfoldable pub partner : List ℕ → List ℕ → List ℤ
 unfolding partner_answer
-partner run result = said (λ (v : Verdict). pos v.number ∷ pos v.start ∷ pos v.len ∷ []) ((partner_answer run result))
+partner run result = said (λ (v : Verdict). pos v.number ∷ pos v.start ∷ pos v.len ∷ []) (partner_answer run result)
 
 abbrev pub verdict : ℕ → ℕ → ℕ → List ℤ
 verdict number start len = values (pos number ∷ pos start ∷ pos len ∷ [])

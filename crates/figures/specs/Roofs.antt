@@ -38,7 +38,7 @@ unfoldable pub light_with : Lists → Inverter → ℕ → ℕ → ℕ → List 
 unfolding lit_of of_bits
 light_with l v on i t =
     said (λ (g : Given). flag g.on ∷ g.watts ∷ g.vars ∷ pos g.dc ∷ [])
-    ((lit_of v l on (record { irradiance = of_bits binary64 i; temperature = of_bits binary64 t })))
+    (lit_of v l on (record { irradiance = of_bits binary64 i; temperature = of_bits binary64 t }))
 
 -- at 25 °C
 abbrev pub light : Inverter → ℕ → ℕ → List ℤ

@@ -17,10 +17,9 @@ use Rattle.settling.specs.declared.Studied.{Studied}
 use Rattle.settling.specs.Answers.{study_answer, study_leaves}
 use Rattle.storage.specs.declared.Outcome.{Outcome}
 use Rattle.storage.specs.Step.{stepped_of}
-use Rattle.stick.specs.Check.{Answer}
+use Rattle.stick.specs.Check.{Answer, field_at, taken_call, check_of}
 use Rattle.fields.specs.declared.State.{State}
 use Rattle.fields.specs.Fields.{flags, at_steps, state_of}
-use Rattle.stick.specs.Check.{field_at, taken_call, check_of}
 use Rattle.season.specs.Answers.{run_answer, run_leaves}
 use Rattle.whole.specs.declared.Refusal.{Refusal}
 
@@ -63,7 +62,7 @@ unfoldable pub measures : List ℕ → ℕ → ℕ → ℕ → List ℤ
 unfolding measure_of of_bits
 measures [] a b c = []
 measures (phase ∷ phases) a b c =
-    said one ((measure_of (record { first = of_bits binary64 a; second = of_bits binary64 b; third = of_bits binary64 c }) phase)) ++ measures phases a b c
+    said one (measure_of (record { first = of_bits binary64 a; second = of_bits binary64 b; third = of_bits binary64 c }) phase) ++ measures phases a b c
 
 -- a pass: need, 1 where a request changed, and then what the requests are; one by current, of units with these phases and volts
 abbrev pub passed : Result Passed Refusal → List ℤ → List ℤ
@@ -82,12 +81,12 @@ pass_current s m f phases volts rs =
 -- a study: 1 where it settled, the changing passes, and then what the requests are
 unfoldable pub study : Trial → Fleet → List ℤ → List ℤ
 unfolding study_answer study_leaves
-study q f rs = said (λ (r : Studied). flag r.settled ∷ pos r.passes ∷ []) ((study_answer q f rs)) ++ study_leaves q f rs
+study q f rs = said (λ (r : Studied). flag r.settled ∷ pos r.passes ∷ []) (study_answer q f rs) ++ study_leaves q f rs
 
 -- a step: watts, vars, the store after it and the loss
 unfoldable pub step : Unit → ℕ → ℤ → List ℤ
 unfolding stepped_of
-step u seconds request = said (λ (o : Outcome). o.watts ∷ o.vars ∷ pos o.stored ∷ pos o.loss ∷ []) ((stepped_of u seconds request))
+step u seconds request = said (λ (o : Outcome). o.watts ∷ o.vars ∷ pos o.stored ∷ pos o.loss ∷ []) (stepped_of u seconds request)
 
 -- the first field of these bytes, where a step is waited for and so many are accepted: the steps then
 unfoldable pub field : ℕ → List ℕ → List ℤ

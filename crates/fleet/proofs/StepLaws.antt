@@ -40,8 +40,7 @@ use Rattle.storage.specs.declared.Outcome.{Outcome}
 use Rattle.storage.specs.Step.{step_of}
 use Rattle.lead.specs.declared.Lead.{Lead}
 use Rattle.lead.specs.Lead.{Modest}
-use Rattle.guided.specs.Units.{led_step, vars_kept, LedLaw}
-use Rattle.guided.specs.Units.{Guiding}
+use Rattle.guided.specs.Units.{led_step, vars_kept, LedLaw, Guiding}
 use Rattle.guided.proofs.LedProved.{led_law}
 use Rattle.guided.proofs.SharedLaws.{back, small_same, none_leads}
 use Rattle.guided.proofs.UnitLaws.{unled_is, stands_is}
@@ -96,11 +95,11 @@ module _ (site : Site) (stored : List ℕ) (rs : List ℤ) (x : Result ℤ Refus
 
 -- by watts powers are passed on, and by current currents; any other reading, whose tag is not theirs, leaves the requests
 module _ (site : Site) (stored : List ℕ) (rs : List ℤ) (r : Reading) where
-  pub powers_are : (p : Phases) → r ≡ Power p → passed_on site stored rs ((measure_of p site.head.phase)) ≡ asked_by_watts site stored rs r
+  pub powers_are : (p : Phases) → r ≡ Power p → passed_on site stored rs (measure_of p site.head.phase) ≡ asked_by_watts site stored rs r
   unfolding asked_by_watts
   powers_are p e = sym (ap (asked_by_watts site stored rs) e)
 
-  pub currents_are : (p : Phases) → r ≡ Current p → passed_on site stored rs ((current_of p site.head.phase)) ≡ asked_by_current site stored rs r
+  pub currents_are : (p : Phases) → r ≡ Current p → passed_on site stored rs (current_of p site.head.phase) ≡ asked_by_current site stored rs r
   unfolding asked_by_current
   currents_are p e = sym (ap (asked_by_current site stored rs) e)
 

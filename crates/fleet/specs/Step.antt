@@ -47,13 +47,13 @@ passed_on site stored rs (Err r) = rs
 -- by watts one pass on the powers, by current one on the currents; none if the reading is missing. A reading of the other kind is in no accepted file (N5)
 unfoldable pub asked_by_watts : Site → List ℕ → List ℤ → Reading → List ℤ
 unfolding measure_of pass_of
-asked_by_watts site stored rs (Power p) = passed_on site stored rs ((measure_of p site.head.phase))
+asked_by_watts site stored rs (Power p) = passed_on site stored rs (measure_of p site.head.phase)
 asked_by_watts site stored rs Missing = rs
 asked_by_watts site stored rs (Current p) = rs
 
 unfoldable pub asked_by_current : Site → List ℕ → List ℤ → Reading → List ℤ
 unfolding current_of pass_of
-asked_by_current site stored rs (Current p) = passed_on site stored rs ((current_of p site.head.phase))
+asked_by_current site stored rs (Current p) = passed_on site stored rs (current_of p site.head.phase)
 asked_by_current site stored rs Missing = rs
 asked_by_current site stored rs (Power p) = rs
 

@@ -22,8 +22,7 @@ use Rattle.solar.specs.Step.{dc_of, on_after, ac_of, limited_vars, watts_of, var
 use Rattle.solar.proofs.ReliedProved.{relied}
 use Rattle.solar.proofs.RoofLaws.{ranged}
 use Rattle.lead.specs.declared.Lead.{Lead}
-use Rattle.lead.specs.Lead.{first_by, lead, requested_by, kept_by}
-use Rattle.lead.specs.Lead.{Modest}
+use Rattle.lead.specs.Lead.{first_by, lead, requested_by, kept_by, Modest}
 use Rattle.guided.specs.Units.{Guiding}
 use Rattle.guided.specs.Roofs.{led_inverter, led_roof, watts_first, requested_of, lit_step, vars_kept}
 use Rattle.guided.proofs.SharedLaws.{back, small_same, none_leads, first_most, watts_same, requested_same, requested_none, requested_small, requested_fits, kept_stands, last_back, asked_read, asked_back, kept_back, vars_whole}

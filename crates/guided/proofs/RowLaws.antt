@@ -37,8 +37,7 @@ use Rattle.storage.specs.Step.{grid_watts, outcome_of, step_of}
 use Rattle.lead.specs.declared.Lead.{Lead}
 use Rattle.lead.specs.Lead.{first_by, requested_by, kept_by}
 use Rattle.guided.specs.Posts.{left_by, size_by, with_lead, LedFrom}
-use Rattle.guided.specs.Units.{Guiding}
-use Rattle.guided.specs.Units.{led_unit, watts_first, requested_of, led_step, vars_kept}
+use Rattle.guided.specs.Units.{Guiding, led_unit, watts_first, requested_of, led_step, vars_kept}
 use Rattle.guided.proofs.SharedLaws.{back, watts_held, requested_after}
 use Rattle.guided.proofs.UnitLaws.{unit_with, watts_with, with_ranged, asked_small, asked_is, kept_is}
 use Rattle.guided.proofs.LedProved.{led_law}

@@ -26,10 +26,8 @@ use Rattle.storage.proofs.ReliedLaws.{watts_le}
 use Rattle.storage.specs.declared.Outcome.{Outcome}
 use Rattle.storage.specs.Step.{grid_watts, outcome_of, step_of}
 use Rattle.lead.specs.declared.Lead.{Lead}
-use Rattle.lead.specs.Lead.{first_by, lead, requested_by, kept_by}
-use Rattle.lead.specs.Lead.{Modest}
-use Rattle.guided.specs.Units.{Guiding}
-use Rattle.guided.specs.Units.{led_unit, watts_first, requested_of, led_step, vars_kept}
+use Rattle.lead.specs.Lead.{first_by, lead, requested_by, kept_by, Modest}
+use Rattle.guided.specs.Units.{Guiding, led_unit, watts_first, requested_of, led_step, vars_kept}
 use Rattle.guided.proofs.SharedLaws.{back, small_back, small_same, first_most, watts_same, requested_same, requested_none, requested_small, kept_stands, last_back, asked_read, asked_back, kept_back}
 
 -- ---- sizes of a step

@@ -28,9 +28,7 @@ use Rattle.stick.specs.Site.{site_of, roofs_of}
 use Rattle.fleet.specs.Step.{Stands, standing}
 use Rattle.kept.specs.declared.Mark.{Mark}
 use Rattle.kept.specs.Kept.{Kept, begun, no_standing}
-use Rattle.kept.specs.Layout.{tail_most, site_most, rest_size, volts_of, all_vars}
-use Rattle.kept.specs.Layout.{tail_place, held_place, flag_place, vars_place, site_place, state_size, filled, progress_of, parts_of, numbers_of, held_of, flags_of, vars_of, top_of, stands_of, mark_of, bytes_for, stopped_bytes}
-use Rattle.kept.specs.Layout.{number_in, place_in, steps_kept, stage_in, site_bytes, tail_bytes, site_part, tail_part, sun_kept, due_kept, known_by, state_in, store_at, request_at, flag_at, var_at, up_to, units_kept, roofs_kept, stands_in, kept_in}
+use Rattle.kept.specs.Layout.{tail_most, site_most, rest_size, volts_of, all_vars, tail_place, held_place, flag_place, vars_place, site_place, state_size, filled, progress_of, parts_of, numbers_of, held_of, flags_of, vars_of, top_of, stands_of, mark_of, bytes_for, stopped_bytes, number_in, place_in, steps_kept, stage_in, site_bytes, tail_bytes, site_part, tail_part, sun_kept, due_kept, known_by, state_in, store_at, request_at, flag_at, var_at, up_to, units_kept, roofs_kept, stands_in, kept_in}
 use Rattle.kept.specs.Formed.{clear, site_fits, stands_fit, rest_clear, mark_fits, going, stopped, well_formed}
 use Rattle.kept.specs.Posts.{Sized}
 use Rattle.kept.proofs.PieceLaws.{filled_long}

@@ -20,9 +20,7 @@ use Rattle.stick.specs.Check.{reached, reach_of, start}
 use Rattle.stick.specs.Site.{site_of, roofs_of}
 use Rattle.chunks.proofs.ReachChunks.{far_all}
 use Rattle.kept.specs.Kept.{begun_at, begun, no_standing}
-use Rattle.kept.specs.Layout.{tail_most, site_most, volts_of, all_vars}
-use Rattle.kept.specs.Layout.{state_size, site_place, tail_place, number_in, place_in, steps_kept, stage_in, site_bytes, tail_bytes, site_part, tail_part, sun_kept, due_kept, state_in, known_by}
-use Rattle.kept.specs.Layout.{store_at, request_at, flag_at, var_at, up_to, units_kept, roofs_kept, stands_in, kept_in}
+use Rattle.kept.specs.Layout.{tail_most, site_most, volts_of, all_vars, state_size, site_place, tail_place, number_in, place_in, steps_kept, stage_in, site_bytes, tail_bytes, site_part, tail_part, sun_kept, due_kept, state_in, known_by, store_at, request_at, flag_at, var_at, up_to, units_kept, roofs_kept, stands_in, kept_in}
 use Rattle.kept.specs.Formed.{site_fits, place_fits, sun_fits, volt_fits, tail_fits, held_fits, flag_fits, var_fits, lists_fit, stands_fit, mark_fits, rest_clear, going, stopped, well_formed}
 use Rattle.kept.specs.Posts.{Sized, WellKept}
 use Rattle.kept.proofs.StandLaws.{up_to_length}

@@ -15,11 +15,9 @@ use Rattle.whole.proofs.OverLaws.{and_parts}
 use Rattle.members.specs.Ranges.{some_above, some_below}
 use Rattle.site.specs.Site.{count}
 use Rattle.fields.specs.Fields.{at_end}
-use Rattle.stick.specs.Check.{Answer}
+use Rattle.stick.specs.Check.{Answer, answer, reach_of, ends, walk, start, check_of, Accepted}
 use Rattle.stick.specs.declared.Reached.{Reached}
-use Rattle.stick.specs.Check.{answer, reach_of, ends, walk, start, check_of}
 use Rattle.stick.specs.Site.{site_of, roofs_of}
-use Rattle.stick.specs.Check.{Accepted}
 use Rattle.stick.specs.Posts.{answered}
 use Rattle.stick.proofs.ReachLaws.{walk_reach}
 use Rattle.stick.proofs.SiteProved.{sited, roofed}

@@ -23,8 +23,7 @@ use Rattle.stick.specs.declared.Reached.{Reached}
 use Rattle.stick.specs.Check.{reach_of, start}
 use Rattle.kept.specs.declared.Mark.{Mark}
 use Rattle.kept.specs.Posts.{Sized}
-use Rattle.kept.specs.Layout.{tail_most, flag_place, vars_place, site_place, site_most}
-use Rattle.kept.specs.Layout.{place_in, steps_kept, stage_in, site_bytes, tail_bytes, site_part, sun_kept, due_kept, known_by, state_in, mark_in, tail_place, held_place, state_size, filled, progress_of, parts_of, numbers_of, top_of}
+use Rattle.kept.specs.Layout.{tail_most, flag_place, vars_place, site_place, site_most, place_in, steps_kept, stage_in, site_bytes, tail_bytes, site_part, sun_kept, due_kept, known_by, state_in, mark_in, tail_place, held_place, state_size, filled, progress_of, parts_of, numbers_of, top_of}
 use Rattle.kept.proofs.PieceLaws.{laid_filled}
 use Rattle.std.proofs.Common.{None, Option, Some}
 

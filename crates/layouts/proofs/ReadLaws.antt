@@ -13,10 +13,8 @@ use Rattle.parts.specs.Header.{tag_at, length_at, past}
 use Rattle.fields.specs.declared.State.{State}
 use Rattle.fields.specs.Fields.{size_of, allowed, too_many, value_of, state_after}
 use Rattle.fields.proofs.TakenLaws.{not_many}
-use Rattle.stick.specs.Check.{Answer}
+use Rattle.stick.specs.Check.{Answer, field_at, reach_of, start, answer, ends, walk, check_of, Accepted}
 use Rattle.stick.specs.declared.Reached.{Reached}
-use Rattle.stick.specs.Check.{field_at, reach_of, start, answer, ends, walk, check_of}
-use Rattle.stick.specs.Check.{Accepted}
 use Rattle.stick.specs.Posts.{answered}
 use Rattle.stick.proofs.WalkLaws.{field_cases}
 use Rattle.stick.proofs.SaidLaws.{free_parts}

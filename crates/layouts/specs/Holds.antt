@@ -9,8 +9,7 @@ use Rattle.solar.specs.declared.Sun.{Sun}
 use Rattle.solar.specs.Weather.{dark, sky_of, sun_or}
 use Rattle.site.specs.declared.Step.{Step}
 use Rattle.site.specs.Site.{Site, Plant}
-use Rattle.stick.specs.Check.{Answer}
-use Rattle.stick.specs.Check.{answer, check_of, Accepted}
+use Rattle.stick.specs.Check.{Answer, answer, check_of, Accepted}
 use Rattle.stick.specs.Site.{plant_of, steps_of}
 use Rattle.layouts.specs.Written.{Connection, WeatherSaid, no_weather, weather, ReadingSaid, missing, powers, currents, StepSaid, Stick}
 use Rattle.layouts.specs.Layout.{laid_out}

@@ -11,9 +11,8 @@ use denote.Ref.{Bor}
 use Rattle.parts.specs.Header.{tag_at, past}
 use Rattle.fields.specs.Fields.{is_reading}
 use Rattle.site.specs.Site.{Plant}
-use Rattle.stick.specs.Check.{check_of}
+use Rattle.stick.specs.Check.{check_of, Accepted, refusal_by}
 use Rattle.stick.specs.Site.{places_from, plant_of}
-use Rattle.stick.specs.Check.{Accepted}
 use Rattle.stick.specs.Posts.{steps_place}
 use Rattle.records.specs.Records.{end_bytes}
 use Rattle.stretch.specs.Posts.{FieldsAt, StepsThere}
@@ -21,7 +20,6 @@ use Rattle.stretch.proofs.AcceptedLaws.{steps_there}
 use Rattle.season.specs.Run.{result_of}
 use Rattle.partner.specs.declared.Verdict.{Verdict}
 use Rattle.std.proofs.Common.{Ok, Err}
-use Rattle.stick.specs.Check.{refusal_by}
 use Rattle.partner.specs.Verdict.{Field, asked_by, sizes_of, fields_at, fields_in, fields_of, right, their_bytes, our_field, same, verdict_from, verdict_of, partner_answer}
 use Rattle.partner.specs.Shown.{told_by, file_of, ShownPart}
 use Rattle.partner.proofs.FieldsLaws.{fields_start}

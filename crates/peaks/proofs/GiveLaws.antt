@@ -19,8 +19,7 @@ use Rattle.storage.specs.declared.Outcome.{Outcome}
 use Rattle.storage.specs.Relied.{Balanced, carried}
 use Rattle.lead.specs.declared.Lead.{Lead}
 use Rattle.lead.specs.Lead.{Modest}
-use Rattle.guided.specs.Units.{led_step, LedLaw}
-use Rattle.guided.specs.Units.{Guiding}
+use Rattle.guided.specs.Units.{led_step, LedLaw, Guiding}
 use Rattle.guided.proofs.LedProved.{led_law}
 use Rattle.guided.proofs.SharedLaws.{back, small_same}
 use Rattle.site.specs.Site.{Site, count, unit_of}

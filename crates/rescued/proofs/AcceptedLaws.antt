@@ -14,10 +14,8 @@ use Rattle.octets.specs.BigEndian.{be, bytes_of}
 use Rattle.octets.proofs.ByteLaws.{be_bytes}
 use Rattle.parts.specs.Header.{tag_at, past}
 use Rattle.fields.specs.declared.State.{State}
-use Rattle.fields.specs.Fields.{at_end, at_reading, at_voltage, at_led, only, opens, begins, gone_to}
-use Rattle.fields.specs.Fields.{kinds, size_in, size_of, stands_in, allowed, head_of, value_of, refused_by, roof_after, state_after, taken_by}
-use Rattle.stick.specs.Check.{Answer}
-use Rattle.stick.specs.Check.{answer, field_at, start, check_of}
+use Rattle.fields.specs.Fields.{at_end, at_reading, at_voltage, at_led, only, opens, begins, gone_to, kinds, size_in, size_of, stands_in, allowed, head_of, value_of, refused_by, roof_after, state_after, taken_by}
+use Rattle.stick.specs.Check.{Answer, answer, field_at, start, check_of}
 use Rattle.stick.specs.Posts.{answered}
 use Rattle.stick.proofs.WalkLaws.{ends_complete, not_too_large}
 use Rattle.stick.proofs.ReachLaws.{walk_reach}

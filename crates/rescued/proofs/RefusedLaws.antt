@@ -13,9 +13,8 @@ use Rattle.whole.proofs.Choice.{passed_failed}
 use Rattle.parts.specs.Header.{tag_at, past}
 use Rattle.fields.specs.declared.State.{State}
 use Rattle.fields.specs.Fields.{at_led, only, opens, closes}
-use Rattle.stick.specs.Check.{Answer}
+use Rattle.stick.specs.Check.{Answer, answer, field_at, reached, reach_of, ends, start, check_of}
 use Rattle.stick.specs.declared.Reached.{Reached}
-use Rattle.stick.specs.Check.{answer, field_at, reached, reach_of, ends, start, check_of}
 use Rattle.stick.specs.Site.{of_steps}
 use Rattle.stick.proofs.WalkLaws.{not_too_large}
 use Rattle.stick.proofs.ReachLaws.{walk_reach}

@@ -11,9 +11,8 @@ use lib.Seq.{slice, length-take-le, drop-append-le}
 use borrow.Author.Tests.{ltb-false, le-ltb, le-leb, eq-eqb, eqb-true, eqb-false}
 use Rattle.parts.specs.Header.{tag_at, past}
 use Rattle.fields.specs.declared.State.{State}
-use Rattle.stick.specs.Check.{Answer}
+use Rattle.stick.specs.Check.{Answer, answer, ends, start, check_of}
 use Rattle.stick.specs.declared.Reached.{Reached}
-use Rattle.stick.specs.Check.{answer, ends, start, check_of}
 use Rattle.stick.specs.Posts.{answered}
 use Rattle.stick.proofs.WalkLaws.{too_large, not_too_large}
 use Rattle.stick.proofs.ReachLaws.{walk_reach}

@@ -20,8 +20,7 @@ use Rattle.site.specs.Site.{due, none_yet, step_with}
 use Rattle.fields.specs.declared.State.{State}
 use Rattle.fields.specs.Fields.{is_reading, kinds, size_in, size_of}
 use Rattle.fields.proofs.FieldLaws.{after_reading}
-use Rattle.stick.specs.Check.{Answer}
-use Rattle.stick.specs.Check.{answer, field_at, start}
+use Rattle.stick.specs.Check.{Answer, answer, field_at, start}
 use Rattle.stick.specs.Site.{places_from, reading_at, sun_at, voltage_at, due_after, steps_in, due_in, steps_from, due_from, steps_of}
 use Rattle.stick.proofs.StepLaws.{no_other}
 use Rattle.stick.proofs.PlaceLaws.{steps_over, due_over, steps_first, due_first_lem}

@@ -28,8 +28,7 @@ use Rattle.members.specs.Ranges.{Fleet}
 use Rattle.members.specs.Sums.{total, unable_at}
 use Rattle.controller.specs.Pass.{own_need, own_band, rests, spent, all_in_band, request_after, pass_by, pass_of}
 use Rattle.lead.specs.declared.Lead.{Lead}
-use Rattle.lead.specs.Lead.{Leading, unled, led, lead_of}
-use Rattle.lead.specs.Lead.{Modest}
+use Rattle.lead.specs.Lead.{Leading, unled, led, lead_of, Modest}
 use Rattle.lead.proofs.FunctionLaws.{curve_small}
 use Rattle.storage.specs.declared.Outcome.{Outcome}
 use Rattle.storage.specs.Relied.{Balanced, Relied}
@@ -38,16 +37,12 @@ use Rattle.solar.specs.declared.Sun.{Sun}
 use Rattle.solar.specs.declared.Given.{Given}
 use Rattle.solar.specs.Roof.{Roof, roof_in}
 use Rattle.solar.specs.Posts.{Shining}
-use Rattle.solar.specs.Step.{dc_of, on_after, watts_of, vars_of, given_by}
-use Rattle.solar.specs.Step.{step_of as sunStep, given as gives}
-use Rattle.solar.proofs.RoofLaws.{ranged}
-use Rattle.solar.proofs.RoofLaws.{Ranged as RoofRanged}
+use Rattle.solar.specs.Step.{dc_of, on_after, watts_of, vars_of, given_by, step_of as sunStep, given as gives}
+use Rattle.solar.proofs.RoofLaws.{ranged, Ranged as RoofRanged}
 use Rattle.solar.proofs.PowerLaws.{dc_most}
-use Rattle.guided.specs.Units.{led_unit, led_step, requested_of}
-use Rattle.guided.specs.Units.{Guiding}
+use Rattle.guided.specs.Units.{led_unit, led_step, requested_of, Guiding}
 use Rattle.guided.proofs.LedProved.{led_law}
-use Rattle.guided.specs.Roofs.{led_roof, lit_step}
-use Rattle.guided.specs.Roofs.{requested_of as roofRequested}
+use Rattle.guided.specs.Roofs.{led_roof, lit_step, requested_of as roofRequested}
 use Rattle.guided.proofs.LitProved.{lit_law}
 use Rattle.site.specs.Ranges.{Guided}
 use Rattle.std.proofs.Common.{None, Option, Some}

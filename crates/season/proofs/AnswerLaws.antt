@@ -13,9 +13,8 @@ use Rattle.site.specs.Site.{count}
 use Rattle.std.proofs.Common.{Ok, Err}
 use Rattle.whole.specs.declared.Refusal.{Refusal}
 use Rattle.stick.specs.declared.Checked.{Checked}
-use Rattle.stick.specs.Check.{Answer, checked_by}
+use Rattle.stick.specs.Check.{Answer, checked_by, answer, check_of}
 use Rattle.stick.proofs.CheckedLaws.{accepted_is, refused_is}
-use Rattle.stick.specs.Check.{answer, check_of}
 use Rattle.stick.specs.Site.{site_of, roofs_of, plant_of, steps_of}
 use Rattle.stick.proofs.SiteProved.{steps_count, steps_most}
 use Rattle.stretch.specs.Stretch.{all_bytes}

@@ -1,8 +1,7 @@
 -- What a run answers for any bytes and any room, and what the room holds afterwards (rules N14, N16, N17 and O6): the check's refusal, or 11 where the
 -- room is shorter than the result, and then the room as it was; or the result, followed by what the room held past it.
 use Rattle.std.specs.Prelude.{ℕ, cond, List, ◌++◌, ltb, eqb, length, drop}
-use Rattle.stick.specs.Check.{Answer}
-use Rattle.stick.specs.Check.{answer, check_of}
+use Rattle.stick.specs.Check.{Answer, answer, check_of}
 use Rattle.stick.specs.Site.{plant_of, steps_of}
 use Rattle.season.specs.Run.{result_of, needed_by}
 

@@ -1,9 +1,8 @@
 -- Nobody has to believe this file: the parts of contracts by name.
 use Rattle.std.specs.Prelude.{ℕ, ◌+◌, Bool, List, ◌≡◌, ℤ, length}
 use Rattle.rows.specs.declared.Row.{Row}
-use Rattle.stick.specs.Check.{check_of}
+use Rattle.stick.specs.Check.{check_of, Accepted}
 use Rattle.stick.specs.Site.{site_of, roofs_of, plant_of}
-use Rattle.stick.specs.Check.{Accepted}
 use Rattle.stick.specs.Posts.{steps_place}
 use Rattle.site.specs.Site.{count, none_yet}
 use Rattle.fleet.specs.Posts.{site_in}

@@ -6,9 +6,8 @@ use Prim.Native.Nat.{ℕ}
 use native.Mathlib.Omega.{arith}
 use lib.Dec.{eqb}
 use borrow.Author.Tests.{eqb-true}
-use Rattle.stick.specs.Check.{Answer}
+use Rattle.stick.specs.Check.{Answer, check_of, Accepted, refusal_by}
 use Rattle.stick.specs.declared.Known.TheVariants.{Complete, Refused}
-use Rattle.stick.specs.Check.{check_of, Accepted, refusal_by}
 use Rattle.stick.specs.Known.{known_by}
 
 pub complete_accepted : (file : List ℕ) (steps : ℕ) → known_by (check_of file) ≡ Complete steps → Accepted file

@@ -17,10 +17,8 @@ use Rattle.site.specs.Site.{count}
 use Rattle.fields.specs.declared.State.{State}
 use Rattle.fields.specs.Fields.{begins, closes, is_reading}
 use Rattle.fields.proofs.FieldLaws.{fewer}
-use Rattle.stick.specs.Check.{Answer}
-use Rattle.stick.specs.Check.{start}
+use Rattle.stick.specs.Check.{Answer, start, Accepted}
 use Rattle.stick.specs.Site.{places_of, having, roof_at, site_of, roofs_of, plant_of}
-use Rattle.stick.specs.Check.{Accepted}
 use Rattle.stick.specs.Posts.{answered, units_at}
 use Rattle.stick.proofs.WalkLaws.{ends_complete, not_too_large}
 use Rattle.stick.proofs.PlaceLaws.{from, from_over, from_field, Passed, picked, left_out}

@@ -21,16 +21,14 @@ use Rattle.reading.specs.declared.Reading.{Reading}
 use Rattle.unit.specs.declared.Unit.{Unit}
 use Rattle.unit.proofs.RangeLaws.{Bounds, bounds}
 use Rattle.rows.proofs.RowLaws.{length_map}
-use Rattle.lead.specs.Lead.{Leading, unled, led, lead_of}
-use Rattle.lead.specs.Lead.{Modest}
+use Rattle.lead.specs.Lead.{Leading, unled, led, lead_of, Modest}
 use Rattle.lead.proofs.FunctionLaws.{curve_small}
 use Rattle.rules.specs.declared.Settings.{Settings}
 use Rattle.members.specs.Ranges.{Fleet, fleet_for, some_above, some_below}
 use Rattle.controller.specs.OneSign.{OneSign}
 use Rattle.members.specs.Sums.{total, unable_at}
-use Rattle.rules.specs.Rules.{charges, share_of, with_mode, unit_after}
+use Rattle.rules.specs.Rules.{charges, share_of, with_mode, unit_after, limited}
 use Rattle.controller.specs.Pass.{own_need, own_band, rests, spent, all_in_band, request_after, pass_by, pass_of}
-use Rattle.rules.specs.Rules.{limited}
 use Rattle.controller.proofs.OneSign.{one_sign_lem}
 use Rattle.site.specs.declared.Step.{Step}
 use Rattle.site.specs.Site.{Site, Plant, no_unit, count, unit_of}

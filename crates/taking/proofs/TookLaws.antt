@@ -14,8 +14,7 @@ use Rattle.rules.specs.Rules.{by_current}
 use Rattle.lead.specs.Lead.{voltage_in}
 use Rattle.parts.specs.Header.{header, tag_at, length_at, past}
 use Rattle.fields.specs.declared.State.{State}
-use Rattle.fields.specs.Fields.{at_end, at_fleet, at_units, at_settings, at_steps, at_inverters, at_temperature, at_efficiency, at_reading, at_connections, at_volt_var, at_voltage, at_led}
-use Rattle.fields.specs.Fields.{opens, begins, charged, closes, kinds, size_in, size_of, stands_in, allowed, fleet_in, is_reading, too_many, value_of, flags, flags_of, state_of, gone_to, led_from, roof_after, state_after}
+use Rattle.fields.specs.Fields.{at_end, at_fleet, at_units, at_settings, at_steps, at_inverters, at_temperature, at_efficiency, at_reading, at_connections, at_volt_var, at_voltage, at_led, opens, begins, charged, closes, kinds, size_in, size_of, stands_in, allowed, fleet_in, is_reading, too_many, value_of, flags, flags_of, state_of, gone_to, led_from, roof_after, state_after}
 use Rattle.fields.proofs.FieldLaws.{NoTag, by_tag, fewer, step_counts, stands_nowhere}
 use Rattle.fields.proofs.TakenLaws.{not_many}
 use Rattle.stick.specs.Check.{field_at}

@@ -94,14 +94,14 @@ module _ (load target : ℤ) (band factor budget : ℕ) (f : Fleet) (rs : List �
   study_left_is = el ∙ ap₂ (λ (l t : ℤ). study_leaves (trial_of l t band factor budget) f rs) (read w64 load hl) (read w32 target ht)
 
   pub study_done : (r : Studied) → ans ≡ Ok r
-      → StudySeen ((study_answer (trial_of load target band factor budget) f rs)) 0 settled (bool_byte r.settled) passes r.passes
+      → StudySeen (study_answer (trial_of load target band factor budget) f rs) 0 settled (bool_byte r.settled) passes r.passes
       × (after ≡ study_leaves (trial_of load target band factor budget) f rs)
-  study_done r is = (study_given ((study_answer (trial_of load target band factor budget) f rs)) settled passes r (sym study_is ∙ is), study_left_is)
+  study_done r is = (study_given (study_answer (trial_of load target band factor budget) f rs) settled passes r (sym study_is ∙ is), study_left_is)
 
   pub study_refused : (r : Refusal) → ans ≡ Err r
-      → StudySeen ((study_answer (trial_of load target band factor budget) f rs)) r.number settled settled passes passes
+      → StudySeen (study_answer (trial_of load target band factor budget) f rs) r.number settled settled passes passes
       × (after ≡ study_leaves (trial_of load target band factor budget) f rs)
-  study_refused r is = (study_kept ((study_answer (trial_of load target band factor budget) f rs)) settled passes r (sym study_is ∙ is), study_left_is)
+  study_refused r is = (study_kept (study_answer (trial_of load target band factor budget) f rs) settled passes r (sym study_is ∙ is), study_left_is)
 
 -- ---- a step, of a unit by its var request
 pub step_alike : {a b : Result Outcome Refusal} {number : ℕ} {watts watts' vars vars' : ℤ} {stored stored' loss loss' : ℕ} → a ≡ b

@@ -109,7 +109,7 @@ pub extern "C" fn yb_settle(
     settled: &mut u8,
     passes: &mut u32,
 ) -> u32
-    ensures study_told { StudyTold ((study_answer (trial_of load target band factor budget) (fleet_lent rated reserve stored rating weight) requests.old)) result settled passes }
+    ensures study_told { StudyTold (study_answer (trial_of load target band factor budget) (fleet_lent rated reserve stored rating weight) requests.old) result settled passes }
     ensures requests_value { requests.new ≡ study_leaves (trial_of load target band factor budget) (fleet_lent rated reserve stored rating weight) requests.old }
 {
     let settings = Settings {

@@ -169,7 +169,7 @@ pub extern "C" fn yb_study(
     settled: &mut u8,
     passes: &mut u32,
 ) -> u32
-    ensures study_told { StudyTold ((file_study (held file) load budget requests.old)) result settled passes }
+    ensures study_told { StudyTold (file_study (held file) load budget requests.old) result settled passes }
     ensures requests_after { requests.new ≡ file_study_leaves file.now load budget requests.old }
 {
     match ask::study(file, load, budget, requests) {

@@ -6,8 +6,7 @@ use Rattle.rescue.specs.Saved.{ends_at, save_from, saved_of}
 use Rattle.rescue.specs.Posts.{part_bytes, part_lost}
 use Rattle.rescue.proofs.WalkLaws.{kept_by, over_there, ended_there}
 use Rattle.rescue.proofs.ListLaws.{lost_bytes}
-use Rattle.rescue.proofs.PutLaws.{written_none, written_more, out_long, list_long, all_kept, all_lost}
-use Rattle.rescue.proofs.PutLaws.{kept_within, part_room, line_room, line_more, line_same, line_after, line_here}
+use Rattle.rescue.proofs.PutLaws.{written_none, written_more, out_long, list_long, all_kept, all_lost, kept_within, part_room, line_room, line_more, line_same, line_after, line_here}
 use Rattle.rescue.proofs.writing.put_kept.Goals as goal
 use Rattle.rescue.proofs.writing.put_kept.Goals.{else-g, then-g, At-loop-at, In-Ok, Joined-g}
 

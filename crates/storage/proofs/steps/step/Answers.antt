@@ -2,8 +2,7 @@
 use mathlib.Core.Path.{ap, ◌∙◌}
 use native.Mathlib.Omega.{arith}
 use mir.Syntax.{w32}
-use Rattle.whole.proofs.SignLaws.{read}
-use Rattle.whole.proofs.SignLaws.{sized}
+use Rattle.whole.proofs.SignLaws.{read, sized}
 use Rattle.storage.proofs.StepLaws.{refused_values, refused_rating, done, ranged}
 use Rattle.storage.specs.Step.{step_of}
 use mathlib.Core.Bool.{not}

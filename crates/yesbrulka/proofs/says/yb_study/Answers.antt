@@ -23,7 +23,7 @@ returns-in-Ok c =
     let l = read w64 a.load c.ranges.load.sfits in
     let is : c.study.result ≡ file_study a.file.now a.load a.budget a.requests.now =
     c.study.ensures.value ∙ ap (λ (z : ℤ). file_study a.file.now z a.budget a.requests.now) l in record {
-      study_told = study_given ((file_study a.file.now a.load a.budget a.requests.now)) a.settled.now a.passes.now c.in-Ok.found
+      study_told = study_given (file_study a.file.now a.load a.budget a.requests.now) a.settled.now a.passes.now c.in-Ok.found
           (sym is ∙ c.in-Ok.is);
       requests_after = c.study.ensures.requests_after ∙ ap (λ (z : ℤ). file_study_leaves a.file.now z a.budget a.requests.now) l;
     }
@@ -37,7 +37,7 @@ returns-in-Err c =
     let l = read w64 a.load c.ranges.load.sfits in
     let is : c.study.result ≡ file_study a.file.now a.load a.budget a.requests.now =
     c.study.ensures.value ∙ ap (λ (z : ℤ). file_study a.file.now z a.budget a.requests.now) l in record {
-      study_told = study_kept ((file_study a.file.now a.load a.budget a.requests.now)) a.settled.now a.passes.now
+      study_told = study_kept (file_study a.file.now a.load a.budget a.requests.now) a.settled.now a.passes.now
           c.in-Err.r (sym is ∙ c.in-Err.is);
       requests_after = c.study.ensures.requests_after ∙ ap (λ (z : ℤ). file_study_leaves a.file.now z a.budget a.requests.now) l;
     }
