@@ -99,10 +99,7 @@ fn shown(phase: u8, a: Option<i32>, b: Option<i32>, c: Option<i32>) -> Option<i6
     if 5 < phase {
         return None;
     }
-    let Ok(z) = chosen(phase, a, b, c) else {
-        return None;
-    };
-    Some(z)
+    chosen(phase, a, b, c).ok()
 }
 
 // What the meter shows by a reading.
