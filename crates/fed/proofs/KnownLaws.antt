@@ -67,15 +67,11 @@ module _ (n : ℕ) (t : List ℕ) where
     unfolding known_end
     says_rest none e = ap₂ (λ (x y : Bool). known_by_lem x y (told n t)) (ne_eqb n 0 no) e
 
-    pub says_none : n ≡ 10 → known_end n t ≡ NotKnown
-    says_none e = says_rest true (ap (λ (b : Bool). b || eqb n 11) (eq-eqb n 10 e))
+    pub says_nothing : (eqb n 10 || eqb n 11) ≡ true → known_end n t ≡ NotKnown
+    says_nothing = says_rest true
 
-    module _ (some : n ≡ 10 → ⊥) where
-      pub says_short : eqb n 11 ≡ true → known_end n t ≡ NotKnown
-      says_short e = says_rest true (ap₂ ◌||◌ (ne_eqb n 10 some) e)
-
-      pub says_refused : eqb n 11 ≡ false → known_end n t ≡ Refused (refusal_by (told n t))
-      says_refused e = says_rest false (ap₂ ◌||◌ (ne_eqb n 10 some) e)
+    pub says_refused : (eqb n 10 || eqb n 11) ≡ false → known_end n t ≡ Refused (refusal_by (told n t))
+    says_refused = says_rest false
 
 -- ---- the end of a state that chunks led to
 module _ (chunks : List (List ℕ)) where

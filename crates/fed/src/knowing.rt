@@ -1,26 +1,24 @@
-ghost use Rattle.std.specs.Prelude.{◌≡◌, cond, length};
-ghost use Rattle.feed.specs.Answers.{end_leaves, end_writes};
+ghost use Rattle.std.specs.Prelude.{◌≡◌, ℕ, cond, length};
+ghost use Rattle.feed.specs.Answers.{written_by, end_leaves, end_writes};
 ghost use Rattle.fed.specs.Known.{known_end, left, Knows};
 
 use stick::Known;
 use whole::Refusal;
 
-// What is known once a run was ended: the end's number, and the state that it left. A state that is
+// What is known once a run was ended: what its end gave, and the state that it left. A state that is
 // none, and room too short for the end record, say nothing of the file.
-fn ended(number: u8, state: &[u8]) -> Known
-    ensures { result ≡ known_end number state.now }
+fn ended(end: Result<u64, u8>, state: &[u8]) -> Known
+    ensures { (n : ℕ) → end ≡ written_by n 7 → result ≡ known_end n state.now }
 {
-    if number == 0 {
-        return Known::Complete(feed::steps(state));
+    match end {
+        Ok(_) => Known::Complete(feed::steps(state)),
+        Err(number) if (number == 10) | (number == 11) => Known::NotKnown,
+        Err(number) => Known::Refused(Refusal {
+            number,
+            place: feed::place(state),
+            steps: feed::steps(state),
+        }),
     }
-    if number == 10 || number == 11 {
-        return Known::NotKnown;
-    }
-    Known::Refused(Refusal {
-        number,
-        place: feed::place(state),
-        steps: feed::steps(state),
-    })
 }
 
 // What is known of a file that was fed to a state. Where all of it was fed, or a chunk was refused,
@@ -34,6 +32,5 @@ pub fn known(state: &mut [u8], room: &mut [u8], all: bool) -> Known
     if !all & (feed::own_number(state) == 0) {
         return Known::NotKnown;
     }
-    let f = feed::end(state, room);
-    ended(f.number, state)
+    ended(feed::end(state, room), state)
 }

@@ -21,14 +21,15 @@ use Rattle.taking.specs.Chunk.{gone_by, results_for}
 use Rattle.taking.proofs.FedLaws.{gone_leads}
 use Rattle.taking.proofs.LeadLaws.{more_steps}
 use Rattle.taking.proofs.CountLaws.{results_long}
-use Rattle.taking.proofs.PlacedLaws.{tail_within}
 use Rattle.taking.proofs.WellLaws.{stop_few}
-use Rattle.feed.specs.Answers.{own_number, start_number, start_leaves, fault_of, room_for, end_fault, end_number, end_leaves, end_writes}
+use Rattle.std.proofs.Common.{Err, Ok, Result}
+use Rattle.feed.specs.Answers.{written_by, own_number, start_number, start_leaves, fault_of, room_for, end_fault, end_number, end_leaves, end_writes}
 use Rattle.intake.specs.Posts.{Open}
 use Rattle.intake.proofs.OpenLaws.{open_well}
-use Rattle.intake.proofs.MarkLaws.{mark_place, mark_state, mark_steps, mark_tail, mark_within}
+use Rattle.intake.proofs.MarkLaws.{mark_place, mark_state, mark_steps, mark_tail}
 use Rattle.intake.proofs.KeepLaws.{kept_after}
 use Rattle.feed.proofs.FewLaws.{gone_few}
+use Rattle.feed.proofs.WrittenLaws.{is_written, is_refused}
 
 -- ---- what a state answers: 0 where its run goes on, and nowhere else
 module _ (s : List ℕ) where
@@ -124,10 +125,10 @@ fault_none tail stage e f = fault_at tail stage e true (eq-eqb stage 0 f)
 pub fault_early : (tail stage : ℕ) → tail ≡ 0 → (stage ≡ 0 → ⊥) → 8 ≡ fault_by tail stage
 fault_early tail stage e f = fault_at tail stage e false (ne_eqb stage 0 f)
 
--- ---- the end of a run: the number, the bytes written, the state's bytes and the room afterwards
-abbrev pub Ends : List ℕ → List ℕ → ℕ → ℕ → List ℕ → List ℕ → Type 0
-Ends s room number written t u =
-    (number ≡ end_number s (length room)) × ((written ≡ cond (eqb number 0) 7 0) × ((t ≡ end_leaves s (length room)) × (u ≡ end_writes s room)))
+-- ---- the end of a run: the answer, the state's bytes and the room afterwards
+abbrev pub Ends : List ℕ → List ℕ → Result ℕ ℕ → List ℕ → List ℕ → Type 0
+Ends s room r t u =
+    (r ≡ written_by (end_number s (length room)) 7) × ((t ≡ end_leaves s (length room)) × (u ≡ end_writes s room))
 
 module _ (s room : List ℕ) where
   abbrev n : ℕ
@@ -160,17 +161,17 @@ module _ (s room : List ℕ) where
   unfolding end_writes
   writes_by b e = ap (λ (t : Bool). cond t (laid room 0 (end_of (kept_in s).state.steps)) room) e
 
-  none_written : (number : ℕ) → eqb number 0 ≡ false → ◌≡◌ {A = ℕ} 0 (cond (eqb number 0) 7 0)
-  none_written number e = sym (ap (λ (b : Bool). cond b 7 0) e)
+  stopped : (number : ℕ) → number ≡ end_number s (length room) → (number ≡ 0 → ⊥) → Err number ≡ written_by (end_number s (length room)) 7
+  stopped = is_refused (end_number s (length room)) 7
 
   -- bytes that are none, or a run that is over
-  pub ends_shut : (own : ℕ) → own ≡ own_number s → (own ≡ 0 → ⊥) → Ends s room own 0 s room
+  pub ends_shut : (own : ℕ) → own ≡ own_number s → (own ≡ 0 → ⊥) → Ends s room (Err own) s room
   ends_shut own e some-own =
       let not_own : (own_number s ≡ 0 → ⊥) = λ z. some-own (e ∙ z) in
       let is : end_number s n ≡ own_number s = number_by false (eqb fault 0) (ltb n 7) (ne_eqb (own_number s) 0 not_own) refl refl in
       let some : eqb (end_number s n) 0 ≡ false = ne_eqb (end_number s n) 0 (λ z. not_own (sym is ∙ z)) in (
-        e ∙ sym is,
-        (none_written own (ne_eqb own 0 some-own), (sym (leaves_by_lem false (eqb fault 0) (eqb (end_number s n) 0) (own_shut s not_own) refl refl), sym (writes_by false some))),
+        stopped own (e ∙ sym is) some-own,
+        (sym (leaves_by_lem false (eqb fault 0) (eqb (end_number s n) 0) (own_shut s not_own) refl refl), sym (writes_by false some)),
       )
 
   module _ (zero_own : own_number s ≡ 0) (m : Mark) (em : m ≡ mark_in s) where
@@ -183,7 +184,7 @@ module _ (s room : List ℕ) where
 
     -- within a field, or before the end field
     pub ends_refused : (number : ℕ) → number ≡ fault_by m.tail m.state.stage → (number ≡ 0 → ⊥)
-        → (t : List ℕ) → t ≡ stopped_bytes number (m.place - m.tail) m.state.steps → Ends s room number 0 t room
+        → (t : List ℕ) → t ≡ stopped_bytes number (m.place - m.tail) m.state.steps → Ends s room (Err number) t room
     ends_refused number e faulty t et =
         let ef : number ≡ end_fault (kept_in s) = e ∙ fault_is in
         let some : eqb fault 0 ≡ false = ne_eqb fault 0 (λ z. faulty (ef ∙ z)) in
@@ -192,8 +193,8 @@ module _ (s room : List ℕ) where
         let place : m.place - m.tail ≡ (kept_in s).place - length (kept_in s).tail = ap₂ ◌-◌ (mark_place s m em) (mark_tail s m em going) in
         let left : t ≡ refused =
         et ∙ ap₂ (λ (a b : ℕ). stopped_bytes a b m.state.steps) ef place ∙ ap (stopped_bytes fault ((kept_in s).place - length (kept_in s).tail)) (mark_steps s m em) in (
-          ef ∙ sym is,
-          (none_written number (ne_eqb number 0 faulty), (left ∙ sym (leaves_by_lem true false (eqb (end_number s n) 0) going.is_open_is some refl), sym (writes_by false other))),
+          stopped number (ef ∙ sym is) faulty,
+          (left ∙ sym (leaves_by_lem true false (eqb (end_number s n) 0) going.is_open_is some refl), sym (writes_by false other)),
         )
 
     module _ (may : 0 ≡ fault_by m.tail m.state.stage) where
@@ -201,24 +202,21 @@ module _ (s room : List ℕ) where
       none = eq-eqb fault 0 (sym (may ∙ fault_is))
 
       -- the room is too short
-      pub ends_short : length room < 7 → Ends s room 11 0 s room
+      pub ends_short : length room < 7 → Ends s room (Err 11) s room
       ends_short h =
           let is : end_number s n ≡ 11 = number_by true true true (eq-eqb (own_number s) 0 zero_own) none (lt-ltb n 7 h) in
           let other : eqb (end_number s n) 0 ≡ false = ap (λ (k : ℕ). eqb k 0) is in
-          (sym is, (refl, (sym (leaves_by_lem true true false going.is_open_is none other), sym (writes_by false other))))
+          (stopped 11 (sym is) (λ z. omega arith), (sym (leaves_by_lem true true false going.is_open_is none other), sym (writes_by false other)))
 
       -- the run is over
-      pub ends_over : 7 ≤ length room → (t u : List ℕ) → t ≡ stopped_bytes 9 m.place m.state.steps → u ≡ laid room 0 (end_of m.state.steps) → Ends s room 0 7 t u
+      pub ends_over : 7 ≤ length room → (t u : List ℕ) → t ≡ stopped_bytes 9 m.place m.state.steps → u ≡ laid room 0 (end_of m.state.steps) → Ends s room (Ok 7) t u
       ends_over h t u et eu =
           let is : end_number s n ≡ 0 = number_by true true false (eq-eqb (own_number s) 0 zero_own) none (le-ltb n 7 h) in
           let nought : eqb (end_number s n) 0 ≡ true = eq-eqb (end_number s n) 0 is in (
-            sym is,
+            is_written (end_number s n) 7 7 refl is,
             (
-              refl,
-              (
-                et ∙ ap₂ (stopped_bytes 9) (mark_place s m em) (mark_steps s m em) ∙ sym (leaves_by_lem true true true going.is_open_is none nought),
-                eu ∙ ap (λ (k : ℕ). laid room 0 (end_of k)) (mark_steps s m em) ∙ sym (writes_by true nought),
-              ),
+              et ∙ ap₂ (stopped_bytes 9) (mark_place s m em) (mark_steps s m em) ∙ sym (leaves_by_lem true true true going.is_open_is none nought),
+              eu ∙ ap (λ (k : ℕ). laid room 0 (end_of k)) (mark_steps s m em) ∙ sym (writes_by true nought),
             ),
           )
 

@@ -15,17 +15,18 @@ use Rattle.kept.specs.Layout.{place_most, mark_in, kept_in, bytes_for, stopped_b
 use Rattle.taking.specs.Chunk.{gone_by, fed_by, results_for}
 use Rattle.taking.proofs.WellLaws.{stop_few, stop_place}
 use Rattle.kept.specs.Formed.{is_open}
-use Rattle.feed.specs.Answers.{own_number, fault_of, room_for, feed_number, fault_leaves, feed_leaves, feed_writes}
+use Rattle.std.proofs.Common.{Err, Ok, Result}
+use Rattle.feed.specs.Answers.{written_by, own_number, fault_of, room_for, feed_number, fault_leaves, feed_leaves, feed_writes}
 use Rattle.intake.specs.Posts.{Open, Gone}
 use Rattle.intake.proofs.OpenLaws.{open_well}
+use Rattle.feed.proofs.WrittenLaws.{is_written, is_refused}
 use Rattle.feed.proofs.CallLaws.{own_open, own_shut, room_by, fault_by_lem}
 use Rattle.intake.proofs.MarkLaws.{mark_place, mark_tail}
 
--- the number, the bytes written, the state's bytes and the room afterwards
-abbrev pub Feeds : List ℕ → List ℕ → List ℕ → ℕ → ℕ → List ℕ → List ℕ → Type 0
-Feeds s chunk room number written t u =
-    (number ≡ feed_number s chunk (length room))
-    × ((written ≡ cond (eqb number 0) (room_for s chunk) 0) × ((t ≡ feed_leaves s chunk (length room)) × (u ≡ feed_writes s chunk room)))
+-- the answer, the state's bytes and the room afterwards
+abbrev pub Feeds : List ℕ → List ℕ → List ℕ → Result ℕ ℕ → List ℕ → List ℕ → Type 0
+Feeds s chunk room r t u =
+    (r ≡ written_by (feed_number s chunk (length room)) (room_for s chunk)) × ((t ≡ feed_leaves s chunk (length room)) × (u ≡ feed_writes s chunk room))
 
 module _ (s chunk room : List ℕ) where
   abbrev n : ℕ
@@ -61,20 +62,17 @@ module _ (s chunk room : List ℕ) where
   unfolding feed_writes
   writes_by b e = ap (λ (t : Bool). cond t (laid room 0 (results_for (kept_in s) chunk)) room) e
 
-  none_written : (number : ℕ) → eqb number 0 ≡ false → ◌≡◌ {A = ℕ} 0 (cond (eqb number 0) (room_for s chunk) 0)
-  none_written number e = sym (ap (λ (b : Bool). cond b need 0) e)
+  stopped : (number : ℕ) → number ≡ feed_number s chunk (length room) → (number ≡ 0 → ⊥) → Err number ≡ written_by (feed_number s chunk (length room)) (room_for s chunk)
+  stopped = is_refused (feed_number s chunk (length room)) (room_for s chunk)
 
   -- bytes that are none, or a run that is over
-  pub feeds_shut : (own : ℕ) → own ≡ own_number s → (own ≡ 0 → ⊥) → Feeds s chunk room own 0 s room
+  pub feeds_shut : (own : ℕ) → own ≡ own_number s → (own ≡ 0 → ⊥) → Feeds s chunk room (Err own) s room
   feeds_shut own e some-own =
       let not_own : (own_number s ≡ 0 → ⊥) = λ z. some-own (e ∙ z) in
       let is : feed_number s chunk n ≡ own_number s = number_by false (eqb fault 0) (ltb n need) (ne_eqb (own_number s) 0 not_own) refl refl in
       let some : eqb (feed_number s chunk n) 0 ≡ false = ne_eqb (feed_number s chunk n) 0 (λ z. not_own (sym is ∙ z)) in (
-        e ∙ sym is,
-        (
-          none_written own (ne_eqb own 0 some-own),
-          (sym (leaves_by_lem false (eqb fault 0) (eqb (feed_number s chunk n) 0) (own_shut s not_own) refl refl), sym (writes_by false some)),
-        ),
+        stopped own (e ∙ sym is) some-own,
+        (sym (leaves_by_lem false (eqb fault 0) (eqb (feed_number s chunk n) 0) (own_shut s not_own) refl refl), sym (writes_by false some)),
       )
 
   module _ (zero_own : own_number s ≡ 0) (m : Mark) (em : m ≡ mark_in s) (r : Reached) (er : r ≡ gone_by (kept_in s) chunk) where
@@ -96,7 +94,7 @@ module _ (s chunk room : List ℕ) where
 
     -- a fault
     pub feeds_refused : 1 < r.number → (t : List ℕ) → t ≡ stopped_bytes r.number (m.place - m.tail + r.at) r.state.steps
-        → Feeds s chunk room r.number 0 t room
+        → Feeds s chunk room (Err r.number) t room
     unfolding fault_leaves
     feeds_refused h t et =
         let f : fault ≡ far.number = fault_by_lem s chunk false (lt-leb far.number 1 (omega (arith, far_number))) in
@@ -107,11 +105,8 @@ module _ (s chunk room : List ℕ) where
         et
         ∙ ap₂ (λ (a b : ℕ). stopped_bytes a b r.state.steps) far_number place_is
         ∙ ap (λ (x : Reached). stopped_bytes far.number (k.place - length k.tail + far.at) x.state.steps) er in (
-          far_number ∙ sym f ∙ sym is,
-          (
-            none_written r.number (ne_eqb r.number 0 (λ z. omega arith)),
-            (left ∙ sym (leaves_by_lem true false (eqb (feed_number s chunk n) 0) going.is_open_is some refl), sym (writes_by false other)),
-          ),
+          stopped r.number (far_number ∙ sym f ∙ sym is) (λ z. omega arith),
+          (left ∙ sym (leaves_by_lem true false (eqb (feed_number s chunk n) 0) going.is_open_is some refl), sym (writes_by false other)),
         )
 
     module _ (fair : r.number ≤ 1) where
@@ -126,19 +121,19 @@ module _ (s chunk room : List ℕ) where
 
       module _ (size : ℕ) (es : size ≡ room_for s chunk) where
         -- the room is too short
-        pub feeds_short : length room < size → Feeds s chunk room 11 0 s room
+        pub feeds_short : length room < size → Feeds s chunk room (Err 11) s room
         feeds_short h =
             let is : feed_number s chunk n ≡ 11 = number_by true true true (eq-eqb (own_number s) 0 zero_own) none (lt-ltb n need (omega (arith, es, h))) in
             let other : eqb (feed_number s chunk n) 0 ≡ false = ap (λ (x : ℕ). eqb x 0) is in
-            (sym is, (refl, (sym (leaves_by_lem true true false going.is_open_is none other), sym (writes_by false other))))
+            (stopped 11 (sym is) (λ z. omega arith), (sym (leaves_by_lem true true false going.is_open_is none other), sym (writes_by false other)))
 
         pub room_there : size ≤ length room → length (results_for (kept_in s) chunk) ≤ length room
         room_there h = omega (arith, es, h, room_long)
 
         -- the chunk is taken in
         pub feeds_in : size ≤ length room → (t u : List ℕ) → t ≡ bytes_for (fed_by (kept_in s) chunk) → u ≡ laid room 0 (results_for (kept_in s) chunk)
-            → Feeds s chunk room 0 size t u
+            → Feeds s chunk room (Ok size) t u
         feeds_in h t u et eu =
             let is : feed_number s chunk n ≡ 0 = number_by true true false (eq-eqb (own_number s) 0 zero_own) none (le-ltb n need (omega (arith, es, h))) in
             let nought : eqb (feed_number s chunk n) 0 ≡ true = eq-eqb (feed_number s chunk n) 0 is in
-            (sym is, (es, (et ∙ sym (leaves_by_lem true true true going.is_open_is none nought), eu ∙ sym (writes_by true nought))))
+            (is_written (feed_number s chunk n) need size es is, (et ∙ sym (leaves_by_lem true true true going.is_open_is none nought), eu ∙ sym (writes_by true nought)))

@@ -1,6 +1,6 @@
 -- What the calls of a fed run answer for any bytes, and what state and room hold afterwards (rules E2 to E7): a state that is none, 10; a run that was
 -- refused or is over, its own number; a fault; 11 where the room is too short; or 0. What is not said to change stands.
-use Rattle.std.specs.Prelude.{ℕ, ◌+◌, ◌-◌, Bool, not, cond, ◌&&◌, List, leb, ltb, eqb, length, drop}
+use Rattle.std.specs.Prelude.{ℕ, ◌+◌, ◌-◌, not, cond, ◌&&◌, List, leb, ltb, eqb, length, Err, Ok, Result}
 use Rattle.octets.specs.BigEndian.{laid}
 use Rattle.fields.specs.Fields.{at_end}
 use Rattle.records.specs.Records.{end_of, end_bytes}
@@ -8,6 +8,10 @@ use Rattle.kept.specs.Kept.{Kept, at_start}
 use Rattle.kept.specs.Layout.{state_size, number_in, place_in, steps_kept, bytes_for, stopped_bytes, kept_in}
 use Rattle.kept.specs.Formed.{well_formed, is_open}
 use Rattle.taking.specs.Chunk.{gone_by, fed_by, results_for}
+
+-- an answer as it is given, by its number: the bytes written, or the number of the refusal
+abbrev pub written_by : ℕ → ℕ → Result ℕ ℕ
+written_by number bytes = cond (eqb number 0) (Ok bytes) (Err number)
 
 -- what a state answers before its call is looked at: 0 where the run goes on
 unfoldable pub own_number : List ℕ → ℕ

@@ -1,7 +1,6 @@
 ghost use Rattle.std.specs.Prelude.{◌≡◌, cond, not, ◌+◌, ◌-◌, ◌*◌, ◌≤◌, eqb, length};
-ghost use Rattle.feed.specs.Answers.{own_number, start_number, start_leaves, room_for, end_number, end_leaves, end_writes, place_told, steps_told};
+ghost use Rattle.feed.specs.Answers.{written_by, own_number, start_number, start_leaves, room_for, end_number, end_leaves, end_writes, place_told, steps_told};
 
-use super::Fed;
 use fields::{AT_END, State};
 use kept::{Mark, SITE, SIZE};
 use records::{END_BYTES, RECORD_BYTES, ROOF_RECORD_BYTES};
@@ -58,39 +57,29 @@ fn end_fault(m: Mark) -> u8
     if m.state.stage == AT_END { 0 } else { 8 }
 }
 
-// Ends a run: the number of a refusal, or 0 and the bytes of the end record.
-pub fn end(s: &mut [u8], room: &mut [u8]) -> Fed
-    ensures number_value { result.number ≡ end_number s.old (length room.old) }
-    ensures written_value { result.written ≡ cond (eqb result.number 0) 7 0 }
+// Ends a run: the bytes of the end record, or the number of a refusal.
+pub fn end(s: &mut [u8], room: &mut [u8]) -> Result<u64, u8>
+    ensures value { result ≡ written_by (end_number s.old (length room.old)) 7 }
     ensures s_after { s.new ≡ end_leaves s.old (length room.old) }
     ensures room_after { room.new ≡ end_writes s.old room.old }
 {
     let own = own_number(s);
     if own != 0 {
-        return Fed {
-            number: own,
-            written: 0,
-        };
+        return Err(own);
     }
     let m = kept::marked(s);
     let steps = m.state.steps;
     let number = end_fault(m);
     if number != 0 {
         kept::stop(s, number, m.place - (m.tail as u64), steps);
-        return Fed { number, written: 0 };
+        return Err(number);
     }
     if room.len() < END_BYTES {
-        return Fed {
-            number: 11,
-            written: 0,
-        };
+        return Err(11);
     }
     records::put_end(room, 0, steps);
     kept::stop(s, 9, m.place, steps);
-    Fed {
-        number: 0,
-        written: END_BYTES as u64,
-    }
+    Ok(END_BYTES as u64)
 }
 
 // Makes lent bytes the state before any byte of a file.

@@ -29,13 +29,13 @@ pub extern "C" fn yb_feed(state: &mut [u8], chunk: &[u8], room: &mut [u8], writt
     ensures room_after { room.new ≡ feed_writes state.old chunk.now room.old }
     ensures written_after { written.new ≡ cond (eqb result 0) (room_for state.old chunk.now) written.old }
 {
-    let f = feed::feed(state, chunk, room);
-    let number = f.number;
-    if number != 0 {
-        return number as u32;
+    match feed::feed(state, chunk, room) {
+        Ok(bytes) => {
+            *written = bytes;
+            0
+        }
+        Err(number) => number as u32,
     }
-    *written = f.written;
-    0
 }
 
 // The end of a file: 0, the end record, its bytes, and a state that is over; or 10, the number of an
@@ -47,13 +47,13 @@ pub extern "C" fn yb_feed_end(state: &mut [u8], room: &mut [u8], written: &mut u
     ensures room_after { room.new ≡ end_writes state.old room.old }
     ensures written_after { written.new ≡ cond (eqb result 0) 7 written.old }
 {
-    let f = feed::end(state, room);
-    let number = f.number;
-    if number != 0 {
-        return number as u32;
+    match feed::end(state, room) {
+        Ok(bytes) => {
+            *written = bytes;
+            0
+        }
+        Err(number) => number as u32,
     }
-    *written = f.written;
-    0
 }
 
 // The bytes that feeding a chunk would write, 0 if it would be refused.

@@ -27,7 +27,7 @@ shape_of-s-then-own-ne0 c = refl
 
 pub returns-then-own-ne0 : goal.returns-then-own-ne0
 returns-then-own-ne0 c =
-    let a = c.args in let parts = ends_shut a.s.now a.room.now c.own_number-own.result c.own_number-own.ensures c.if-own-ne0.true in record { number_value = parts.0; written_value = parts.1.0; s_after = parts.1.1.0; room_after = parts.1.1.1 }
+    let a = c.args in let parts = ends_shut a.s.now a.room.now c.own_number-own.result c.own_number-own.ensures c.if-own-ne0.true in record { value = parts.0; s_after = parts.1.0; room_after = parts.1.1 }
 
 pub marked-m-requires : goal.marked-m-requires
 marked-m-requires c = open_sized c.args.s.now (going c)
@@ -48,14 +48,14 @@ shape_of-s-then-number-ne0 c = c.stop.auto.s
 
 pub returns-then-number-ne0 : goal.returns-then-number-ne0
 returns-then-number-ne0 c =
-    let a = c.args in let parts = ends_refused a.s.now a.room.now (zero_own (goal.at.returns-then-number-ne0 c).Else-own-ne0) c.marked-m.result c.marked-m.ensures c.end_fault-number.result c.end_fault-number.ensures c.if-number-ne0.true c.stop.new.s c.stop.ensures in record { number_value = parts.0; written_value = parts.1.0; s_after = parts.1.1.0; room_after = parts.1.1.1 }
+    let a = c.args in let parts = ends_refused a.s.now a.room.now (zero_own (goal.at.returns-then-number-ne0 c).Else-own-ne0) c.marked-m.result c.marked-m.ensures c.end_fault-number.result c.end_fault-number.ensures c.if-number-ne0.true c.stop.new.s c.stop.ensures in record { value = parts.0; s_after = parts.1.0; room_after = parts.1.1 }
 
 pub shape_of-s-then-room-lt-END_BYTES : goal.shape_of-s-then-room-lt-END_BYTES
 shape_of-s-then-room-lt-END_BYTES c = refl
 
 pub returns-then-room-lt-END_BYTES : goal.returns-then-room-lt-END_BYTES
 returns-then-room-lt-END_BYTES c =
-    let a = c.args in let parts = ends_short a.s.now a.room.now (zero_own (goal.at.returns-then-room-lt-END_BYTES c).Else-own-ne0) c.marked-m.result c.marked-m.ensures (may (goal.at.returns-then-room-lt-END_BYTES c).Else-number-ne0) c.if-room-lt-END_BYTES.true in record { number_value = parts.0; written_value = parts.1.0; s_after = parts.1.1.0; room_after = parts.1.1.1 }
+    let a = c.args in let parts = ends_short a.s.now a.room.now (zero_own (goal.at.returns-then-room-lt-END_BYTES c).Else-own-ne0) c.marked-m.result c.marked-m.ensures (may (goal.at.returns-then-room-lt-END_BYTES c).Else-number-ne0) c.if-room-lt-END_BYTES.true in record { value = parts.0; s_after = parts.1.0; room_after = parts.1.1 }
 
 pub stop-requires-2 : goal.stop-requires-2
 stop-requires-2 c =
@@ -69,4 +69,4 @@ shape_of-room c = c.put_end.auto.room
 
 pub returns : goal.returns
 returns c =
-    let a = c.args in let parts = ends_over a.s.now a.room.now (zero_own (goal.at.returns c).Else-own-ne0) c.marked-m.result c.marked-m.ensures (may (goal.at.returns c).Else-number-ne0) c.if-room-lt-END_BYTES.false c.stop-2.new.s c.put_end.new.room c.stop-2.ensures c.put_end.ensures in record { number_value = parts.0; written_value = parts.1.0; s_after = parts.1.1.0; room_after = parts.1.1.1 }
+    let a = c.args in let parts = ends_over a.s.now a.room.now (zero_own (goal.at.returns c).Else-own-ne0) c.marked-m.result c.marked-m.ensures (may (goal.at.returns c).Else-number-ne0) c.if-room-lt-END_BYTES.false c.stop-2.new.s c.put_end.new.room c.stop-2.ensures c.put_end.ensures in record { value = parts.0; s_after = parts.1.0; room_after = parts.1.1 }

@@ -33,7 +33,7 @@ shape_of-s-then-number-ne0 c = refl
 
 pub returns-then-number-ne0 : goal.returns-then-number-ne0
 returns-then-number-ne0 c =
-    let a = c.args in let parts = feeds_shut a.s.now a.chunk.now a.room.now c.own_number-number.result c.own_number-number.ensures c.if-number-ne0.true in record { number_value = parts.0; written_value = parts.1.0; s_after = parts.1.1.0; room_after = parts.1.1.1 }
+    let a = c.args in let parts = feeds_shut a.s.now a.chunk.now a.room.now c.own_number-number.result c.own_number-number.ensures c.if-number-ne0.true in record { value = parts.0; s_after = parts.1.0; room_after = parts.1.1 }
 
 pub marked-m-requires : goal.marked-m-requires
 marked-m-requires c = open_sized (first c).args.s.now (going c)
@@ -59,7 +59,7 @@ shape_of-s-then-r-gt1 c = c.stop.auto.s
 
 pub returns-then-r-gt1 : goal.returns-then-r-gt1
 returns-then-r-gt1 c =
-    let a = (first (goal.at.returns-then-r-gt1 c).Else-number-ne0).args in let parts = feeds_refused a.s.now a.chunk.now a.room.now (zero_own (goal.at.returns-then-r-gt1 c).Else-number-ne0) c.marked-m.result c.marked-m.ensures c.gone-r.result c.gone-r.ensures c.if-r-gt1.true c.stop.new.s c.stop.ensures in record { number_value = parts.0; written_value = parts.1.0; s_after = parts.1.1.0; room_after = parts.1.1.1 }
+    let a = (first (goal.at.returns-then-r-gt1 c).Else-number-ne0).args in let parts = feeds_refused a.s.now a.chunk.now a.room.now (zero_own (goal.at.returns-then-r-gt1 c).Else-number-ne0) c.marked-m.result c.marked-m.ensures c.gone-r.result c.gone-r.ensures c.if-r-gt1.true c.stop.new.s c.stop.ensures in record { value = parts.0; s_after = parts.1.0; room_after = parts.1.1 }
 
 pub needed-size-requires : goal.needed-size-requires
 needed-size-requires c =
@@ -70,7 +70,7 @@ shape_of-s-then-room-size c = refl
 
 pub returns-then-room-size : goal.returns-then-room-size
 returns-then-room-size c =
-    let a = (first (goal.at.returns-then-room-size c).Else-number-ne0).args in let parts = feeds_short a.s.now a.chunk.now a.room.now (zero_own (goal.at.returns-then-room-size c).Else-number-ne0) c.marked-m.result c.marked-m.ensures c.gone-r.result c.gone-r.ensures c.if-r-gt1.false c.needed-size.result (size_is (goal.at.returns-then-room-size c).After-needed-size) c.if-room-size.true in record { number_value = parts.0; written_value = parts.1.0; s_after = parts.1.1.0; room_after = parts.1.1.1 }
+    let a = (first (goal.at.returns-then-room-size c).Else-number-ne0).args in let parts = feeds_short a.s.now a.chunk.now a.room.now (zero_own (goal.at.returns-then-room-size c).Else-number-ne0) c.marked-m.result c.marked-m.ensures c.gone-r.result c.gone-r.ensures c.if-r-gt1.false c.needed-size.result (size_is (goal.at.returns-then-room-size c).After-needed-size) c.if-room-size.true in record { value = parts.0; s_after = parts.1.0; room_after = parts.1.1 }
 
 pub take_in-requires : goal.take_in-requires
 take_in-requires c =
@@ -85,4 +85,4 @@ shape_of-room c = c.take_in.auto.room
 pub returns : goal.returns
 returns c =
     let a = (first (goal.at.returns c).Else-number-ne0).args in let parts = feeds_in a.s.now a.chunk.now a.room.now (zero_own (goal.at.returns c).Else-number-ne0) c.marked-m.result c.marked-m.ensures c.gone-r.result c.gone-r.ensures c.if-r-gt1.false c.needed-size.result (size_is (goal.at.returns c).After-needed-size) c.if-room-size.false
-    c.take_in.new.s c.take_in.new.room c.take_in.ensures.s_after c.take_in.ensures.room_after in record { number_value = parts.0; written_value = parts.1.0; s_after = parts.1.1.0; room_after = parts.1.1.1 }
+    c.take_in.new.s c.take_in.new.room c.take_in.ensures.s_after c.take_in.ensures.room_after in record { value = parts.0; s_after = parts.1.0; room_after = parts.1.1 }
