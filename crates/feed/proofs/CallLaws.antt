@@ -22,7 +22,7 @@ use Rattle.taking.proofs.FedLaws.{gone_leads}
 use Rattle.taking.proofs.LeadLaws.{more_steps}
 use Rattle.taking.proofs.CountLaws.{results_long}
 use Rattle.taking.proofs.WellLaws.{stop_few}
-use Rattle.std.proofs.Common.{Err, Ok, Result}
+use Rattle.std.proofs.Common.{Err, Ok, Result, None, Some, Option}
 use Rattle.feed.specs.Answers.{written_by, own_number, start_number, start_leaves, fault_of, room_for, end_fault, end_number, end_leaves, end_writes}
 use Rattle.intake.specs.Posts.{Open}
 use Rattle.intake.proofs.OpenLaws.{open_well}
@@ -113,17 +113,25 @@ module _ (s chunk : List ℕ) where
 abbrev pub fault_by : ℕ → ℕ → ℕ
 fault_by tail stage = cond (not (eqb tail 0)) 1 (cond (eqb stage 0) 0 8)
 
-pub fault_within : (tail stage : ℕ) → (tail ≡ 0 → ⊥) → 1 ≡ fault_by tail stage
-fault_within tail stage n = sym (ap (λ (b : Bool). cond (not b) 1 (cond (eqb stage 0) 0 8)) (ne_eqb tail 0 n))
+-- as the code tells it
+abbrev pub told_by : ℕ → ℕ → Option ℕ
+told_by tail stage = cond (not (eqb tail 0)) (Some 1) (cond (eqb stage 0) None (Some 8))
 
-fault_at : (tail stage : ℕ) → tail ≡ 0 → (b : Bool) → eqb stage 0 ≡ b → cond b 0 8 ≡ fault_by tail stage
-fault_at tail stage e b f = sym (ap₂ (λ (x y : Bool). cond (not x) 1 (cond y 0 8)) (eq-eqb tail 0 e) f)
+pub fault_told : (tail stage n : ℕ) → Some n ≡ told_by tail stage → (n ≡ fault_by tail stage) × (n ≡ 0 → ⊥)
+fault_told tail stage n = go (eqb tail 0) (eqb stage 0)
+  where
+    go : (a b : Bool) → Some n ≡ cond (not a) (Some 1) (cond b None (Some 8)) → (n ≡ cond (not a) 1 (cond b 0 8)) × (n ≡ 0 → ⊥)
+    go false b e = let one : n ≡ 1 = cc in (one, λ z. omega arith)
+    go true true e = cc
+    go true false e = let eight : n ≡ 8 = cc in (eight, λ z. omega arith)
 
-pub fault_none : (tail stage : ℕ) → tail ≡ 0 → stage ≡ 0 → 0 ≡ fault_by tail stage
-fault_none tail stage e f = fault_at tail stage e true (eq-eqb stage 0 f)
-
-pub fault_early : (tail stage : ℕ) → tail ≡ 0 → (stage ≡ 0 → ⊥) → 8 ≡ fault_by tail stage
-fault_early tail stage e f = fault_at tail stage e false (ne_eqb stage 0 f)
+pub none_told : (tail stage : ℕ) → None ≡ told_by tail stage → 0 ≡ fault_by tail stage
+none_told tail stage = go (eqb tail 0) (eqb stage 0)
+  where
+    go : (a b : Bool) → ◌≡◌ {A = Option ℕ} None (cond (not a) (Some 1) (cond b None (Some 8))) → ◌≡◌ {A = ℕ} 0 (cond (not a) 1 (cond b 0 8))
+    go false b e = cc
+    go true true e = refl
+    go true false e = cc
 
 -- ---- the end of a run: the answer, the state's bytes and the room afterwards
 abbrev pub Ends : List ℕ → List ℕ → Result ℕ ℕ → List ℕ → List ℕ → Type 0

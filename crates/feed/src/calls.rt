@@ -1,4 +1,4 @@
-ghost use Rattle.std.specs.Prelude.{◌≡◌, cond, not, ◌+◌, ◌-◌, ◌*◌, ◌≤◌, eqb, length};
+ghost use Rattle.std.specs.Prelude.{◌≡◌, cond, not, ◌+◌, ◌-◌, ◌*◌, ◌≤◌, eqb, length, None, Some};
 ghost use Rattle.feed.specs.Answers.{written_by, own_number, start_number, start_leaves, room_for, end_number, end_leaves, end_writes, place_told, steps_told};
 
 use fields::{AT_END, State};
@@ -47,14 +47,18 @@ pub fn room(s: &[u8], chunk: &[u8]) -> u64
     needed(st, next)
 }
 
-// Why a file may not end here: 1 within a field, 8 before its end field; 0 where it may.
-fn end_fault(m: Mark) -> u8
-    ensures { result ≡ cond (not (eqb m.tail 0)) 1 (cond (eqb m.state.stage 0) 0 8) }
+// Why a file may not end here: 1 within a field, 8 before its end field.
+fn end_fault(m: Mark) -> Option<u8>
+    ensures { result ≡ cond (not (eqb m.tail 0)) (Some 1) (cond (eqb m.state.stage 0) None (Some 8)) }
 {
     if m.tail != 0 {
-        return 1;
+        return Some(1);
     }
-    if m.state.stage == AT_END { 0 } else { 8 }
+    if m.state.stage == AT_END {
+        None
+    } else {
+        Some(8)
+    }
 }
 
 // Ends a run: the bytes of the end record, or the number of a refusal.
@@ -69,8 +73,7 @@ pub fn end(s: &mut [u8], room: &mut [u8]) -> Result<u64, u8>
     }
     let m = kept::marked(s);
     let steps = m.state.steps;
-    let number = end_fault(m);
-    if number != 0 {
+    if let Some(number) = end_fault(m) {
         kept::stop(s, number, m.place - (m.tail as u64), steps);
         return Err(number);
     }
