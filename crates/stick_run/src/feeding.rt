@@ -47,12 +47,10 @@ fn give(
     room: &mut [u8],
     output: &mut Output,
 ) -> Result<(), Halt> {
-    let f = feed::feed(state, piece, room);
-    let n = f.written as usize;
-    match f.number {
-        0 => put(out, &room[0..n], output),
-        11 => Err(Halt::TooSmall),
-        _ => Err(Halt::Refused),
+    match feed::feed(state, piece, room) {
+        Ok(bytes) => put(out, &room[0..bytes as usize], output),
+        Err(11) => Err(Halt::TooSmall),
+        Err(_) => Err(Halt::Refused),
     }
 }
 
