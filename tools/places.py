@@ -37,6 +37,21 @@ def shape(body):
     return re.sub(r"[A-Za-z_][\w:]*", lambda m: m[0] if m[0] in kept else names.setdefault(m[0], f"v{len(names)}"), body)
 
 
+# What is told by a line alone.
+LINES = {
+    "1 enums": r"^(pub )?enum ",
+    "1 flags and numbers beside values": r"^    (pub )?(number: u8|(ended|failed|on|lost|leads|fresh|led): bool),$",
+    "1 numbers for kinds": r"^(pub )?const [A-Z_]+: u8",
+    "1 numbers given back": r"fn \w*(number|fault|refus\w*|head|value|end|start|unless|power|current|weather|kind\w*|stage|curve)\(.*\) -> u8$",
+    "3 while": r"^ *while ",
+    "3 for": r"^ *for ",
+    "6 packed rows": "u64; 24",
+    "6 buffers cut to a length": r"&mut [a-z]+\[0\.\.",
+    "7 switches": r"match (kind|stage|tag|mode|v\.number)\b|if (kind|tag) ==",
+    "4 smaller, size and flag by hand": r"if (\w+) <=? (\w+) \{ (\1|\2) \} else \{ (\1|\2) \}|\b(least|size)(32|64)\(|if \w+(\.\w+)? \{ 1 \} else \{ 0 \}",
+}
+
+
 def literals(text):
     """Struct literals: type and the lines of their fields."""
     for m in re.finditer(r"\b([A-Z]\w+) \{\n((?:[ ]+\w+(?:: [^\n{]+)?,\n)+)[ ]*\}", text):
@@ -50,26 +65,9 @@ def places(rev):
         short = name.removeprefix("crates/").replace("/src/", "/")
         for number, line in enumerate(text.split("\n"), 1):
             at = f"{short}:{number}: {line.strip()}"
-            if re.match(r"(pub )?enum ", line):
-                found["1 enums"].append(at)
-            if re.match(r"    (pub )?(number: u8|(ended|failed|on|lost|leads|fresh|led): bool),$", line):
-                found["1 flags and numbers beside values"].append(at)
-            if re.match(r"(pub )?const [A-Z_]+: u8", line):
-                found["1 numbers for kinds"].append(at)
-            if re.search(r"fn \w*(number|fault|refus\w*|head|value|end|start|unless|power|current|weather|kind\w*|stage|curve)\(.*\) -> u8$", line):
-                found["1 numbers given back"].append(at)
-            if re.match(r" *while ", line):
-                found["3 while"].append(at)
-            if re.match(r" *for ", line):
-                found["3 for"].append(at)
-            if "u64; 24" in line:
-                found["6 packed rows"].append(at)
-            if re.search(r"&mut [a-z]+\[0\.\.", line):
-                found["6 buffers cut to a length"].append(at)
-            if re.search(r"match (kind|stage|tag|mode|v\.number)\b|if (kind|tag) ==", line):
-                found["7 switches"].append(at)
-            if re.search(r"if (\w+) <=? (\w+) \{ (\1|\2) \} else \{ (\1|\2) \}|\b(least|size)(32|64)\(|if \w+(\.\w+)? \{ 1 \} else \{ 0 \}", line):
-                found["4 smaller, size and flag by hand"].append(at)
+            for title, pattern in LINES.items():
+                if re.search(pattern, line):
+                    found[title].append(at)
         for kind, fields, number in literals(text):
             taken = [re.match(r"\s*(\w+): (\w+)\.(\w+),$", f) for f in fields]
             same = collections.Counter(m[2] for m in taken if m and m[1] == m[3])
