@@ -1,20 +1,28 @@
-use Rattle.std.proofs.Common.{rules, tests}
-use Rattle.std.proofs.lemmas.Iterator.{YieldsList-from_slice}
-use Rattle.std.proofs.lemmas.Iterator.Search.{all_from_yields_List}
-use Prim.Native.Nat.{ℕ, ◌-◌}
-use mathlib.Core.Path.{◌∙◌}
-use mathlib.Core.Bool.{Bool}
+use Prim.Native.Nat.{ℕ, ◌+◌, ◌-◌}
+use mathlib.Core.Path.{◌≡◌, refl, sym, ap, ap₂, ◌∙◌}
+use mathlib.Core.Bool.{◌&&◌}
 use native.Mathlib.Omega.{arith}
 use lib.Dec.{eqb}
-use lib.ListN.{take, drop}
+use lib.ListN.{get_or}
+use Rattle.whole.specs.Over.{all_of}
+use Rattle.whole.proofs.OverLaws.{all_next}
 use Rattle.kept.specs.Formed.{clear}
-use Rattle.kept.proofs.PieceLaws.{part_passes}
 use Rattle.kept.proofs.pieces.is_clear.Goals as goal
+
+pub loop-i-init : goal.loop-i-init
+unfolding all_of
+loop-i-init c = (omega arith, refl)
+
+pub loop-i-preserved : goal.loop-i-preserved
+loop-i-preserved c =
+    let a = c.args in (
+      omega arith,
+      ap₂ ◌&&◌ c.loop-i.invariant.1 refl ∙ sym (all_next c.loop-i.i (λ (k : ℕ). eqb (get_or a.s.now (a.from + k) 0) 0)),
+    )
 
 pub returns : goal.returns
 unfolding clear
 returns c =
     let a = c.args in
-    let zero : ℕ → Bool = λ (x : ℕ). eqb x 0 in
-    all_from_yields_List zero _ _ _ c.all.ensures.ran (YieldsList-from_slice (take (a.to - a.from) (drop a.from a.s.now)) cc) (λ x b q k. search (rules, tests))
-    ∙ part_passes zero a.s.now a.from (a.to - a.from) (omega arith)
+    let e : c.loop-i.i ≡ a.to - a.from = omega (arith, c.loop-i.invariant.0) in
+    c.loop-i.invariant.1 ∙ ap (λ (n : ℕ). all_of n (λ (k : ℕ). eqb (get_or a.s.now (a.from + k) 0) 0)) e
