@@ -1,15 +1,21 @@
 // Bytes as the import tool shows them: two upper-case hex digits each, at most 16 to a line.
 use std::{fmt, io};
 
-// A line of them, indented.
+// The digits of bytes.
+const DIGITS: [u8; 16] = *b"0123456789ABCDEF";
+
+// A line of them, indented. Each digit is written as a character: a number's own format takes several
+// times as long.
 #[derive(Drop)]
 struct HexLine<'a>(&'a [u8]);
 
 impl fmt::Display for HexLine<'_> {
     fn fmt<W: fmt::Write>(&self, f: &mut fmt::Formatter<W>) -> fmt::Result {
-        write!(f, "       ")?;
+        f.write_str("       ")?;
         for byte in self.0 {
-            write!(f, " {byte:02X}")?;
+            f.write_char(' ')?;
+            f.write_char(DIGITS[(*byte / 16) as usize] as char)?;
+            f.write_char(DIGITS[(*byte % 16) as usize] as char)?;
         }
         Ok(())
     }

@@ -1,8 +1,7 @@
-ghost use Rattle.std.specs.Prelude.{◌≡◌, ◌<◌, IfOk, IfSome, None, length, take};
+ghost use Rattle.std.specs.Prelude.{◌≡◌, ◌<◌, IfSome, length, take};
 ghost use Rattle.std.specs.Io.KnownBytes.{Consumes, IsAtEnd};
 ghost use Rattle.screen.specs.Counts.{IsPrefixLen};
 
-use std::io;
 use std::io::{Error, Read};
 
 // Why reading stopped: the buffer is full, the input ended, or a read failed.
@@ -52,20 +51,21 @@ pub fn fill<R: Read>(input: &mut R, buffer: &mut [u8]) -> Filled
     }
 }
 
-// Reads all of the input, and nothing else stands at the buffer's start: how many bytes they are, or
-// none where the buffer holds fewer.
-pub fn read_whole<R: Read>(input: &mut R, buffer: &mut [u8]) -> io::Result<Option<usize>>
-    ensures in_bounds { IfOk result (λ o. IfSome o (λ n. IsPrefixLen n buffer.new)) }
-    ensures whole { IfOk result (λ o. IfSome o (λ n. IfSome (R.remaining input.old) (λ xs. take n buffer.new ≡ xs))) }
-    ensures longer { IfOk result (λ o. o ≡ None → IfSome (R.remaining input.old) (λ xs. length buffer.new < length xs)) }
+// Reads all of the input, as far as the buffer holds it, and nothing else stands at its start: where
+// it ended, that is all of it, and where the buffer is full, there is more.
+pub fn read_whole<R: Read>(input: &mut R, buffer: &mut [u8]) -> Filled
+    ensures in_bounds { IsPrefixLen result.count buffer.new }
+    ensures whole { result.stop ≡ Stop.Ended → IfSome (R.remaining input.old) (λ xs. take result.count buffer.new ≡ xs) }
+    ensures longer { result.stop ≡ Stop.Full → IfSome (R.remaining input.old) (λ xs. length buffer.new < length xs) }
 {
     let f = fill(input, buffer);
-    match f.stop {
-        Stop::Ended => Ok(Some(f.count)),
-        Stop::Failed(e) => Err(e),
-        Stop::Full => match input.read(&mut [0u8; 1])? {
-            0 => Ok(Some(f.count)),
-            _ => Ok(None),
-        },
-    }
+    let Stop::Full = f.stop else {
+        return f;
+    };
+    let stop = match input.read(&mut [0u8; 1]) {
+        Ok(0) => Stop::Ended,
+        Ok(_) => Stop::Full,
+        Err(e) => Stop::Failed(e),
+    };
+    Filled { stop, ..f }
 }

@@ -43,8 +43,10 @@ pub fn unreadable(out: &impl Print) -> io::Result<()> {
 }
 
 // The input is longer than the buffer: what was not done, and which command does it.
-pub fn too_long(out: &impl Print, not_done: &str, command: &str) -> io::Result<()> {
-    println!(out;
-        "standard input: not {not_done}: longer than the 65536 bytes that this program holds; use import {command}"
-    )
+pub fn too_long(out: &impl Print, not_done: &[u8], command: &[u8]) -> io::Result<()> {
+    print!(out; "standard input: not ")?;
+    out.write_all(not_done)?;
+    print!(out; ": longer than the 65536 bytes that this program holds; use import ")?;
+    out.write_all(command)?;
+    println!(out; "")
 }

@@ -9,6 +9,7 @@ mod study;
 mod sums;
 
 use arguments::Asked;
+use screen::Stop;
 use std::io;
 use stick::Known;
 
@@ -30,10 +31,11 @@ fn read(
     asked: Asked,
 ) -> io::Result<()> {
     let mut room = [0u8; 65536];
-    match screen::read_whole(input, &mut room) {
-        Ok(Some(n)) => studied(out, err, &room[..n], asked),
-        Ok(None) => screen::too_long(err, "studied", "settle"),
-        Err(_) => screen::unreadable(err),
+    let f = screen::read_whole(input, &mut room);
+    match f.stop {
+        Stop::Ended => studied(out, err, &room[..f.count], asked),
+        Stop::Full => screen::too_long(err, b"studied", b"settle"),
+        Stop::Failed(_) => screen::unreadable(err),
     }
 }
 

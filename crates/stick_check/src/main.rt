@@ -3,6 +3,7 @@
 
 #![tactic(auto)]
 
+use screen::Stop;
 use std::io;
 use stick::Known;
 
@@ -18,9 +19,10 @@ fn checked(out: &impl Print, file: &[u8]) -> io::Result<()> {
 
 fn main(rt: HostRuntime) -> io::Result<()> {
     let mut room = [0u8; 65536];
-    match screen::read_whole(&mut rt.stdin(), &mut room) {
-        Ok(Some(n)) => checked(&rt, &room[..n]),
-        Ok(None) => screen::too_long(&rt, "checked", "check"),
-        Err(_) => screen::unreadable(&rt),
+    let f = screen::read_whole(&mut rt.stdin(), &mut room);
+    match f.stop {
+        Stop::Ended => checked(&rt, &room[..f.count]),
+        Stop::Full => screen::too_long(&rt, b"checked", b"check"),
+        Stop::Failed(_) => screen::unreadable(&rt),
     }
 }

@@ -3,6 +3,7 @@ ghost use Rattle.screen.specs.Counts.{IsPrefixLen};
 
 use super::lines;
 use super::lines::Name;
+use screen::{Filled, Stop};
 use std::fs::File;
 use std::rt::Files;
 use std::{io, str};
@@ -25,14 +26,17 @@ pub fn read(
 ) -> io::Result<Option<usize>>
     ensures { IfOk result (λ o. IfSome o (λ n. IsPrefixLen n room.new)) }
 {
-    let whole = match opened(rt, name) {
+    let f = match opened(rt, name) {
         Ok(mut file) => screen::read_whole(&mut file, room),
-        Err(e) => Err(e),
+        Err(e) => Filled {
+            count: 0,
+            stop: Stop::Failed(e),
+        },
     };
-    match whole {
-        Ok(Some(n)) => return Ok(Some(n)),
-        Ok(None) => lines::too_long(err, name)?,
-        Err(e) => lines::unreadable(rt.alloc(), err, name, e)?,
+    match f.stop {
+        Stop::Ended => return Ok(Some(f.count)),
+        Stop::Full => lines::too_long(err, name)?,
+        Stop::Failed(e) => lines::unreadable(rt.alloc(), err, name, e)?,
     }
     Ok(None)
 }
