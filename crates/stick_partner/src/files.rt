@@ -1,4 +1,4 @@
-ghost use Rattle.std.specs.Prelude.{IfOk, IfSome};
+ghost use Rattle.std.specs.Prelude.{IfOk};
 ghost use Rattle.screen.specs.Counts.{IsPrefixLen};
 
 use super::lines;
@@ -16,15 +16,15 @@ fn opened<R: Files>(rt: &R, name: Name) -> io::Result<R::File> {
     }
 }
 
-// Reads a file whole, by its name: how many bytes it has. Of one that cannot be read, or is longer
-// than the room, that is told.
+// Reads a file whole, by its name: it ended where all of it was read. Of one that cannot be read, or
+// is longer than the room, that is told.
 pub fn read(
     rt: &(impl Files + AllocGlobal),
     err: &impl Print,
     name: Name,
     room: &mut [u8],
-) -> io::Result<Option<usize>>
-    ensures { IfOk result (λ o. IfSome o (λ n. IsPrefixLen n room.new)) }
+) -> io::Result<Filled>
+    ensures { IfOk result (λ f. IsPrefixLen f.count room.new) }
 {
     let f = match opened(rt, name) {
         Ok(mut file) => screen::read_whole(&mut file, room),
@@ -34,9 +34,9 @@ pub fn read(
         },
     };
     match f.stop {
-        Stop::Ended => return Ok(Some(f.count)),
+        Stop::Ended => {}
         Stop::Full => lines::too_long(err, name)?,
         Stop::Failed(e) => lines::unreadable(rt.alloc(), err, name, e)?,
     }
-    Ok(None)
+    Ok(f)
 }

@@ -8,6 +8,7 @@ mod lines;
 
 use lines::Name;
 use partner::Verdict;
+use screen::Stop;
 use std::io;
 use std::rt::Files;
 
@@ -54,13 +55,22 @@ fn call(
 ) -> io::Result<()> {
     let mut run = [0u8; 65536];
     let mut result = [0u8; 65536];
-    let Some(n) = files::read(rt, err, run_name, &mut run)? else {
+    let a = files::read(rt, err, run_name, &mut run)?;
+    let Stop::Ended = a.stop else {
         return lines::no_verdict(err, result_name);
     };
-    let Some(m) = files::read(rt, err, result_name, &mut result)? else {
+    let b = files::read(rt, err, result_name, &mut result)?;
+    let Stop::Ended = b.stop else {
         return lines::no_verdict(err, result_name);
     };
-    judged(rt, err, run_name, &run[..n], result_name, &result[..m])
+    judged(
+        rt,
+        err,
+        run_name,
+        &run[..a.count],
+        result_name,
+        &result[..b.count],
+    )
 }
 
 fn main(rt: HostRuntime) -> io::Result<()> {
