@@ -25,8 +25,8 @@ pub fn zero(s: &mut [u8], from: usize, to: usize)
     s[from..to].fill(0);
 }
 
-// The bytes from one place up to another are 0. All are looked at: the compiler then takes sixteen at
-// once, and of `all`, which stops at the first that is not, one by one.
+// The bytes from one place up to another are 0. All are looked at, since the compiler then takes
+// sixteen at once; with `all`, which stops at the first that is not 0, it would take one at a time.
 pub fn is_clear(s: &[u8], from: usize, to: usize) -> bool
     requires from_le_to { from ≤ to }
     requires to_in_bounds { to ≤ length s.now }
