@@ -43,8 +43,9 @@ pub fn unreadable(alloc: Global, err: &impl Print, file: Name, e: Error) -> io::
 }
 
 // A word of the call that is longer than any name.
-pub fn too_long_a_name(err: &impl Print, word: &str) -> io::Result<()> {
-    println!(err; "{word}: cannot be read: File name too long")
+pub fn too_long_a_name(err: &impl Print, word: &[u8]) -> io::Result<()> {
+    err.write_all(word)?;
+    println!(err; ": cannot be read: File name too long")
 }
 
 // A file that is longer than the buffer.

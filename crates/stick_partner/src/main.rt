@@ -80,11 +80,11 @@ fn main(rt: HostRuntime) -> io::Result<()> {
     }
     let mut run_name = [0u8; 4096];
     let Ok(n) = screen::word(&rt, 1, &mut run_name) else {
-        return lines::too_long_a_name(&err, "RUN");
+        return lines::too_long_a_name(&err, b"RUN");
     };
     let mut result_name = [0u8; 4096];
     let Ok(m) = screen::word(&rt, 2, &mut result_name) else {
-        return lines::too_long_a_name(&err, "RESULT");
+        return lines::too_long_a_name(&err, b"RESULT");
     };
     call(&rt, &err, Name(&run_name[..n]), Name(&result_name[..m]))
 }
